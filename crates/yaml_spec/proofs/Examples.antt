@@ -1,0 +1,65 @@
+-- What the definitions give for some texts and trees, by computing.
+use Rattle.std.proofs.Common.{◌≡◌, ℕ, true, List, [], ◌∷◌, ◌++◌, refl, codes, pos, negsuc, Ok}
+use Rattle.std.specs.Fmt.{digits}
+use Rattle.std.specs.Str.{chars}
+use lib.Utf8.{encode}
+use Rattle.ytt_base.specs.Outcomes.{place_at}
+use Rattle.ytt_base.specs.Trees.{null, boolean, integer, string, Tree, scalar, list, map, no_trees, tree, no_pairs, pair}
+use Rattle.yaml_spec.specs.Flat.{read_trees, not_built}
+use Rattle.yaml_spec.specs.Text.{Text}
+
+abbrev text : List ℕ → Tree
+text s = scalar (string s)
+
+-- ---- reading
+
+reads_nothing : read_trees 1 [] ≡ Ok no_trees
+reads_nothing = refl
+
+reads_two : read_trees 1 (codes "name: web\nport: 80\n") ≡ Ok (tree (map (pair (string (codes "name")) (text (codes "web")) (pair (string (codes "port")) (scalar (integer (pos 80))) no_pairs))) no_trees)
+reads_two = refl
+
+reads_last_line : read_trees 1 (codes "a: -7") ≡ Ok (tree (map (pair (string (codes "a")) (scalar (integer (negsuc 6))) no_pairs)) no_trees)
+reads_last_line = refl
+
+refuses_list : read_trees 1 (codes "a: 1\nb: [1]") ≡ not_built (place_at 1 2)
+refuses_list = refl
+
+refuses_key_again : read_trees 3 (codes "a: 1\nb: 1\na: 2\n") ≡ not_built (place_at 3 3)
+refuses_key_again = refl
+
+refuses_empty_line : read_trees 1 (codes "a: 1\n\nb: [\n") ≡ not_built (place_at 1 2)
+refuses_empty_line = refl
+
+refuses_carriage_return : read_trees 1 (codes "a: 1\r\n") ≡ not_built (place_at 1 1)
+refuses_carriage_return = refl
+
+refuses_reserved_word : read_trees 1 (codes "Yes: 1\n") ≡ not_built (place_at 1 1)
+refuses_reserved_word = refl
+
+refuses_two_spaces : read_trees 1 (codes "a:  b\n") ≡ not_built (place_at 1 1)
+refuses_two_spaces = refl
+
+refuses_leading_zero : read_trees 1 (codes "a: 01\n") ≡ not_built (place_at 1 1)
+refuses_leading_zero = refl
+
+-- ---- printing
+
+prints_nothing : Text no_trees ≡ []
+prints_nothing = refl
+
+prints_nested :
+    Text (tree (map (pair (string (codes "a")) (list (tree (list (tree (text (codes "b")) (tree (text []) no_trees))) (tree (map (pair (integer (pos 1)) (scalar null) (pair (string (codes "c")) (map (pair (string (codes "yes")) (list no_trees) no_pairs)) no_pairs))) no_trees))) no_pairs)) no_trees)
+    ≡ codes "a:\n- - b\n  - \"\"\n- 1: null\n  c:\n    \"yes\": []\n"
+unfolding chars digits encode
+prints_nested = refl
+
+prints_three : Text (tree (scalar (boolean true)) (tree (list (tree (map no_pairs) no_trees)) (tree (text (codes "x")) no_trees))) ≡ codes "true\n---\n- {}\n---\nx\n"
+prints_three = refl
+
+-- the characters of a double-quoted string: a quote, a backslash, a tab, a break, 7F, 85, 2028 and é
+prints_escapes :
+    Text (tree (text (34 ∷ 92 ∷ 9 ∷ 10 ∷ 0x7F ∷ 0xC2 ∷ 0x85 ∷ 0xE2 ∷ 0x80 ∷ 0xA8 ∷ 0xC3 ∷ 0xA9 ∷ [])) no_trees)
+    ≡ codes "\"\\\"\\\\\\t\\n\\x7F\\x85\\u2028" ++ (0xC3 ∷ 0xA9 ∷ codes "\"\n")
+unfolding chars encode
+prints_escapes = refl

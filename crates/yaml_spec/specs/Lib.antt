@@ -1,0 +1,4 @@
+pub mod Bytes
+pub mod Flat
+pub mod Lines
+pub mod Text

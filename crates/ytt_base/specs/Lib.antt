@@ -1,0 +1,4 @@
+pub mod FaultText
+pub mod Outcomes
+pub mod Trees
+pub mod View
