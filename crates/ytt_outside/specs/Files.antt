@@ -1,0 +1,33 @@
+-- What the calls of `Files` answer.
+use Rattle.std.specs.Prelude.{◌≡◌, ◌≤◌, ℕ, nat_lt, length, Result, Ok, Err, if◌then◌else◌}
+use Rattle.ytt_outside.specs.Counts.{Rose}
+use Rattle.ytt_outside.specs.Standing.{Standing, nothing, file, folder}
+use Rattle.ytt_outside.specs.declared.files.PathKind.{PathKind}
+use Rattle.ytt_outside.specs.declared.files.PathKind.TheVariants as kind
+use Rattle.ytt_outside.specs.declared.files.Got.{Got}
+use Rattle.ytt_outside.specs.declared.files.Got.TheVariants as got
+use Rattle.ytt_outside.specs.declared.files.FilesStop.{FilesStop}
+use Rattle.ytt_outside.specs.declared.files.FilesStop.TheVariants as stop
+
+abbrev pub kind_of : Standing → PathKind
+kind_of nothing = kind.Missing
+kind_of (file bytes) = kind.File
+kind_of (folder names) = kind.Folder
+
+-- what a read with this limit gives: a folder is no file
+abbrev pub got_of : ℕ → Standing → Got
+got_of limit nothing = got.Missing
+got_of limit (file bytes) = if nat_lt limit (length bytes) then got.TooLarge else got.Bytes bytes
+got_of limit (folder names) = got.Missing
+
+-- Failed comes only where the count rose, and any other answer leaves it as it was.
+abbrev pub FilesCounts : {T : Type 0} → ℕ → ℕ → Result T FilesStop → Type 0
+FilesCounts before now (Ok x) = now ≡ before
+FilesCounts before now (Err stop.Failed) = Rose before now
+FilesCounts before now (Err stop.Memory) = now ≡ before
+
+-- bytes that are read are at most this many
+abbrev pub IsWithin : ℕ → Got → Type 0
+IsWithin limit (got.Bytes bytes) = length bytes ≤ limit
+IsWithin limit got.TooLarge = Unit {0}
+IsWithin limit got.Missing = Unit {0}

@@ -1,0 +1,88 @@
+// The machine's files.
+ghost use Rattle.std.specs.Prelude.{None};
+
+use crate::files::{Files, FilesStop, Got, PathKind};
+use sqlite_items::Items;
+use std::alloc::Global;
+use std::fs;
+use std::io::{self, ErrorKind, Read};
+
+/// The files that the runtime gives. It tells nothing of them.
+///
+/// Each `Err` of the machine counts as a failure, but for a path at which nothing stands and for
+/// want of memory.
+#[derive(Drop)]
+pub struct HostFiles<R> {
+    rt: R,
+    faults: u64,
+}
+
+impl<R> HostFiles<R> {
+    /// Files that have not failed yet.
+    pub fn new(rt: R) -> HostFiles<R> {
+        HostFiles { rt, faults: 0 }
+    }
+}
+
+fn is_missing(error: &io::Error) -> bool {
+    let kind = error.kind();
+    kind == ErrorKind::NotFound || kind == ErrorKind::NotADirectory
+}
+
+/// At most `limit` bytes from the start of the file.
+fn read_start<R: std::rt::Files>(
+    alloc: Global,
+    rt: &R,
+    path: &str,
+    limit: u64,
+) -> io::Result<Vec<u8>> {
+    let file = fs::File::open(rt, path)?;
+    let mut bytes = Vec::new(alloc);
+    file.take(limit).read_to_end(&mut bytes)?;
+    Ok(bytes)
+}
+
+impl<R: std::rt::Files> Files for HostFiles<R> {
+    ghost tree = { λ _. None };
+
+    ghost faults = { λ s. s.faults };
+
+    fn kind(&mut self, path: &str) -> Result<PathKind, FilesStop> {
+        match fs::metadata(&self.rt, path) {
+            Ok(metadata) => {
+                if metadata.is_dir() {
+                    return Ok(PathKind::Folder);
+                }
+                Ok(PathKind::File)
+            }
+            Err(error) => {
+                if is_missing(&error) {
+                    return Ok(PathKind::Missing);
+                }
+                self.faults = self.faults.saturating_add(1);
+                Err(FilesStop::Failed)
+            }
+        }
+    }
+
+    fn read(&mut self, alloc: Global, path: &str, limit: u64) -> Result<Got, FilesStop> {
+        match read_start(alloc, &self.rt, path, limit.saturating_add(1)) {
+            Ok(bytes) => {
+                if bytes.len() as u64 > limit {
+                    return Ok(Got::TooLarge);
+                }
+                Ok(Got::Bytes(Items::from_vec(bytes)))
+            }
+            Err(error) => {
+                if is_missing(&error) {
+                    return Ok(Got::Missing);
+                }
+                if error.kind() == ErrorKind::OutOfMemory {
+                    return Err(FilesStop::Memory);
+                }
+                self.faults = self.faults.saturating_add(1);
+                Err(FilesStop::Failed)
+            }
+        }
+    }
+}
