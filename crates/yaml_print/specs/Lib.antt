@@ -1,0 +1,4 @@
+pub mod Indent
+pub mod LineText
+pub mod Pending
+pub mod Puts

@@ -1,0 +1,30 @@
+ghost use Rattle.std.specs.Prelude.{◌≡◌, ◌+◌};
+ghost use Rattle.yaml_print.specs.Indent.{width};
+ghost use Rattle.yaml_print.specs.declared.indent.Indent.{out-Indent};
+
+/// How far lines are indented: two columns for each indent around this one, so that no number
+/// bounds it.
+#[derive(Clone, Copy)]
+pub struct Indent<'a> {
+    outer: Option<&'a Indent<'a>>,
+}
+
+impl<'a> Indent<'a> {
+    pub fn none() -> Indent<'a>
+        ensures { width result ≡ 0 }
+    {
+        Indent { outer: None }
+    }
+
+    pub fn inside(outer: &'a Indent<'a>) -> Indent<'a>
+        ensures { width result ≡ width outer.now + 2 }
+    {
+        Indent { outer: Some(outer) }
+    }
+
+    pub fn outer(&self) -> Option<&'a Indent<'a>>
+        ensures { result ≡ (out-Indent self.now).outer }
+    {
+        self.outer
+    }
+}
