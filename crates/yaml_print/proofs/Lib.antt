@@ -1,1 +1,3 @@
+pub mod Chars
+pub mod Members
 pub mod Putting

@@ -53,8 +53,8 @@ front_later a b c p q s t m g = let h : GrowsByFront a c ((p ++ s) ++ t) = moved
 
 pub moves_then : (a b c : Option (List ℕ)) (p q r s t : List ℕ) → Moves a b p q s → Moves b c q r t → Moves a c p r (s ++ t)
 moves_then a b c p q r s t m k = record {
-    front = front_later a b c p q s t m k.front;
-    whole = k.whole ∙ sym (grown-grown b q t) ∙ ap (λ o. grown o t) m.whole ∙ grown-grown a (p ++ s) t ∙ ap (grown a) (append_assoc p s t);
+  front = front_later a b c p q s t m k.front;
+  whole = k.whole ∙ sym (grown-grown b q t) ∙ ap (λ o. grown o t) m.whole ∙ grown-grown a (p ++ s) t ∙ ap (grown a) (append_assoc p s t);
 }
 
 -- Behind a text that was put, what the next call does is the outcome for both.

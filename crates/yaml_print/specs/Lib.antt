@@ -1,4 +1,5 @@
 pub mod Indent
 pub mod LineText
+pub mod Numbered
 pub mod Pending
 pub mod Puts
