@@ -1,0 +1,45 @@
+// The lines of a text, and the parts of a line.
+ghost use Rattle.std.specs.Prelude.{◌≡◌, ◌<◌, ◌≤◌, ◌∷◌, length};
+ghost use Rattle.std.specs.List.{after_first, before_first, position_or_len};
+ghost use Rattle.yaml_spec.specs.Flat.{is_colon};
+ghost use Rattle.yaml_spec.specs.Lines.{lines};
+
+/// The first line, and what stands behind its end.
+#[tactic(auto, using(crate::proofs::Breaks::ends))]
+pub fn split_line(text: &[u8]) -> (&[u8], &[u8])
+    requires { 0 < length text.now }
+    ensures lines { lines text.now ≡ result.0.now ∷ lines result.1.now }
+    ensures shorter { length result.1.now < length text.now }
+{
+    for (end, byte) in text.iter().enumerate() {
+        if *byte == b'\n' {
+            return (&text[..end], &text[end + 1..]);
+        }
+    }
+    (text, &text[text.len()..])
+}
+
+fn colon_at(line: &[u8]) -> usize
+    ensures first { result ≡ position_or_len is_colon line.now }
+    ensures within { result ≤ length line.now }
+{
+    for (at, byte) in line.iter().enumerate() {
+        if *byte == b':' {
+            return at;
+        }
+    }
+    line.len()
+}
+
+/// What stands before the first colon and what stands behind it: all and nothing where there is
+/// none.
+pub fn split_at_colon(line: &[u8]) -> (&[u8], &[u8])
+    ensures before { result.0.now ≡ before_first is_colon line.now }
+    ensures after { result.1.now ≡ after_first is_colon line.now }
+{
+    let at = colon_at(line);
+    if at == line.len() {
+        return (line, &line[at..]);
+    }
+    (&line[..at], &line[at + 1..])
+}
