@@ -1,10 +1,10 @@
 -- Texts put one after another.
-use Rattle.std.proofs.Common.{◌≡◌, ℕ, ◌+◌, min, List, [], ◌∷◌, ◌++◌, length, take, Option, Some, None, Result, Ok, Err, IsErr, refl, ap, sym, ◌∙◌, arith, append_assoc, append-nil, ⊎_elim, ◌≤◌, ◌<◌}
+use Rattle.std.proofs.Common.{◌≡◌, ℕ, ◌+◌, min, List, [], ◌∷◌, ◌++◌, length, take, Option, Some, None, Result, Ok, Err, IsErr, OnOk, refl, ap, sym, ◌∙◌, arith, append_assoc, append-nil, ⊎_elim, ◌≤◌, ◌<◌}
 use Rattle.std.proofs.Math.Seq.{take-append_seam, take-append-add}
 use Rattle.std.proofs.lemmas.Bool.{cases_lt}
 use Rattle.std.proofs.lemmas.List.{append_cancel_left, take_all, take-append-le}
 use Rattle.ytt_outside.specs.declared.sink.SinkFailed.{SinkFailed}
-use Rattle.ytt_outside.specs.Sink.{grown, Grows, GrowsByFront, Writes}
+use Rattle.ytt_outside.specs.Sink.{grown, GrowsByFront, Writes}
 use Rattle.yaml_print.specs.Puts.{Moves, Puts}
 
 take_length : (t : List ℕ) → take (length t) t ≡ t
@@ -90,3 +90,10 @@ pub puts_stop-two : (a b : Option (List ℕ)) (p q : List ℕ) (x y : ℕ) (t : 
 puts_stop-two a b p q x y t o = puts_stop a b p q (x ∷ y ∷ []) t o
 
 pub ruleset putting = (puts_then, puts_stop, puts_then-byte, puts_then-two, puts_stop-byte, puts_stop-two)
+
+-- A text that was put where nothing waited, and then a flush: what the flush does is the outcome for the text.
+pub writes_flushed : (a b c : Option (List ℕ)) (p q r t : List ℕ) (o : Result (Unit {0}) SinkFailed) → p ≡ [] → Moves a b p q t → Puts b c q r [] o → OnOk o (r ≡ []) → Writes a c t o
+writes_flushed a b c p q r t (Ok u) e m h n =
+    let k : Moves a c [] r (t ++ []) = moves_then a b c [] q r t [] (rw e at m) h in
+    sym (grown-nil c) ∙ ap (grown c) (sym n) ∙ k.whole ∙ ap (grown a) (append-nil t)
+writes_flushed a b c p q r t (Err f) e m h n = let k : GrowsByFront a c ([] ++ (t ++ [])) = front_later a b c [] q t [] (rw e at m) h in rw append-nil at k

@@ -1,3 +1,4 @@
+pub mod Documents
 pub mod Indent
 pub mod LineText
 pub mod Numbered

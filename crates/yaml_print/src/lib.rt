@@ -1,6 +1,11 @@
 //! Printing: the one text of documents, written to a sink through a buffer.
 #![tactic(auto)]
 
+mod blocks;
 mod indent;
 mod pending;
+mod print;
 mod quoted;
+mod scalar;
+
+pub use print::print_to;

@@ -18,7 +18,8 @@ impl<'a> Pending<'a> {
 
     /// Nothing waits. What the buffer held is overwritten.
     pub fn new(bytes: &'a mut [u8]) -> Pending<'a>
-        ensures { pending result ≡ [] }
+        ensures empty { pending result ≡ [] }
+        ensures same_buffer { result.bytes.ghost_name ≡ bytes.entry.ghost_name }
     {
         Pending { bytes, filled: 0 }
     }
@@ -31,7 +32,8 @@ impl<'a> Pending<'a> {
 
     fn add(&mut self, piece: &[u8])
         requires { self.old.filled + length piece.now ≤ length self.old.bytes.now }
-        ensures { pending self.new ≡ pending self.old ++ piece.now }
+        ensures bytes { pending self.new ≡ pending self.old ++ piece.now }
+        ensures same_buffer { self.new.bytes.ghost_name ≡ self.old.bytes.ghost_name }
     {
         let at = self.filled;
         let bytes = &mut *self.bytes;
@@ -44,6 +46,7 @@ impl<'a> Pending<'a> {
         ensures bytes { Puts (O.held out.old) (O.held out.new) (pending self.old) (pending self.new) [] result }
         ensures empty { OnOk result (pending self.new ≡ []) }
         ensures cause { SinkCounts (O.faults out.old) (O.faults out.new) result }
+        ensures same_buffer { self.new.bytes.ghost_name ≡ self.old.bytes.ghost_name }
     {
         let filled = self.filled;
         out.write_piece(&self.bytes[..filled])?;
@@ -55,6 +58,7 @@ impl<'a> Pending<'a> {
     pub fn put<O: Sink>(&mut self, out: &mut O, piece: &[u8]) -> Result<(), SinkFailed>
         ensures bytes { Puts (O.held out.old) (O.held out.new) (pending self.old) (pending self.new) piece.now result }
         ensures cause { SinkCounts (O.faults out.old) (O.faults out.new) result }
+        ensures same_buffer { self.new.bytes.ghost_name ≡ self.old.bytes.ghost_name }
     {
         if piece.len() <= self.room() {
             self.add(piece);

@@ -61,6 +61,7 @@ fn write_by_number<O: Sink>(
 ) -> Result<(), SinkFailed>
     ensures bytes { Puts (O.held out.old) (O.held out.new) (pending waiting.old) (pending waiting.new) (numbered_char c) result }
     ensures cause { SinkCounts (O.faults out.old) (O.faults out.new) result }
+    ensures same_buffer { waiting.new.bytes.ghost_name ≡ waiting.old.bytes.ghost_name }
 {
     let code = c as u32;
     if is_short_escaped(code) {
@@ -76,6 +77,7 @@ fn write_by_number<O: Sink>(
 fn write_char<O: Sink>(c: char, out: &mut O, waiting: &mut Pending<'_>) -> Result<(), SinkFailed>
     ensures bytes { Puts (O.held out.old) (O.held out.new) (pending waiting.old) (pending waiting.new) (quoted_char c) result }
     ensures cause { SinkCounts (O.faults out.old) (O.faults out.new) result }
+    ensures same_buffer { waiting.new.bytes.ghost_name ≡ waiting.old.bytes.ghost_name }
 {
     if c == '"' {
         waiting.put(out, b"\\\"")
@@ -99,6 +101,7 @@ fn write_chars<O: Sink>(
 ) -> Result<(), SinkFailed>
     ensures bytes { Puts (O.held out.old) (O.held out.new) (pending waiting.old) (pending waiting.new) (quoted_chars (chars text.now)) result }
     ensures cause { SinkCounts (O.faults out.old) (O.faults out.new) result }
+    ensures same_buffer { waiting.new.bytes.ghost_name ≡ waiting.old.bytes.ghost_name }
 {
     for c in text.chars() {
         write_char(c, out, waiting)?;
@@ -114,6 +117,7 @@ fn write_closed_chars<O: Sink>(
 ) -> Result<(), SinkFailed>
     ensures bytes { Puts (O.held out.old) (O.held out.new) (pending waiting.old) (pending waiting.new) (quoted_chars (chars text.now) ++ quote ∷ []) result }
     ensures cause { SinkCounts (O.faults out.old) (O.faults out.new) result }
+    ensures same_buffer { waiting.new.bytes.ghost_name ≡ waiting.old.bytes.ghost_name }
 {
     write_chars(text, out, waiting)?;
     waiting.put(out, b"\"")
@@ -128,6 +132,7 @@ pub fn write_quoted<O: Sink>(
 ) -> Result<(), SinkFailed>
     ensures bytes { Puts (O.held out.old) (O.held out.new) (pending waiting.old) (pending waiting.new) (quoted_text text.now) result }
     ensures cause { SinkCounts (O.faults out.old) (O.faults out.new) result }
+    ensures same_buffer { waiting.new.bytes.ghost_name ≡ waiting.old.bytes.ghost_name }
 {
     waiting.put(out, b"\"")?;
     write_closed_chars(text, out, waiting)

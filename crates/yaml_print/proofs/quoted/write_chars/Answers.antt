@@ -1,4 +1,4 @@
-use Rattle.std.proofs.Common.{◌≡◌, ◌+◌, length, drop, take, map, map-id, sym, ap, ◌∙◌, chars}
+use Rattle.std.proofs.Common.{map-id, sym, ap, ◌∙◌, chars}
 use Rattle.std.proofs.lemmas.Iterator.{YieldsList-from_chars}
 use Rattle.std.proofs.lemmas.Iterator.Consumers.{YieldsList-so_far, YieldsList-turn, YieldsList-end}
 use Rattle.yaml_spec.specs.Text.{quoted_char, quoted_chars}
@@ -8,7 +8,7 @@ use Rattle.yaml_print.proofs.quoted.write_chars.Goals as goal
 
 pub loop-c-preserved : goal.loop-c-preserved
 loop-c-preserved g c =
-    put_more _ _ _ _ _ _ _ _ _ (quoted_chars c.loop-c.yielded) (quoted_char c.in-Some.c) _ c.loop-c.invariant c.in_ok-write_char.ensures.bytes c.in_ok-write_char.ensures.cause
+    put_more _ _ _ _ _ _ _ _ _ (quoted_chars c.loop-c.yielded) (quoted_char c.in-Some.c) _ c.loop-c.invariant c.in_ok-write_char.ensures.bytes c.in_ok-write_char.ensures.cause c.in_ok-write_char.ensures.same_buffer
     (quoted_chars-next c.loop-c.yielded c.in-Some.c)
 
 pub returns-in_err-write_char-clause-bytes : goal.returns-in_err-write_char-clause-bytes
