@@ -1,0 +1,37 @@
+-- What is due: the status, and the bytes for `out` and for `err`.
+use Rattle.std.specs.Prelude.{ℕ, List, [], ◌∷◌, ◌++◌, codes, decimal, Result, Ok, Err}
+use Rattle.ytt_base.specs.FaultText.{fault_line}
+use Rattle.ytt_base.specs.Outcomes.{Outcome}
+use Rattle.ytt_base.specs.Trees.{Trees}
+use Rattle.ytt_outside.specs.Standing.{Standing}
+use Rattle.yaml_spec.specs.Text.{Text}
+use Rattle.ytt_spec.specs.Meaning.{meaning, last_part}
+use Rattle.ytt_spec.specs.Words.{Asked, render, wrong, asked}
+
+-- Done with a text for `out`, or Fault or Usage with a line for `err`
+pub data Due : Type 0 where
+  done : List ℕ → Due
+  fault : List ℕ → Due
+  usage : List ℕ → Due
+
+abbrev pub usage_line : ℕ → List ℕ
+usage_line n = codes "error: usage at word " ++ decimal n ++ 10 ∷ []
+
+abbrev pub read_failed_line : List ℕ → List ℕ
+read_failed_line path = codes "error: read failed: " ++ path ++ 10 ∷ []
+
+abbrev pub write_failed_line : List ℕ
+write_failed_line = codes "error: write failed\n"
+
+-- the file is shown by the last part of its path
+abbrev pub due_for : List ℕ → Outcome Trees → Due
+due_for path (Ok documents) = done (Text documents)
+due_for path (Err f) = fault (fault_line (last_part path ∷ []) f)
+
+abbrev pub due_asked : Asked → (List ℕ → Standing) → Due
+due_asked (wrong n) tree = usage (usage_line n)
+due_asked (render path) tree = due_for path (meaning path (tree path))
+
+-- what is due for these words over these files
+abbrev pub due : List (List ℕ) → (List ℕ → Standing) → Due
+due words tree = due_asked (asked words) tree
