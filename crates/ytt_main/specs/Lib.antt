@@ -1,0 +1,4 @@
+pub mod Answers
+pub mod Asks
+pub mod Headline
+pub mod Rendering

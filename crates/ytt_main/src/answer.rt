@@ -1,0 +1,80 @@
+// The answer to the words, before anything is written.
+ghost use Rattle.std.specs.Prelude.{◌≡◌, ◌∷◌, [], ℕ, IfOk, IfSome, map, string_bytes};
+ghost use Rattle.ytt_base.specs.FaultText.{fault_line};
+ghost use Rattle.ytt_spec.specs.Due.{due, due_for, read_failed_line, usage_line};
+ghost use Rattle.ytt_spec.specs.Meaning.{last_part, meaning};
+ghost use Rattle.ytt_spec.specs.Words.{asked, render, wrong};
+ghost use Rattle.ytt_main.specs.Answers.{AnswerCounts, Answers};
+
+use crate::render::{RenderStop, last_part, render};
+use crate::words::read_words;
+use sqlite_items::Items;
+use std::alloc::Global;
+use ytt_base::fault::Fault;
+use ytt_base::report::fault_text;
+use ytt_base::text::{Memory, Names, Text};
+use ytt_base::tree::Trees;
+use ytt_outside::files::Files;
+
+/// What is to be written, and where: documents to `out`, or a line to `err`.
+#[derive(Drop)]
+pub enum Answer {
+    Documents(Trees),
+    Fault(Text),
+    Usage(Text),
+    ReadFailed(Text),
+    Memory,
+}
+
+fn usage_text(alloc: Global, word: u64) -> Result<Text, Memory>
+    ensures { IfOk result (λ t. t ≡ usage_line word) }
+{
+    Ok(Text::of_string(format!(in alloc; "error: usage at word {word}\n")?))
+}
+
+fn read_failed_text(alloc: Global, path: &Text) -> Result<Text, Memory>
+    ensures { IfOk result (λ t. t ≡ read_failed_line path.now) }
+{
+    let path = path.as_str();
+    Ok(Text::of_string(format!(in alloc; "error: read failed: {path}\n")?))
+}
+
+fn fault_line(alloc: Global, path: &str, fault: &Fault) -> Result<Text, Memory>
+    ensures { IfOk result (λ t. t ≡ fault_line (last_part path.now ∷ []) fault.now) }
+{
+    let mut names: Names = Items::new(alloc);
+    names.push(Text::of(alloc, last_part(path))?)?;
+    fault_text(alloc, fault, &names)
+}
+
+fn answer_render<F: Files>(alloc: Global, path: &str, files: &mut F) -> Answer
+    ensures told { IfSome (F.tree files.old) (λ tree. Answers (due_for path.now (meaning path.now (tree path.now))) result) }
+    ensures cause { AnswerCounts (render path.now) (F.faults files.old) (F.faults files.new) result }
+{
+    match render(alloc, path, files) {
+        Ok(trees) => Answer::Documents(trees),
+        Err(RenderStop::Fault(fault)) => match fault_line(alloc, path, &fault) {
+            Ok(line) => Answer::Fault(line),
+            Err(_) => Answer::Memory,
+        },
+        Err(RenderStop::ReadFailed(path)) => match read_failed_text(alloc, &path) {
+            Ok(line) => Answer::ReadFailed(line),
+            Err(_) => Answer::Memory,
+        },
+        Err(RenderStop::Memory) => Answer::Memory,
+    }
+}
+
+/// The answer to the words.
+pub fn answer_words<F: Files>(alloc: Global, words: &[String], files: &mut F) -> Answer
+    ensures told { IfSome (F.tree files.old) (λ tree. Answers (due (map string_bytes words.now) tree) result) }
+    ensures cause { AnswerCounts (asked (map string_bytes words.now)) (F.faults files.old) (F.faults files.new) result }
+{
+    match read_words(words) {
+        Ok(path) => answer_render(alloc, path.as_str(), files),
+        Err(word) => match usage_text(alloc, word) {
+            Ok(line) => Answer::Usage(line),
+            Err(_) => Answer::Memory,
+        },
+    }
+}

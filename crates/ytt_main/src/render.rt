@@ -1,0 +1,111 @@
+// What a request means over the files that are handed in.
+ghost use Rattle.std.specs.Prelude.{◌≡◌, IfSome, true};
+ghost use Rattle.ytt_spec.specs.Meaning.{has_ending, is_template, last_part, meaning, missing, not_built};
+ghost use Rattle.ytt_main.specs.Rendering.{Counts, IsNoFolder, IsReadFailure, Means, Refuses};
+
+use std::alloc::Global;
+use yaml_read::read_plain;
+use ytt_base::fault::{Fault, FaultKind, Place, Stop};
+use ytt_base::text::Text;
+use ytt_base::tree::Trees;
+use ytt_outside::files::{Files, FilesStop, Got, PathKind};
+
+/// How many bytes a file may have.
+const LARGEST_FILE: u64 = 8 * 1024 * 1024;
+
+/// Why there are no documents: a fault, the path at which the files failed, or want of memory.
+#[derive(Drop)]
+pub enum RenderStop {
+    Fault(Fault),
+    ReadFailed(Text),
+    Memory,
+}
+
+/// What stands behind the last slash of a path.
+pub fn last_part(path: &str) -> &str
+    ensures { result.now ≡ last_part path.now }
+{
+    let mut rest = path;
+    while let Some((_, behind)) = rest.split_once('/') {
+        rest = behind;
+    }
+    rest
+}
+
+fn is_template(name: &[u8]) -> bool
+    ensures { result ≡ is_template name.now }
+{
+    (name.ends_with(b".yml".as_slice()) || name.ends_with(b".yaml".as_slice()))
+        && !(name.ends_with(b".lib.yml".as_slice()) || name.ends_with(b".lib.yaml".as_slice()))
+}
+
+fn missing(alloc: Global, path: &str) -> RenderStop
+    ensures { Refuses (missing path.now) result }
+{
+    match Text::of(alloc, path) {
+        Ok(detail) => RenderStop::Fault(Fault {
+            kind: FaultKind::FileMissing,
+            place: Place { file: 0, line: 0 },
+            detail,
+        }),
+        Err(_) => RenderStop::Memory,
+    }
+}
+
+fn not_built(alloc: Global) -> RenderStop
+    ensures { Refuses not_built result }
+{
+    RenderStop::Fault(Fault {
+        kind: FaultKind::NotBuilt,
+        place: Place { file: 0, line: 0 },
+        detail: Text::new(alloc),
+    })
+}
+
+fn read_failed(alloc: Global, path: &str) -> RenderStop
+    ensures { IsReadFailure path.now result }
+{
+    match Text::of(alloc, path) {
+        Ok(path) => RenderStop::ReadFailed(path),
+        Err(_) => RenderStop::Memory,
+    }
+}
+
+/// The documents of the one file at the path, or the first fault.
+pub fn render<F: Files>(alloc: Global, path: &str, files: &mut F) -> Result<Trees, RenderStop>
+    ensures told { IfSome (F.tree files.old) (λ tree. Means (meaning path.now (tree path.now)) result) }
+    ensures keeps { F.tree files.new ≡ F.tree files.old }
+    ensures cause { Counts path.now (F.faults files.old) (F.faults files.new) result }
+{
+    match files.kind(path) {
+        Err(FilesStop::Failed) => return Err(read_failed(alloc, path)),
+        Err(FilesStop::Memory) => return Err(RenderStop::Memory),
+        Ok(PathKind::Missing) => return Err(missing(alloc, path)),
+        Ok(PathKind::Folder) => return Err(not_built(alloc)),
+        Ok(PathKind::File) => {}
+    }
+    if !is_template(last_part(path).as_bytes()) {
+        return Err(not_built(alloc));
+    }
+    read_file(alloc, path, files)
+}
+
+/// The documents of the template file at the path, or the first fault.
+fn read_file<F: Files>(alloc: Global, path: &str, files: &mut F) -> Result<Trees, RenderStop>
+    requires { is_template (last_part path.now) ≡ true }
+    ensures told { IfSome (F.tree files.old) (λ tree. IsNoFolder (tree path.now) → Means (meaning path.now (tree path.now)) result) }
+    ensures keeps { F.tree files.new ≡ F.tree files.old }
+    ensures cause { Counts path.now (F.faults files.old) (F.faults files.new) result }
+{
+    match files.read(alloc, path, LARGEST_FILE) {
+        Err(FilesStop::Failed) => Err(read_failed(alloc, path)),
+        Err(FilesStop::Memory) => Err(RenderStop::Memory),
+        Ok(Got::Missing) => Err(missing(alloc, path)),
+        Ok(Got::TooLarge) => Err(not_built(alloc)),
+        Ok(Got::Bytes(bytes)) => match read_plain(alloc, bytes.as_slice(), 1) {
+            Ok(trees) => Ok(trees),
+            Err(Stop::Fault(fault)) => Err(RenderStop::Fault(fault)),
+            Err(Stop::Memory) => Err(RenderStop::Memory),
+        },
+    }
+}

@@ -1,0 +1,98 @@
+// The run of the program.
+ghost use Rattle.std.specs.Prelude.{◌≡◌, ◌≢◌, ◌⊎◌, IfSome, map, string_bytes};
+ghost use Rattle.ytt_outside.specs.Counts.{NoneRose, Rose};
+ghost use Rattle.ytt_spec.specs.Due.{due};
+ghost use Rattle.ytt_spec.specs.Words.{asked};
+ghost use Rattle.ytt_main.specs.Headline.{IsReadFault, IsUsage, IsWhole, Meets};
+
+use crate::answer::{Answer, answer_words};
+use std::alloc::Global;
+use yaml_print::print_to;
+use ytt_outside::files::Files;
+use ytt_outside::sink::Sink;
+
+/// How a run ended. The program's exit statuses are 0 to 5, in this order.
+#[derive(Clone, Copy, Debug, PartialEq, Eq)]
+pub enum Status {
+    /// The documents are written.
+    Done,
+    /// What the words ask for means a fault.
+    Fault,
+    /// The words are no request.
+    Usage,
+    /// The files failed.
+    ReadFault,
+    /// A sink failed.
+    WriteFault,
+    /// There was no room.
+    Memory,
+}
+
+/// All that the program does: it reads the words, which are the command line without the program's
+/// name, and the files that they ask for, and then writes the documents to `out`, or one line to
+/// `err`.
+///
+/// | Status | It comes | `err` gets |
+/// |---|---|---|
+/// | Done | where the request means documents, which `out` gets | nothing |
+/// | Fault | where it means that fault | `error: KIND at FILE:LINE: DETAIL` |
+/// | Usage | where the words are no request | `error: usage at word N` |
+/// | ReadFault | where the files failed | `error: read failed: PATH` |
+/// | WriteFault | where a sink failed | `error: write failed`, tried once, where it was `out` |
+/// | Memory | where there was no room | `error: out of memory`, tried once |
+///
+/// All is read before the first byte goes to `out`. Where the status is neither Done nor WriteFault,
+/// `out` is unchanged.
+pub fn ytt_main<F: Files, O: Sink, E: Sink>(
+    alloc: Global,
+    words: &[String],
+    files: &mut F,
+    out: &mut O,
+    err: &mut E,
+) -> Status
+    // Where nothing failed and there was room, the status and all bytes are those that are due.
+    ensures headline { IfSome (F.tree files.old) (λ tree. NoneRose (F.faults files.old) (F.faults files.new) → NoneRose (O.faults out.old) (O.faults out.new)
+        → NoneRose (E.faults err.old) (E.faults err.new) → result ≢ Status.Memory
+        → Meets (due (map string_bytes words.now) tree) result (O.held out.old) (O.held out.new) (E.held err.old) (E.held err.new)) }
+    // Only documents are written to `out`.
+    ensures out_unchanged { result ≢ Status.Done → result ≢ Status.WriteFault → O.held out.new ≡ O.held out.old }
+
+    // Each other answer has its cause, also where contents aren't told.
+    ensures usage_cause { result ≡ Status.Usage → IsUsage (asked (map string_bytes words.now)) (E.held err.old) (E.held err.new) }
+    ensures read_cause { result ≡ Status.ReadFault → Rose (F.faults files.old) (F.faults files.new) }
+    ensures read_shown { result ≡ Status.ReadFault → IsReadFault (asked (map string_bytes words.now)) (E.held err.old) (E.held err.new) }
+    ensures write_cause { result ≡ Status.WriteFault → Rose (O.faults out.old) (O.faults out.new) ⊎ Rose (E.faults err.old) (E.faults err.new) }
+
+    // No failure is passed over.
+    ensures files_whole { IsWhole result → F.faults files.new ≡ F.faults files.old }
+    ensures out_whole { result ≡ Status.Done → O.faults out.new ≡ O.faults out.old }
+{
+    match answer_words(alloc, words, files) {
+        Answer::Documents(trees) => {
+            let mut buffer = [0u8; 4096];
+            match print_to(&trees, out, &mut buffer) {
+                Ok(()) => Status::Done,
+                Err(_) => {
+                    let _ = err.write_piece(b"error: write failed\n");
+                    Status::WriteFault
+                }
+            }
+        }
+        Answer::Fault(line) => match err.write_piece(line.as_str().as_bytes()) {
+            Ok(()) => Status::Fault,
+            Err(_) => Status::WriteFault,
+        },
+        Answer::Usage(line) => match err.write_piece(line.as_str().as_bytes()) {
+            Ok(()) => Status::Usage,
+            Err(_) => Status::WriteFault,
+        },
+        Answer::ReadFailed(line) => match err.write_piece(line.as_str().as_bytes()) {
+            Ok(()) => Status::ReadFault,
+            Err(_) => Status::WriteFault,
+        },
+        Answer::Memory => {
+            let _ = err.write_piece(b"error: out of memory\n");
+            Status::Memory
+        }
+    }
+}
