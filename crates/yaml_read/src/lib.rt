@@ -5,6 +5,8 @@ mod bytes;
 mod entry;
 mod lines;
 mod read;
+#[cfg(test)]
+mod tests;
 mod value;
 
 pub use read::read_plain;
