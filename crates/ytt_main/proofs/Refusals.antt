@@ -17,13 +17,13 @@ means_refused f meant (stop.Fault g) e h = e ∙ ap Err (sym h)
 means_refused f meant (stop.ReadFailed path) e h = tt
 means_refused f meant stop.Memory e h = tt
 
-meaning-no_template : (path : List ℕ) (s : Standing) → kind.File ≡ kind_of s → not (is_template (last_part path)) ≡ true → meaning path s ≡ Err not_built
+meaning-no_template : (path : List ℕ) (s : Standing) → kind.File ≡ kind_of s → is_template (last_part path) ≡ false → meaning path s ≡ Err not_built
 meaning-no_template path nothing k h = cc
-meaning-no_template path (file bytes) k h = ap (λ b. cond (b || nat_lt largest_file (length bytes)) (Err not_built) (read_trees 1 bytes)) h
+meaning-no_template path (file bytes) k h = ap (λ b. cond (not b || nat_lt largest_file (length bytes)) (Err not_built) (read_trees 1 bytes)) h
 meaning-no_template path (folder names) k h = cc
 
 -- where a file stands that is no template, NotBuilt is meant
-pub no_template : (tree : Option (List ℕ → Standing)) (path : List ℕ) (r : RenderStop) → IfSome tree (λ t. kind.File ≡ kind_of (t path)) → not (is_template (last_part path)) ≡ true → Refuses not_built r
+pub no_template : (tree : Option (List ℕ → Standing)) (path : List ℕ) (r : RenderStop) → IfSome tree (λ t. kind.File ≡ kind_of (t path)) → is_template (last_part path) ≡ false → Refuses not_built r
     → IfSome tree (λ t. Means (meaning path (t path)) (Err r))
 no_template None path r k h g = tt
 no_template (Some t) path r k h g = means_refused not_built (meaning path (t path)) r (meaning-no_template path (t path) k h) g
