@@ -1,0 +1,28 @@
+//! Renders Carvel ytt templates: `gingercrag render -f PATH`.
+#![tactic(auto)]
+
+mod words;
+
+use crate::words::read_words;
+use std::process::ExitCode;
+use ytt_main::{Status, ytt_main};
+use ytt_outside::host_files::HostFiles;
+use ytt_outside::host_sink::HostSink;
+use ytt_outside::sink::Sink;
+
+fn main(rt: HostRuntime) -> ExitCode {
+    let alloc = rt.alloc();
+    let mut out = HostSink::new(rt.stdout());
+    let mut err = HostSink::new(rt.stderr());
+    let status = match read_words(alloc, &rt) {
+        Ok(words) => {
+            let mut files = HostFiles::new(rt);
+            ytt_main(alloc, words.as_slice(), &mut files, &mut out, &mut err)
+        }
+        Err(_) => {
+            let _ = err.write_piece(b"error: out of memory\n");
+            Status::Memory
+        }
+    };
+    ExitCode::from(status as u8)
+}
