@@ -1,0 +1,7 @@
+//! The top call on whole command lines, over files and sinks in memory.
+#![tactic(auto)]
+
+#[cfg(test)]
+mod outsides;
+#[cfg(test)]
+mod rows;
