@@ -1,9 +1,8 @@
 -- What the definitions give for some command lines, by computing.
-use Rattle.std.proofs.Common.{◌≡◌, ℕ, List, [], ◌∷◌, ◌++◌, refl, codes}
+use Rattle.std.proofs.Common.{◌≡◌, ℕ, List, [], ◌∷◌, refl, codes}
 use Rattle.std.specs.Fmt.{digits}
 use Rattle.ytt_outside.specs.Standing.{Standing, nothing, file, folder}
 use Rattle.ytt_spec.specs.Due.{Due, done, fault, usage, due}
-use Rattle.ytt_spec.specs.Meaning.{last_part}
 
 -- one thing stands at every path
 abbrev due_over : Standing → List (List ℕ) → Due

@@ -1,3 +1,4 @@
 pub mod Due
 pub mod Meaning
+pub mod Requests
 pub mod Words
