@@ -1,5 +1,5 @@
 -- The last part of a path, found from slash to slash.
-use Rattle.std.proofs.Common.{◌≡◌, ◌≢◌, ℕ, ◌+◌, ◌<◌, Bool, true, false, cond, eqb, List, [], ◌∷◌, length, drop, refl, ap, ◌∙◌, sym, arith, ⊎_elim, suc}
+use Rattle.std.proofs.Common.{◌≡◌, ◌≢◌, ℕ, ◌+◌, ◌<◌, true, false, cond, eqb, List, [], ◌∷◌, length, refl, ap, ◌∙◌, arith, ⊎_elim, suc}
 use Rattle.std.proofs.lemmas.Bool.Decides.{eqb_tells}
 use Rattle.std.specs.List.{list_any, position_or_len, after_first}
 use Rattle.ytt_spec.specs.Meaning.{is_slash, last_part}

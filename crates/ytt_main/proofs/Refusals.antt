@@ -1,5 +1,5 @@
 -- A file that is no template.
-use Rattle.std.proofs.Common.{◌≡◌, ℕ, Bool, true, false, not, ◌||◌, nat_lt, cond, List, length, Option, Some, None, IfSome, Result, Ok, Err, ap, sym, ◌∙◌}
+use Rattle.std.proofs.Common.{◌≡◌, ℕ, false, not, ◌||◌, nat_lt, cond, List, length, Option, Some, None, IfSome, Err, ap, sym, ◌∙◌}
 use Rattle.ytt_base.specs.Outcomes.{Outcome}
 use Rattle.ytt_base.specs.Trees.{Trees}
 use Rattle.ytt_base.specs.declared.fault.Fault.{Fault}

@@ -2,7 +2,8 @@
 use Rattle.std.specs.Prelude.{◌≡◌, ℕ, List, [], Option}
 use Rattle.ytt_outside.specs.Sink.{Grows}
 use Rattle.ytt_spec.specs.Due.{Due, done, fault, usage, read_failed_line, usage_line}
-use Rattle.ytt_spec.specs.Words.{Asked, render, wrong}
+use Rattle.ytt_spec.specs.Requests.{IsFirstWrong}
+use Rattle.ytt_spec.specs.Words.{render, wrong, asked}
 use Rattle.ytt_main.specs.declared.run.Status.{Status}
 use Rattle.ytt_main.specs.declared.run.Status.TheVariants as status
 
@@ -27,13 +28,18 @@ pub record Meets (due : Due) (status : Status) (out_before out_now err_before er
   pub out_grew : Grows out_before out_now (due_out due)
   pub err_grew : Grows err_before err_now (due_err due)
 
--- the words are wrong from this word on, and `err` has its line
-abbrev pub IsUsage : Asked → Option (List ℕ) → Option (List ℕ) → Type 0
-IsUsage asked err_before err_now = (n : ℕ) × (asked ≡ wrong n) × Grows err_before err_now (usage_line n)
+-- the words are no request from this one on, by its number, and `err` has its line
+pub record IsUsage (words : List (List ℕ)) (err_before err_now : Option (List ℕ)) : Type 0 where
+  pub number : ℕ
+  pub asked_is : asked words ≡ wrong number
+  pub first_wrong : IsFirstWrong words number
+  pub err_grew : Grows err_before err_now (usage_line number)
 
 -- the words ask for this path, and `err` has its line
-abbrev pub IsReadFault : Asked → Option (List ℕ) → Option (List ℕ) → Type 0
-IsReadFault asked err_before err_now = (path : List ℕ) × (asked ≡ render path) × Grows err_before err_now (read_failed_line path)
+pub record IsReadFault (words : List (List ℕ)) (err_before err_now : Option (List ℕ)) : Type 0 where
+  pub path : List ℕ
+  pub asked_is : asked words ≡ render path
+  pub err_grew : Grows err_before err_now (read_failed_line path)
 
 -- a status that stands on all that was asked of the files
 abbrev pub IsWhole : Status → Type 0

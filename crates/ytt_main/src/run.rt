@@ -2,7 +2,6 @@
 ghost use Rattle.std.specs.Prelude.{◌≡◌, ◌≢◌, ◌⊎◌, IfSome, map, string_bytes};
 ghost use Rattle.ytt_outside.specs.Counts.{NoneRose, Rose};
 ghost use Rattle.ytt_spec.specs.Due.{due};
-ghost use Rattle.ytt_spec.specs.Words.{asked};
 ghost use Rattle.ytt_main.specs.Headline.{IsReadFault, IsUsage, IsWhole, Meets};
 
 use crate::answer::{Answer, answer_words};
@@ -58,9 +57,9 @@ pub fn ytt_main<F: Files, O: Sink, E: Sink>(
     ensures out_unchanged { result ≢ Status.Done → result ≢ Status.WriteFault → O.held out.new ≡ O.held out.old }
 
     // Each other answer has its cause, also where contents aren't told.
-    ensures usage_cause { result ≡ Status.Usage → IsUsage (asked (map string_bytes words.now)) (E.held err.old) (E.held err.new) }
+    ensures usage_cause { result ≡ Status.Usage → IsUsage (map string_bytes words.now) (E.held err.old) (E.held err.new) }
     ensures read_cause { result ≡ Status.ReadFault → Rose (F.faults files.old) (F.faults files.new) }
-    ensures read_shown { result ≡ Status.ReadFault → IsReadFault (asked (map string_bytes words.now)) (E.held err.old) (E.held err.new) }
+    ensures read_shown { result ≡ Status.ReadFault → IsReadFault (map string_bytes words.now) (E.held err.old) (E.held err.new) }
     ensures write_cause { result ≡ Status.WriteFault → Rose (O.faults out.old) (O.faults out.new) ⊎ Rose (E.faults err.old) (E.faults err.new) }
 
     // No failure is passed over.

@@ -1,4 +1,3 @@
-use Rattle.std.proofs.Common.{not, ap, sym, ◌∙◌}
 use Rattle.ytt_main.proofs.Refusals.{no_template}
 use Rattle.ytt_main.proofs.render.render.Goals as goal
 
