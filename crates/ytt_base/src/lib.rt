@@ -6,3 +6,6 @@ pub mod line;
 pub mod report;
 pub mod text;
 pub mod tree;
+
+#[cfg(test)]
+mod tests;
