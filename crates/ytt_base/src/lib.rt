@@ -4,8 +4,7 @@
 pub mod fault;
 pub mod line;
 pub mod report;
-pub mod text;
-pub mod tree;
-
 #[cfg(test)]
 mod tests;
+pub mod text;
+pub mod tree;
