@@ -117,10 +117,21 @@ fn a_stream_gets_the_whole_piece_or_fails(rt: HostRuntime) -> Result<(), Fail> {
 }
 
 #[test]
-fn nothing_stands_at_a_missing_path(rt: HostRuntime) -> Result<(), Fail> {
-    let mut files = HostFiles::new(rt.clone()?);
-    assert_eq!(rt; files.kind("no such folder/a.yml"), Ok(PathKind::Missing));
-    let got = files.read(rt.alloc(), "no such folder/a.yml", 9)?;
+fn the_machine_has_its_files(rt: HostRuntime) -> Result<(), Fail> {
+    let alloc = rt.alloc();
+    let mut files = HostFiles::new(rt);
+    for (path, want) in [
+        ("no such folder/a.yml", PathKind::Missing),
+        ("/", PathKind::Folder),
+        ("/dev/null", PathKind::File),
+    ] {
+        assert_eq!(rt; files.kind(path)?, want, "at {path}");
+    }
+    let got = files.read(alloc, "no such folder/a.yml", 9)?;
     assert!(rt; matches!(&got, Got::Missing));
+    let got = files.read(alloc, "/dev/null", 0)?;
+    assert!(rt; matches!(&got, Got::Bytes(bytes) if bytes.is_empty()));
+    let got = files.read(alloc, "/dev/zero", 3)?;
+    assert!(rt; matches!(&got, Got::TooLarge));
     Ok(())
 }
