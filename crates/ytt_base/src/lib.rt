@@ -4,5 +4,7 @@
 pub mod fault;
 pub mod line;
 pub mod report;
+#[cfg(test)]
+mod tests;
 pub mod text;
 pub mod tree;

@@ -1,6 +1,6 @@
 -- What the calls of `Files` answer.
-use Rattle.std.specs.Prelude.{◌≡◌, ◌≤◌, ℕ, nat_lt, length, Result, Ok, Err, if◌then◌else◌}
-use Rattle.ytt_outside.specs.Counts.{Rose}
+use Rattle.std.specs.Prelude.{◌≡◌, ◌≤◌, ℕ, Bool, true, false, nat_lt, length, Result, Ok, Err, if◌then◌else◌}
+use Rattle.ytt_outside.specs.Counts.{Rose, raised}
 use Rattle.ytt_outside.specs.Standing.{Standing, nothing, file, folder}
 use Rattle.ytt_outside.specs.declared.files.PathKind.{PathKind}
 use Rattle.ytt_outside.specs.declared.files.PathKind.TheVariants as kind
@@ -25,6 +25,18 @@ abbrev pub FilesCounts : {T : Type 0} → ℕ → ℕ → Result T FilesStop →
 FilesCounts before now (Ok x) = now ≡ before
 FilesCounts before now (Err stop.Failed) = Rose before now
 FilesCounts before now (Err stop.Memory) = now ≡ before
+
+-- the count after a call: one more where it failed
+abbrev pub count_after : {T : Type 0} → Result T FilesStop → ℕ → ℕ
+count_after (Ok x) count = count
+count_after (Err stop.Failed) count = raised count
+count_after (Err stop.Memory) count = count
+
+-- it has bytes, which take memory
+abbrev pub has_bytes : Got → Bool
+has_bytes (got.Bytes bytes) = true
+has_bytes got.TooLarge = false
+has_bytes got.Missing = false
 
 -- bytes that are read are at most this many
 abbrev pub IsWithin : ℕ → Got → Type 0

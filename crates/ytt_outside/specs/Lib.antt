@@ -1,5 +1,7 @@
 pub mod Counts
 pub mod Files
+pub mod HostFiles
+pub mod HostSink
 pub mod MemFiles
 pub mod MemSink
 pub mod Sink

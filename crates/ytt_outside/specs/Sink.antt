@@ -1,6 +1,6 @@
 -- What the call of `Sink` leaves.
 use Rattle.std.specs.Prelude.{◌≡◌, ℕ, ◌++◌, List, take, Option, Some, None, Result, Ok, Err}
-use Rattle.ytt_outside.specs.Counts.{Rose}
+use Rattle.ytt_outside.specs.Counts.{Rose, raised}
 use Rattle.ytt_outside.specs.declared.sink.SinkFailed.{SinkFailed}
 
 -- what is told, with these bytes at its end
@@ -25,3 +25,8 @@ Writes old new bytes (Err _) = GrowsByFront old new bytes
 abbrev pub SinkCounts : ℕ → ℕ → Result (Unit {0}) SinkFailed → Type 0
 SinkCounts before now (Ok _) = now ≡ before
 SinkCounts before now (Err _) = Rose before now
+
+-- the count after a call: one more where it failed
+abbrev pub count_after : Result (Unit {0}) SinkFailed → ℕ → ℕ
+count_after (Ok _) count = count
+count_after (Err _) count = raised count

@@ -1,5 +1,7 @@
 // The machine's files.
-ghost use Rattle.std.specs.Prelude.{None};
+ghost use Rattle.std.specs.Prelude.{◌≡◌, ◌≢◌, Err, IfOk, None};
+ghost use Rattle.ytt_outside.specs.Files.{FilesCounts, IsWithin, count_after};
+ghost use Rattle.ytt_outside.specs.HostFiles.{faults_in};
 
 use crate::files::{Files, FilesStop, Got, PathKind};
 use sqlite_items::Items;
@@ -19,7 +21,9 @@ pub struct HostFiles<R> {
 
 impl<R> HostFiles<R> {
     /// Files that have not failed yet.
-    pub fn new(rt: R) -> HostFiles<R> {
+    pub fn new(rt: R) -> HostFiles<R>
+        ensures { faults_in result ≡ 0 }
+    {
         HostFiles { rt, faults: 0 }
     }
 }
@@ -45,9 +49,13 @@ fn read_start<R: std::rt::Files>(
 impl<R: std::rt::Files> Files for HostFiles<R> {
     ghost tree = { λ _. None };
 
-    ghost faults = { λ s. s.faults };
+    ghost faults = { faults_in };
 
-    fn kind(&mut self, path: &str) -> Result<PathKind, FilesStop> {
+    fn kind(&mut self, path: &str) -> Result<PathKind, FilesStop>
+        ensures cause { FilesCounts (faults_in self.old) (faults_in self.new) result }
+        ensures counts { faults_in self.new ≡ count_after result (faults_in self.old) }
+        ensures takes_no_memory { result ≢ Err FilesStop.Memory }
+    {
         match fs::metadata(&self.rt, path) {
             Ok(metadata) => {
                 if metadata.is_dir() {
@@ -65,7 +73,11 @@ impl<R: std::rt::Files> Files for HostFiles<R> {
         }
     }
 
-    fn read(&mut self, alloc: Global, path: &str, limit: u64) -> Result<Got, FilesStop> {
+    fn read(&mut self, alloc: Global, path: &str, limit: u64) -> Result<Got, FilesStop>
+        ensures bound { IfOk result (λ got. IsWithin limit got) }
+        ensures cause { FilesCounts (faults_in self.old) (faults_in self.new) result }
+        ensures counts { faults_in self.new ≡ count_after result (faults_in self.old) }
+    {
         match read_start(alloc, &self.rt, path, limit.saturating_add(1)) {
             Ok(bytes) => {
                 if bytes.len() as u64 > limit {

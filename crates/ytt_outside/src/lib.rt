@@ -7,3 +7,5 @@ pub mod host_sink;
 pub mod mem_files;
 pub mod mem_sink;
 pub mod sink;
+#[cfg(test)]
+mod tests;

@@ -1,9 +1,9 @@
 // Files in memory.
-ghost use Rattle.std.specs.Prelude.{◌≡◌, ◌≢◌, ◌↔◌, [], ◌∷◌, ◌++◌, IfOk, IfSome, IsTrue, List, OnErr, OnOk, Err, IsErrOf, IfErr, Some, is_err, true, if◌then◌else◌};
+ghost use Rattle.std.specs.Prelude.{◌≡◌, ◌≢◌, ◌↔◌, [], ◌∷◌, ◌++◌, IfOk, IfSome, IsTrue, List, OnErr, OnOk, Err, IsErrOf, IfErr, Some, is_err, false, true, if◌then◌else◌};
 ghost use Rattle.std.specs.List.{list_any};
 ghost use Rattle.std.specs.Option.{option_map};
 ghost use Rattle.ytt_outside.specs.Counts.{raised};
-ghost use Rattle.ytt_outside.specs.Files.{FilesCounts, IsWithin, got_of, kind_of};
+ghost use Rattle.ytt_outside.specs.Files.{FilesCounts, IsWithin, count_after, got_of, has_bytes, kind_of};
 ghost use Rattle.ytt_outside.specs.Standing.{file};
 ghost use Rattle.ytt_outside.specs.MemFiles.{bytes_at, calls_in, entries_in, fails_in, faults_in, is_below, is_free, is_listed, standing_in};
 
@@ -130,14 +130,15 @@ fn kind_at(entries: &[(Text, Bytes)], path: &str) -> PathKind
 }
 
 impl Files for MemFiles {
-    ghost tree = { λ m. Some (standing_in m.entries) };
+    ghost tree = { λ m. Some (standing_in (entries_in m)) };
 
-    ghost faults = { λ m. m.faults };
+    ghost faults = { faults_in };
 
     fn kind(&mut self, path: &str) -> Result<PathKind, FilesStop>
         ensures told { IfOk result (λ k. k ≡ kind_of (standing_in (entries_in self.old) path.now)) }
         ensures keeps { entries_in self.new ≡ entries_in self.old }
         ensures cause { FilesCounts (faults_in self.old) (faults_in self.new) result }
+        ensures counts { faults_in self.new ≡ count_after result (faults_in self.old) }
         ensures takes_no_memory { result ≢ Err FilesStop.Memory }
         ensures listed { is_listed (fails_in self.old) (raised (calls_in self.old)) ≡ is_err result }
         ensures calls { calls_in self.new ≡ raised (calls_in self.old) }
@@ -154,6 +155,8 @@ impl Files for MemFiles {
         ensures bound { IfOk result (λ got. IsWithin limit got) }
         ensures keeps { entries_in self.new ≡ entries_in self.old }
         ensures cause { FilesCounts (faults_in self.old) (faults_in self.new) result }
+        ensures counts { faults_in self.new ≡ count_after result (faults_in self.old) }
+        ensures memory { has_bytes (got_of limit (standing_in (entries_in self.old) path.now)) ≡ false → result ≢ Err FilesStop.Memory }
         ensures listed { IsErrOf result FilesStop.Failed ↔ IsTrue (is_listed (fails_in self.old) (raised (calls_in self.old))) }
         ensures calls { calls_in self.new ≡ raised (calls_in self.old) }
         ensures fails { fails_in self.new ≡ fails_in self.old }
@@ -172,6 +175,7 @@ fn copy_within(alloc: Global, bytes: &[u8], limit: u64) -> Result<Got, FilesStop
     ensures told { IfOk result (λ got. got ≡ got_of limit (file bytes.now)) }
     ensures bound { IfOk result (λ got. IsWithin limit got) }
     ensures memory { IfErr result (λ e. e ≡ FilesStop.Memory) }
+    ensures needed { has_bytes (got_of limit (file bytes.now)) ≡ false → result ≢ Err FilesStop.Memory }
 {
     if bytes.len() as u64 > limit {
         return Ok(Got::TooLarge);

@@ -1,7 +1,7 @@
 // A sink in memory.
 ghost use Rattle.std.specs.Prelude.{◌≡◌, ◌+◌, ◌≤◌, ◌++◌, [], IfOk, List, Some, is_err, length, vec_capacity, vec_len};
 ghost use Rattle.ytt_outside.specs.Counts.{raised};
-ghost use Rattle.ytt_outside.specs.Sink.{SinkCounts, Writes};
+ghost use Rattle.ytt_outside.specs.Sink.{SinkCounts, Writes, count_after};
 ghost use Rattle.ytt_outside.specs.SinkSteps.{bytes_after, fails_at, goes_of, taken_at};
 
 use crate::sink::{Sink, SinkFailed};
@@ -95,13 +95,14 @@ fn goes_of(taken: Option<u64>, piece: &[u8]) -> &[u8]
 impl Sink for MemSink {
     ghost use Rattle.ytt_outside.specs.MemSink.{bytes_in, calls_in, fails_in, faults_in, room_in};
 
-    ghost held = { λ s. Some s.bytes.items };
+    ghost held = { λ s. Some (bytes_in s) };
 
-    ghost faults = { λ s. s.faults };
+    ghost faults = { faults_in };
 
     fn write_piece(&mut self, piece: &[u8]) -> Result<(), SinkFailed>
         ensures bytes { Writes (Some (bytes_in self.old)) (Some (bytes_in self.new)) piece.now result }
         ensures cause { SinkCounts (faults_in self.old) (faults_in self.new) result }
+        ensures counts { faults_in self.new ≡ count_after result (faults_in self.old) }
         ensures after { bytes_in self.new ≡ bytes_after (room_in self.old) (bytes_in self.old) (taken_at (fails_in self.old) (raised (calls_in self.old))) piece.now }
         ensures fails { is_err result ≡ fails_at (room_in self.old) (bytes_in self.old) (taken_at (fails_in self.old) (raised (calls_in self.old))) piece.now }
         ensures calls { calls_in self.new ≡ raised (calls_in self.old) }
