@@ -4,4 +4,6 @@
 #[cfg(test)]
 mod outsides;
 #[cfg(test)]
+mod printing;
+#[cfg(test)]
 mod rows;
