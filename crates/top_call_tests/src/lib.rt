@@ -7,3 +7,5 @@ mod outsides;
 mod printing;
 #[cfg(test)]
 mod rows;
+#[cfg(test)]
+mod runs;

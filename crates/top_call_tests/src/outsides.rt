@@ -1,64 +1,76 @@
 // The top call where files or sinks fail, and at the limits of paths and files.
 
-use sqlite_items::Items;
-use std::alloc::Global;
+use crate::runs::{Failing, NOTHING, compare, run};
+use std::alloc::{AllocError, Global};
 use std::test::Fail;
-use ytt_main::{Status, ytt_main};
-use ytt_outside::mem_files::{MemFiles, Numbers};
-use ytt_outside::mem_sink::{FailPoint, FailPoints, MemSink};
+use ytt_main::Status;
 
-/// What a run left.
-#[derive(Drop)]
-struct Ran {
-    status: Status,
-    out: MemSink,
-    err: MemSink,
+/// Calls that fail in the run of a file `name: web`, and what the run leaves.
+const FAILURES: &[(Failing, Status, &[u8], &str)] = &[
+    (
+        Failing {
+            files: 1,
+            ..NOTHING
+        },
+        Status::ReadFault,
+        b"",
+        "error: read failed: a.yml\n",
+    ),
+    (
+        Failing {
+            files: 2,
+            ..NOTHING
+        },
+        Status::ReadFault,
+        b"",
+        "error: read failed: a.yml\n",
+    ),
+    (
+        Failing { out: 1, ..NOTHING },
+        Status::WriteFault,
+        b"nam",
+        "error: write failed\n",
+    ),
+    (
+        Failing {
+            files: 1,
+            out: 0,
+            err: 1,
+        },
+        Status::WriteFault,
+        b"",
+        "",
+    ),
+];
+
+const WORDS: &[&str] = &["render", "-f", "a.yml"];
+
+#[test]
+fn calls_that_fail(rt: HostRuntime) -> Result<(), Fail> {
+    for (failing, status, out, err) in FAILURES {
+        let ran = run(rt.alloc(), WORDS, "a.yml", b"name: web\n", *failing)?;
+        compare(&rt, &ran, *status, out, err);
+    }
+    Ok(())
 }
 
-fn numbers(alloc: Global, call: u64) -> Result<Numbers, Fail> {
-    let mut all = Items::new(alloc);
-    all.push(call)?;
-    Ok(all)
+fn long_text(alloc: Global) -> Result<Vec<u8>, AllocError> {
+    let mut text = Vec::new(alloc);
+    for key in 0..600u32 {
+        text.extend_from_slice(format!(in alloc; "key{key}: value{key}\n")?.as_bytes())?;
+    }
+    Ok(text)
 }
 
-fn points(alloc: Global, call: u64, taken: u64) -> Result<FailPoints, Fail> {
-    let mut all = Items::new(alloc);
-    all.push(FailPoint { call, taken })?;
-    Ok(all)
+#[test]
+fn text_past_the_buffer(rt: HostRuntime) -> Result<(), Fail> {
+    let text = long_text(rt.alloc())?;
+    let ran = run(rt.alloc(), WORDS, "a.yml", text.as_slice(), NOTHING)?;
+    compare(&rt, &ran, Status::Done, text.as_slice(), "");
+    Ok(())
 }
 
-fn sink(alloc: Global) -> Result<MemSink, Fail> {
-    Ok(MemSink::new(alloc, Items::new(alloc), 2000)?)
-}
-
-fn run(
-    alloc: Global,
-    path: &str,
-    files: &mut MemFiles,
-    mut out: MemSink,
-    mut err: MemSink,
-) -> Result<Ran, Fail> {
-    let mut words = Vec::new(alloc);
-    words.push(String::from_str(alloc, "render")?)?;
-    words.push(String::from_str(alloc, "-f")?)?;
-    words.push(String::from_str(alloc, path)?)?;
-    let status = ytt_main(alloc, words.as_slice(), files, &mut out, &mut err);
-    Ok(Ran { status, out, err })
-}
-
-fn run_text(
-    alloc: Global,
-    text: &[u8],
-    fails: Numbers,
-    out: MemSink,
-    err: MemSink,
-) -> Result<Ran, Fail> {
-    let mut files = MemFiles::new(alloc, fails);
-    files.add(alloc, "a.yml", text)?;
-    run(alloc, "a.yml", &mut files, out, err)
-}
-
-fn path_of(alloc: Global, len: usize) -> Result<String, Fail> {
+fn path_of(alloc: Global, len: usize) -> Result<String, AllocError> {
     let mut path = String::new(alloc);
     for _ in 0..len {
         path.push('p')?;
@@ -67,101 +79,33 @@ fn path_of(alloc: Global, len: usize) -> Result<String, Fail> {
 }
 
 #[test]
-fn a_failed_read_is_shown_with_its_path(rt: HostRuntime) -> Result<(), Fail> {
-    let alloc = rt.alloc();
-    for call in 1..3u64 {
-        let ran = run_text(
-            alloc,
-            b"a: 1\n",
-            numbers(alloc, call)?,
-            sink(alloc)?,
-            sink(alloc)?,
-        )?;
-        assert_eq!(rt; ran.status, Status::ReadFault);
-        assert_eq!(rt; ran.out.bytes(), b"".as_slice());
-        assert_eq!(rt; ran.err.bytes(), b"error: read failed: a.yml\n".as_slice());
-    }
-    Ok(())
-}
-
-#[test]
-fn a_failed_write_leaves_a_prefix(rt: HostRuntime) -> Result<(), Fail> {
-    let alloc = rt.alloc();
-    let out = MemSink::new(alloc, points(alloc, 1, 3)?, 2000)?;
-    let ran = run_text(alloc, b"name: web\n", Items::new(alloc), out, sink(alloc)?)?;
-    assert_eq!(rt; ran.status, Status::WriteFault);
-    assert_eq!(rt; ran.out.bytes(), b"nam".as_slice());
-    assert_eq!(rt; ran.err.bytes(), b"error: write failed\n".as_slice());
-    Ok(())
-}
-
-#[test]
-fn a_failed_report_is_a_failed_write(rt: HostRuntime) -> Result<(), Fail> {
-    let alloc = rt.alloc();
-    let err = MemSink::new(alloc, points(alloc, 1, 0)?, 2000)?;
-    let ran = run_text(alloc, b"a\n", Items::new(alloc), sink(alloc)?, err)?;
-    assert_eq!(rt; ran.status, Status::WriteFault);
-    assert_eq!(rt; ran.out.bytes(), b"".as_slice());
-    assert_eq!(rt; ran.err.bytes(), b"".as_slice());
-    Ok(())
-}
-
-#[test]
-fn text_past_the_buffer(rt: HostRuntime) -> Result<(), Fail> {
-    let alloc = rt.alloc();
-    let mut text = Vec::new(alloc);
-    for key in 0..600u32 {
-        text.extend_from_slice(format!(in alloc; "key{key}: value{key}\n")?.as_bytes())?;
-    }
-    let out = MemSink::new(alloc, Items::new(alloc), 20000)?;
-    let ran = run_text(alloc, text.as_slice(), Items::new(alloc), out, sink(alloc)?)?;
-    assert_eq!(rt; ran.status, Status::Done);
-    assert_eq!(rt; ran.out.bytes(), text.as_slice());
-    Ok(())
-}
-
-#[test]
 fn the_longest_path(rt: HostRuntime) -> Result<(), Fail> {
-    let alloc = rt.alloc();
-    let mut files = MemFiles::new(alloc, Items::new(alloc));
-    let path = path_of(alloc, 1024)?;
-    let ran = run(alloc, path.as_str(), &mut files, sink(alloc)?, sink(alloc)?)?;
-    let line = format!(in alloc; "error: FileMissing: {path}\n")?;
-    assert_eq!(rt; ran.status, Status::Fault);
-    assert_eq!(rt; ran.err.bytes(), line.as_bytes());
-    let longer = path_of(alloc, 1025)?;
-    let ran = run(
-        alloc,
-        longer.as_str(),
-        &mut files,
-        sink(alloc)?,
-        sink(alloc)?,
-    )?;
-    assert_eq!(rt; ran.status, Status::Usage);
-    assert_eq!(rt; ran.err.bytes(), b"error: usage at word 3\n".as_slice());
+    let path = path_of(rt.alloc(), 1024)?;
+    let words = ["render", "-f", path.as_str()];
+    let ran = run(rt.alloc(), &words, "a.yml", b"", NOTHING)?;
+    let err = format!(in rt.alloc(); "error: FileMissing: {path}\n")?;
+    compare(&rt, &ran, Status::Fault, b"", err.as_str());
     Ok(())
 }
 
 #[test]
-fn the_largest_file(rt: HostRuntime) -> Result<(), Fail> {
-    let alloc = rt.alloc();
-    let mut text = vec![in alloc; b'\n'; 8 * 1024 * 1024]?;
-    let ran = run_text(
-        alloc,
-        text.as_slice(),
-        Items::new(alloc),
-        sink(alloc)?,
-        sink(alloc)?,
-    )?;
-    assert_eq!(rt; ran.err.bytes(), b"error: NotBuilt at a.yml:1\n".as_slice());
-    text.push(b'\n')?;
-    let ran = run_text(
-        alloc,
-        text.as_slice(),
-        Items::new(alloc),
-        sink(alloc)?,
-        sink(alloc)?,
-    )?;
-    assert_eq!(rt; ran.err.bytes(), b"error: NotBuilt\n".as_slice());
+fn a_path_of_one_byte_more(rt: HostRuntime) -> Result<(), Fail> {
+    let path = path_of(rt.alloc(), 1025)?;
+    let words = ["render", "-f", path.as_str()];
+    let ran = run(rt.alloc(), &words, "a.yml", b"", NOTHING)?;
+    compare(&rt, &ran, Status::Usage, b"", "error: usage at word 3\n");
+    Ok(())
+}
+
+#[test]
+fn the_largest_file_and_one_byte_more(rt: HostRuntime) -> Result<(), Fail> {
+    for (more, err) in [
+        (0, "error: NotBuilt at a.yml:1\n"),
+        (1, "error: NotBuilt\n"),
+    ] {
+        let text = vec![in rt.alloc(); b'\n'; 8388608 + more]?;
+        let ran = run(rt.alloc(), WORDS, "a.yml", text.as_slice(), NOTHING)?;
+        compare(&rt, &ran, Status::Fault, b"", err);
+    }
     Ok(())
 }

@@ -1,12 +1,8 @@
 // Command lines with what they must print, over an outside that doesn't fail.
 
-use sqlite_items::Items;
-use std::alloc::Global;
-use std::process::Abort;
+use crate::runs::{NOTHING, compare, run};
 use std::test::Fail;
-use ytt_main::{Status, ytt_main};
-use ytt_outside::mem_files::MemFiles;
-use ytt_outside::mem_sink::MemSink;
+use ytt_main::Status;
 
 /// Texts of `a.yml`, and what `render -f a.yml` prints of them.
 const PRINTED: &[(&str, &str)] = &[
@@ -65,45 +61,12 @@ const FAULTS: &[(&str, &str, &str)] = &[
     ("a.lib.yaml", "a.lib.yaml", "NotBuilt"),
 ];
 
-/// Runs the words over one file, and compares what they leave.
-fn check(
-    rt: &impl Abort,
-    alloc: Global,
-    words: &[&str],
-    file: (&str, &str),
-    status: Status,
-    out_text: &str,
-    err_text: &str,
-) -> Result<(), Fail> {
-    let mut owned = Vec::new(alloc);
-    for word in words {
-        owned.push(String::from_str(alloc, word)?)?;
-    }
-    let mut files = MemFiles::new(alloc, Items::new(alloc));
-    files.add(alloc, file.0, file.1.as_bytes())?;
-    let mut out = MemSink::new(alloc, Items::new(alloc), 2000)?;
-    let mut err = MemSink::new(alloc, Items::new(alloc), 2000)?;
-    let ended = ytt_main(alloc, owned.as_slice(), &mut files, &mut out, &mut err);
-    let text = file.1;
-    assert_eq!(rt; ended, status, "{text}");
-    assert_eq!(rt; out.bytes(), out_text.as_bytes(), "{text}");
-    assert_eq!(rt; err.bytes(), err_text.as_bytes(), "{text}");
-    Ok(())
-}
-
 #[test]
 fn texts_that_are_printed(rt: HostRuntime) -> Result<(), Fail> {
     for (text, printed) in PRINTED {
         let words = ["render", "-f", "a.yml"];
-        check(
-            &rt,
-            rt.alloc(),
-            &words,
-            ("a.yml", text),
-            Status::Done,
-            printed,
-            "",
-        )?;
+        let ran = run(rt.alloc(), &words, "a.yml", text.as_bytes(), NOTHING)?;
+        compare(&rt, &ran, Status::Done, printed.as_bytes(), "");
     }
     Ok(())
 }
@@ -111,18 +74,10 @@ fn texts_that_are_printed(rt: HostRuntime) -> Result<(), Fail> {
 #[test]
 fn texts_that_are_refused(rt: HostRuntime) -> Result<(), Fail> {
     for (text, line) in REFUSED {
-        let alloc = rt.alloc();
         let words = ["render", "-f", "x/y/a.yml"];
-        let err = format!(in alloc; "error: NotBuilt at a.yml:{line}\n")?;
-        check(
-            &rt,
-            alloc,
-            &words,
-            ("x/y/a.yml", text),
-            Status::Fault,
-            "",
-            err.as_str(),
-        )?;
+        let ran = run(rt.alloc(), &words, "x/y/a.yml", text.as_bytes(), NOTHING)?;
+        let err = format!(in rt.alloc(); "error: NotBuilt at a.yml:{line}\n")?;
+        compare(&rt, &ran, Status::Fault, b"", err.as_str());
     }
     Ok(())
 }
@@ -130,48 +85,30 @@ fn texts_that_are_refused(rt: HostRuntime) -> Result<(), Fail> {
 #[test]
 fn words_that_are_no_request(rt: HostRuntime) -> Result<(), Fail> {
     for (words, number) in WRONG {
-        let alloc = rt.alloc();
-        let err = format!(in alloc; "error: usage at word {number}\n")?;
-        check(
-            &rt,
-            alloc,
-            words,
-            ("a.yml", "a: 1\n"),
-            Status::Usage,
-            "",
-            err.as_str(),
-        )?;
+        let ran = run(rt.alloc(), words, "a.yml", b"a: 1\n", NOTHING)?;
+        let err = format!(in rt.alloc(); "error: usage at word {number}\n")?;
+        compare(&rt, &ran, Status::Usage, b"", err.as_str());
     }
     Ok(())
 }
 
 #[test]
-fn paths(rt: HostRuntime) -> Result<(), Fail> {
+fn paths_that_mean_a_fault(rt: HostRuntime) -> Result<(), Fail> {
     for (path, stands, fault) in FAULTS {
-        let alloc = rt.alloc();
         let words = ["render", "-f", path];
-        let err = format!(in alloc; "error: {fault}\n")?;
-        check(
-            &rt,
-            alloc,
-            &words,
-            (stands, "a: 1\n"),
-            Status::Fault,
-            "",
-            err.as_str(),
-        )?;
+        let ran = run(rt.alloc(), &words, stands, b"a: 1\n", NOTHING)?;
+        let err = format!(in rt.alloc(); "error: {fault}\n")?;
+        compare(&rt, &ran, Status::Fault, b"", err.as_str());
     }
+    Ok(())
+}
+
+#[test]
+fn paths_of_templates(rt: HostRuntime) -> Result<(), Fail> {
     for path in ["a.yaml", "d.lib.yml/x.yml"] {
         let words = ["render", "-f", path];
-        check(
-            &rt,
-            rt.alloc(),
-            &words,
-            (path, "a: 1\n"),
-            Status::Done,
-            "a: 1\n",
-            "",
-        )?;
+        let ran = run(rt.alloc(), &words, path, b"a: 1\n", NOTHING)?;
+        compare(&rt, &ran, Status::Done, b"a: 1\n", "");
     }
     Ok(())
 }
