@@ -1,5 +1,5 @@
 -- The bytes and characters that have a meaning in YAML, as far as they are needed (YAML 1.2.2, 5.3 to 5.5).
-use Rattle.std.specs.Prelude.{ℕ, Bool, false, ◌&&◌, ◌||◌, ◌==◌, nat_le, List, [], ◌∷◌, slice_index, bytes_eq, codes}
+use Rattle.std.specs.Prelude.{ℕ, ◌-◌, Bool, true, false, ◌&&◌, ◌||◌, ◌==◌, nat_le, if◌then◌else◌, List, [], ◌∷◌, slice_index, bytes_eq, codes}
 
 abbrev pub tab : ℕ
 tab = 9
@@ -16,8 +16,14 @@ space = 32
 abbrev pub quote : ℕ
 quote = 34
 
+abbrev pub plus : ℕ
+plus = 43
+
 abbrev pub dash : ℕ
 dash = 45
+
+abbrev pub dot : ℕ
+dot = 46
 
 abbrev pub colon : ℕ
 colon = 58
@@ -36,6 +42,16 @@ is_between low high b = nat_le low b && nat_le b high
 abbrev pub is_digit : ℕ → Bool
 is_digit b = is_between 48 57 b
 
+abbrev pub is_octal_digit : ℕ → Bool
+is_octal_digit b = is_between 48 55 b
+
+abbrev pub is_hex_digit : ℕ → Bool
+is_hex_digit b = is_digit b || is_between 65 70 b || is_between 97 102 b
+
+-- the value of a digit of any base up to 16
+abbrev pub digit_value : ℕ → ℕ
+digit_value b = if nat_le b 57 then b - 48 else if nat_le b 70 then b - 55 else b - 87
+
 -- an ASCII letter
 abbrev pub is_letter : ℕ → Bool
 is_letter b = is_between 65 90 b || is_between 97 122 b
@@ -47,14 +63,22 @@ is_letter_or_digit b = is_letter b || is_digit b
 abbrev pub first : List ℕ → ℕ
 first t = slice_index t 0
 
+abbrev pub is_empty : {A : Type 0} → List A → Bool
+is_empty [] = true
+is_empty (x ∷ xs) = false
+
+abbrev pub all_bytes : (ℕ → Bool) → List ℕ → Bool
+all_bytes test [] = true
+all_bytes test (b ∷ bs) = test b && all_bytes test bs
+
 -- the text is one of these words
 abbrev pub is_word : List (List ℕ) → List ℕ → Bool
 is_word [] t = false
 is_word (w ∷ ws) t = bytes_eq w t || is_word ws t
 
--- the words that are null or a bool (10.3.2)
+-- the texts that are null or a bool (10.3.2)
 abbrev pub null_words : List (List ℕ)
-null_words = codes "null" ∷ codes "Null" ∷ codes "NULL" ∷ []
+null_words = [] ∷ codes "~" ∷ codes "null" ∷ codes "Null" ∷ codes "NULL" ∷ []
 
 abbrev pub true_words : List (List ℕ)
 true_words = codes "true" ∷ codes "True" ∷ codes "TRUE" ∷ []

@@ -1,4 +1,5 @@
 pub mod Bytes
 pub mod Flat
 pub mod Lines
+pub mod Scalars
 pub mod Text
