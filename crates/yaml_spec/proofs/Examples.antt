@@ -1,11 +1,13 @@
 -- What the definitions give for some texts and trees, by computing.
-use Rattle.std.proofs.Common.{◌≡◌, ℕ, true, List, [], ◌∷◌, ◌++◌, refl, codes, pos, negsuc, Ok}
+use Rattle.std.proofs.Common.{◌≡◌, ℕ, true, List, [], ◌∷◌, ◌++◌, refl, codes, pos, negsuc, Ok, Err}
 use Rattle.std.specs.Fmt.{digits}
 use Rattle.std.specs.Str.{chars}
 use lib.Utf8.{encode}
-use Rattle.ytt_base.specs.Outcomes.{place_at}
+use Rattle.ytt_base.specs.Outcomes.{fault_at, place_at}
+use Rattle.ytt_base.specs.declared.fault.FaultKind.TheVariants as kind
 use Rattle.ytt_base.specs.Trees.{null, boolean, integer, string, Tree, scalar, list, map, no_trees, tree, no_pairs, pair}
 use Rattle.yaml_spec.specs.Flat.{read_trees, not_built}
+use Rattle.yaml_spec.specs.Scalars.{form}
 use Rattle.yaml_spec.specs.Text.{Text}
 
 abbrev text : List ℕ → Tree
@@ -37,6 +39,15 @@ refuses_carriage_return = refl
 refuses_reserved_word : read_trees 1 (codes "Yes: 1\n") ≡ not_built (place_at 1 1)
 refuses_reserved_word = refl
 
+reads_quoted : read_trees 1 (codes "a: \"1\"\nb: \"yes\"\nc: \"\"\n") ≡ Ok (tree (map (pair (string (codes "a")) (text (codes "1")) (pair (string (codes "b")) (text (codes "yes")) (pair (string (codes "c")) (text []) no_pairs)))) no_trees)
+reads_quoted = refl
+
+refuses_float : read_trees 1 (codes "v: 1.5\na\n") ≡ Err (fault_at kind.FloatScalar (place_at 1 1))
+refuses_float = refl
+
+refuses_line_before_float : read_trees 1 (codes "a\nv: 1.5\n") ≡ not_built (place_at 1 1)
+refuses_line_before_float = refl
+
 refuses_two_spaces : read_trees 1 (codes "a:  b\n") ≡ not_built (place_at 1 1)
 refuses_two_spaces = refl
 
@@ -51,15 +62,16 @@ prints_nothing = refl
 prints_nested :
     Text (tree (map (pair (string (codes "a")) (list (tree (list (tree (text (codes "b")) (tree (text []) no_trees))) (tree (map (pair (integer (pos 1)) (scalar null) (pair (string (codes "c")) (map (pair (string (codes "yes")) (list no_trees) no_pairs)) no_pairs))) no_trees))) no_pairs)) no_trees)
     ≡ codes "a:\n- - b\n  - \"\"\n- 1: null\n  c:\n    \"yes\": []\n"
-unfolding chars digits encode
+unfolding chars digits encode form
 prints_nested = refl
 
 prints_three : Text (tree (scalar (boolean true)) (tree (list (tree (map no_pairs) no_trees)) (tree (text (codes "x")) no_trees))) ≡ codes "true\n---\n- {}\n---\nx\n"
+unfolding form
 prints_three = refl
 
 -- the characters of a double-quoted string: a quote, a backslash, a tab, a break, 7F, 85, 2028 and é
 prints_escapes :
     Text (tree (text (34 ∷ 92 ∷ 9 ∷ 10 ∷ 0x7F ∷ 0xC2 ∷ 0x85 ∷ 0xE2 ∷ 0x80 ∷ 0xA8 ∷ 0xC3 ∷ 0xA9 ∷ [])) no_trees)
     ≡ codes "\"\\\"\\\\\\t\\n\\x7F\\x85\\u2028" ++ (0xC3 ∷ 0xA9 ∷ codes "\"\n")
-unfolding chars encode
+unfolding chars encode form
 prints_escapes = refl

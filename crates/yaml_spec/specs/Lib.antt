@@ -1,5 +1,6 @@
 pub mod Bytes
 pub mod Flat
 pub mod Lines
+pub mod ReadsBack
 pub mod Scalars
 pub mod Text

@@ -110,3 +110,7 @@ plain t = value_of (form t) t
 abbrev pub is_string_form : Form → Bool
 is_string_form string_form = true
 is_string_form _ = false
+
+abbrev pub is_integer_form : Form → Bool
+is_integer_form integer_form = true
+is_integer_form _ = false

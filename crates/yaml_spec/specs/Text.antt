@@ -1,9 +1,10 @@
 -- The text of documents, in one layout, with the first style that fits each string (YAML 1.2.2, 5.7, 7.3 and 8.2).
-use Rattle.std.specs.Prelude.{ℕ, ◌+◌, ◌/◌, ◌%◌, Bool, ◌||◌, ◌==◌, nat_lt, if◌then◌else◌, List, [], ◌∷◌, ◌++◌, replicate, codes, chars, encode_utf8}
+use Rattle.std.specs.Prelude.{ℕ, ◌+◌, ◌/◌, ◌%◌, Bool, ◌||◌, ◌&&◌, ◌==◌, nat_lt, if◌then◌else◌, List, [], ◌∷◌, ◌++◌, replicate, codes, chars, encode_utf8}
 use Rattle.std.specs.Fmt.{signed_decimal}
 use Rattle.ytt_base.specs.Trees.{Scalar, null, boolean, integer, string, Tree, scalar, list, map, Trees, no_trees, tree, Pairs, no_pairs, pair}
 use Rattle.yaml_spec.specs.Bytes.{tab, line_feed, carriage_return, space, quote, colon, backslash, is_one_of, is_between}
-use Rattle.yaml_spec.specs.Flat.{is_plain_word}
+use Rattle.yaml_spec.specs.Flat.{is_run}
+use Rattle.yaml_spec.specs.Scalars.{form, is_string_form}
 
 abbrev pub spaces : ℕ → List ℕ
 spaces n = replicate n space
@@ -13,9 +14,9 @@ line_end = line_feed ∷ []
 
 -- ---- the styles of a string
 
--- the string stands as it is (so far: words alone)
+-- the string stands as it is (so far: letters and digits alone), since it reads as itself
 abbrev pub fits_plain : List ℕ → Bool
-fits_plain s = is_plain_word s
+fits_plain s = is_run s && is_string_form (form s)
 
 -- a digit of base 16, in capitals
 abbrev pub hex_digit : ℕ → ℕ

@@ -1,4 +1,4 @@
-use Rattle.yaml_read.proofs.Words.{integer_utf8, integer_numeral, integer_fits}
+use Rattle.yaml_spec.proofs.Numerals.{integer_utf8, integer_numeral, integer_fits}
 use Rattle.yaml_read.proofs.value.integer_of.Goals as goal
 
 pub unreachable-requires : goal.unreachable-requires

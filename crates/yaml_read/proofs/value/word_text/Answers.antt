@@ -1,4 +1,4 @@
-use Rattle.yaml_read.proofs.Words.{word_utf8}
+use Rattle.yaml_spec.proofs.Numerals.{word_utf8}
 use Rattle.yaml_read.proofs.value.word_text.Goals as goal
 
 pub unreachable-requires : goal.unreachable-requires
