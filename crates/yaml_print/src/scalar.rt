@@ -11,7 +11,7 @@ ghost use Rattle.yaml_spec.specs.Text.{key_text, line_end, string_text};
 use crate::pending::Pending;
 use crate::quoted::write_quoted;
 use itoa::Buffer;
-use yaml_read::is_plain_word;
+use yaml_scalar::is_plain_word;
 use ytt_base::tree::{Key, Tree};
 use ytt_outside::sink::{Sink, SinkFailed};
 

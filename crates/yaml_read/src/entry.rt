@@ -6,8 +6,9 @@ ghost use Rattle.ytt_base.specs.View.{entry_of, key_of, pairs_of};
 ghost use Rattle.yaml_spec.specs.Flat.{entry_at, entry_from, unrepeated};
 
 use crate::lines::split_at_colon;
-use crate::value::{is_plain_word, not_built, read_value, word_text};
+use crate::value::{not_built, read_value, word_text};
 use std::alloc::Global;
+use yaml_scalar::is_plain_word;
 use ytt_base::fault::{Place, Stop};
 use ytt_base::tree::{Key, Pairs, Tree};
 

@@ -1,7 +1,6 @@
 //! Reading a text into trees.
 #![tactic(auto)]
 
-mod bytes;
 mod entry;
 mod lines;
 mod read;
@@ -10,4 +9,3 @@ mod tests;
 mod value;
 
 pub use read::read_plain;
-pub use value::is_plain_word;

@@ -1,0 +1,2 @@
+pub mod ByteTests
+pub mod Forms
