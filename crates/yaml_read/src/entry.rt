@@ -3,9 +3,9 @@ ghost use Rattle.std.specs.Prelude.{◌≡◌};
 ghost use Rattle.ytt_base.specs.Outcomes.{Gives, and_then};
 ghost use Rattle.ytt_base.specs.Trees.{has_key, keys};
 ghost use Rattle.ytt_base.specs.View.{entry_of, key_of, pairs_of};
-ghost use Rattle.yaml_spec.specs.Flat.{entry_at, entry_from, unrepeated};
+ghost use Rattle.yaml_spec.specs.Flat.{entry_at, entry_from, unrepeated, value_at};
 
-use crate::lines::split_at_colon;
+use crate::lines::split_at_byte;
 use crate::value::{not_built, read_value, word_text};
 use std::alloc::Global;
 use yaml_scalar::is_plain_word;
@@ -13,7 +13,7 @@ use ytt_base::fault::{Place, Stop};
 use ytt_base::tree::{Key, Pairs, Tree};
 
 fn read_parts(alloc: Global, word: &[u8], rest: &[u8], place: Place) -> Result<(Key, Tree), Stop>
-    ensures { Gives entry_of result (entry_from place word.now rest.now) }
+    ensures { Gives entry_of result (entry_from value_at place word.now rest.now) }
 {
     if !is_plain_word(word) {
         return Err(Stop::Fault(not_built(alloc, place)));
@@ -26,9 +26,9 @@ fn read_parts(alloc: Global, word: &[u8], rest: &[u8], place: Place) -> Result<(
 }
 
 fn read_line(alloc: Global, line: &[u8], place: Place) -> Result<(Key, Tree), Stop>
-    ensures { Gives entry_of result (entry_at place line.now) }
+    ensures { Gives entry_of result (entry_at value_at place line.now) }
 {
-    let (word, rest) = split_at_colon(line);
+    let (word, rest) = split_at_byte(line, b':');
     read_parts(alloc, word, rest, place)
 }
 
@@ -51,7 +51,7 @@ pub fn read_entry(
     pairs: &Pairs,
     place: Place,
 ) -> Result<(Key, Tree), Stop>
-    ensures { Gives entry_of result (and_then (unrepeated place (keys (pairs_of pairs.now))) (entry_at place line.now)) }
+    ensures { Gives entry_of result (and_then (unrepeated place (keys (pairs_of pairs.now))) (entry_at value_at place line.now)) }
 {
     let (key, tree) = read_line(alloc, line, place)?;
     if has_key(pairs, &key) {

@@ -1,7 +1,6 @@
 // The lines of a text, and the parts of a line.
-ghost use Rattle.std.specs.Prelude.{◌≡◌, ◌<◌, ◌≤◌, ◌∷◌, length};
+ghost use Rattle.std.specs.Prelude.{◌≡◌, ◌==◌, ◌<◌, ◌≤◌, ◌∷◌, length};
 ghost use Rattle.std.specs.List.{after_first, before_first, position_or_len};
-ghost use Rattle.yaml_spec.specs.Flat.{is_colon};
 ghost use Rattle.yaml_spec.specs.Lines.{lines};
 
 /// The first line, and what stands behind its end.
@@ -19,27 +18,27 @@ pub fn split_line(text: &[u8]) -> (&[u8], &[u8])
     (text, &text[text.len()..])
 }
 
-fn colon_at(line: &[u8]) -> usize
-    ensures first { result ≡ position_or_len is_colon line.now }
-    ensures within { result ≤ length line.now }
+fn byte_at(text: &[u8], wanted: u8) -> usize
+    ensures first { result ≡ position_or_len (λ b. b == wanted) text.now }
+    ensures within { result ≤ length text.now }
 {
-    for (at, byte) in line.iter().enumerate() {
-        if *byte == b':' {
+    for (at, byte) in text.iter().enumerate() {
+        if *byte == wanted {
             return at;
         }
     }
-    line.len()
+    text.len()
 }
 
-/// What stands before the first colon and what stands behind it: all and nothing where there is
-/// none.
-pub fn split_at_colon(line: &[u8]) -> (&[u8], &[u8])
-    ensures before { result.0.now ≡ before_first is_colon line.now }
-    ensures after { result.1.now ≡ after_first is_colon line.now }
+/// What stands before the first of these bytes and what stands behind it: all and nothing where
+/// there is none.
+pub fn split_at_byte(text: &[u8], wanted: u8) -> (&[u8], &[u8])
+    ensures before { result.0.now ≡ before_first (λ b. b == wanted) text.now }
+    ensures after { result.1.now ≡ after_first (λ b. b == wanted) text.now }
 {
-    let at = colon_at(line);
-    if at == line.len() {
-        return (line, &line[at..]);
+    let at = byte_at(text, wanted);
+    if at == text.len() {
+        return (text, &text[at..]);
     }
-    (&line[..at], &line[at + 1..])
+    (&text[..at], &text[at + 1..])
 }

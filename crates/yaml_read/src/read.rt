@@ -3,7 +3,7 @@ ghost use Rattle.std.specs.Prelude.{◌≡◌, ◌<◌, ◌^◌, [], IfOk, lengt
 ghost use Rattle.ytt_base.specs.Outcomes.{Gives};
 ghost use Rattle.ytt_base.specs.Trees.{map, no_trees, tree};
 ghost use Rattle.ytt_base.specs.View.{pairs_of, trees_of};
-ghost use Rattle.yaml_spec.specs.Flat.{pairs_in, read_trees};
+ghost use Rattle.yaml_spec.specs.Flat.{pairs_in, read_trees, value_at};
 ghost use Rattle.yaml_spec.specs.Lines.{lines};
 
 use crate::entry::read_entry;
@@ -17,7 +17,7 @@ use ytt_base::tree::{Pairs, Tree, Trees, push_pair};
 #[tactic(auto, using(crate::proofs::Reading::reading))]
 fn read_pairs(alloc: Global, bytes: &[u8], file: u32) -> Result<Pairs, Stop>
     requires { length bytes.now < 2 ^ 32 }
-    ensures { Gives pairs_of result (pairs_in file [] 1 (lines bytes.now)) }
+    ensures { Gives pairs_of result (pairs_in value_at file [] 1 (lines bytes.now)) }
 {
     let mut pairs: Pairs = Items::new(alloc);
     let mut rest = bytes;
@@ -50,12 +50,13 @@ fn one_map(alloc: Global, pairs: Pairs) -> Result<Trees, Memory>
 /// `bytes` is the text and `file` the number of its file, which a fault names. A text without a
 /// byte has no document. Any other text is one map, with a pair for each line: a line feed ends a
 /// line, and the last one may end without it. A line is `KEY: VALUE`, with one space. A KEY is a
-/// word as `is_plain_word` says, and a VALUE is such a word or an integer: an optional minus, and
-/// 1 to 38 digits without a leading zero.
+/// word as `is_plain_word` says. A VALUE is such a word, or ASCII letters and digits in double
+/// quotes, also none, or an integer: an optional minus, and 1 to 38 digits without a leading zero.
 ///
 /// A line outside this form, and one whose key an earlier line has, is a fault of the kind
-/// NotBuilt at the line, counted from 1, without a detail. The first such line decides. Want of
-/// memory is `Stop::Memory`.
+/// NotBuilt at the line, counted from 1, without a detail; but a VALUE of an optional minus,
+/// digits, a point and digits is FloatScalar there. The first such line decides. Want of memory
+/// is `Stop::Memory`.
 #[tactic(auto, using(crate::proofs::Reading::reading))]
 pub fn read_plain(alloc: Global, bytes: &[u8], file: u32) -> Result<Trees, Stop>
     requires { length bytes.now < 2 ^ 32 }

@@ -16,7 +16,8 @@ use Rattle.yaml_spec.specs.ReadsBack.{AreFlat, AreFlatPairs, IsValue}
 use Rattle.yaml_spec.specs.Text.{Text, fits_plain, key_text, map_text, pair_text, quoted_text, string_text}
 use Rattle.yaml_spec.proofs.IntegersBack.{decimal-digits, form-decimal, plain-decimal}
 use Rattle.yaml_spec.proofs.WordsBack.{word_fits}
-use Rattle.yaml_spec.proofs.RunsBack.{both, is_quoted_run-quoted, middle-quoted, quoted_text-run, run_byte, word_run}
+use Rattle.yaml_spec.proofs.Numerals.{both}
+use Rattle.yaml_spec.proofs.RunsBack.{is_quoted_run-quoted, middle-quoted, quoted_text-run, run_byte, word_run}
 
 -- ---- lines and colons
 

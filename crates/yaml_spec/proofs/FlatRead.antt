@@ -9,8 +9,8 @@ use Rattle.yaml_spec.specs.Bytes.{is_letter_or_digit, first}
 use Rattle.yaml_spec.specs.Flat.{Entry, before_pairs, documents_in, entry_at, entry_from, is_colon, is_integer, is_plain_word, is_point_number, is_quoted_run, middle, no_value, not_built, one_map, pairs_in, read_trees, unrepeated, value_at, with_key}
 use Rattle.yaml_spec.specs.Lines.{lines}
 use Rattle.yaml_spec.specs.ReadsBack.{AreFlat, AreFlatPairs, IsValue}
-use Rattle.yaml_spec.proofs.Numerals.{integer_fits}
-use Rattle.yaml_spec.proofs.RunsBack.{both, word_run}
+use Rattle.yaml_spec.proofs.Numerals.{both, integer_fits}
+use Rattle.yaml_spec.proofs.RunsBack.{word_run}
 
 -- what was read behind a part, and the part
 record Bound (A B : Type 0) (o : Outcome A) (f : A → Outcome B) (y : B) : Type 0 where

@@ -20,26 +20,19 @@ both false b h = cc
 letter_or_digit_below : (b : ℕ) → is_letter_or_digit b ≡ true → b < 128
 letter_or_digit_below b h = grind (arith, nat_tests)
 
-letter_below : (b : ℕ) → is_letter b ≡ true → b < 128
-letter_below b h = grind (arith, nat_tests)
-
 digit_below : (b : ℕ) → is_digit b ≡ true → b < 128
 digit_below b h = grind (arith, nat_tests)
 
-words_ascii : (bs : List ℕ) → list_all is_letter_or_digit bs ≡ true → IsAscii bs
-words_ascii [] h = IsAscii-nil
-words_ascii (b ∷ bs) h = let p = both (is_letter_or_digit b) (list_all is_letter_or_digit bs) h in IsAscii-cons b bs (letter_or_digit_below b p.0) (words_ascii bs p.1)
+pub run_ascii : (bs : List ℕ) → list_all is_letter_or_digit bs ≡ true → IsAscii bs
+run_ascii [] h = IsAscii-nil
+run_ascii (b ∷ bs) h = let p = both (is_letter_or_digit b) (list_all is_letter_or_digit bs) h in IsAscii-cons b bs (letter_or_digit_below b p.0) (run_ascii bs p.1)
 
 digits_ascii : (bs : List ℕ) → list_all is_digit bs ≡ true → IsAscii bs
 digits_ascii [] h = IsAscii-nil
 digits_ascii (b ∷ bs) h = let p = both (is_digit b) (list_all is_digit bs) h in IsAscii-cons b bs (digit_below b p.0) (digits_ascii bs p.1)
 
-pub word_utf8 : (w : List ℕ) → is_plain_word w ≡ true → IsUtf8 w
-word_utf8 [] h = cc
-word_utf8 (b ∷ bs) h =
-    let p = both (is_letter b && list_all is_letter_or_digit bs) (not (is_reserved (b ∷ bs))) h in
-    let q = both (is_letter b) (list_all is_letter_or_digit bs) p.0 in
-    IsUtf8-from_ascii (b ∷ bs) (IsAscii-cons b bs (letter_below b q.0) (words_ascii bs q.1))
+pub run_utf8 : (bs : List ℕ) → list_all is_letter_or_digit bs ≡ true → IsUtf8 bs
+run_utf8 bs h = IsUtf8-from_ascii bs (run_ascii bs h)
 
 record Number (ds : List ℕ) : Type 0 where
   pub some : 1 ≤ length ds

@@ -8,11 +8,8 @@ use Rattle.std.specs.List.{list_all}
 use Rattle.std.specs.Str.{IsAscii}
 use Rattle.yaml_spec.specs.Bytes.{is_digit, is_letter, is_letter_or_digit, is_reserved}
 use Rattle.yaml_spec.specs.Flat.{is_plain_word, is_quoted_run, middle}
+use Rattle.yaml_spec.proofs.Numerals.{both, run_ascii}
 use Rattle.yaml_spec.specs.Text.{quoted_char, quoted_chars, quoted_text}
-
-pub both : (a b : Bool) → (a && b) ≡ true → (a ≡ true) × (b ≡ true)
-both true b h = (refl, h)
-both false b h = cc
 
 -- where a letter or a digit lies
 pub record IsRunByte (b : ℕ) : Type 0 where
@@ -23,12 +20,6 @@ pub record IsRunByte (b : ℕ) : Type 0 where
 
 pub run_byte : (b : ℕ) → is_letter_or_digit b ≡ true → IsRunByte b
 run_byte b h = record { low = grind (arith, nat_tests); high = grind (arith, nat_tests); no_colon = grind (arith, nat_tests); no_backslash = grind (arith, nat_tests) }
-
-ascii : (s : List ℕ) → list_all is_letter_or_digit s ≡ true → IsAscii s
-ascii [] h = IsAscii-nil
-ascii (b ∷ bs) h =
-    let p = both (is_letter_or_digit b) (list_all is_letter_or_digit bs) h in
-    let r = run_byte b p.0 in IsAscii-cons b bs (omega (arith, r.high)) (ascii bs p.1)
 
 quoted_char-run : (b : ℕ) → IsRunByte b → quoted_char b ≡ b ∷ []
 quoted_char-run b r =
@@ -47,7 +38,7 @@ quoted_chars-run (b ∷ bs) h =
 
 -- such a string in double quotes is itself between two quotes
 pub quoted_text-run : (s : List ℕ) → list_all is_letter_or_digit s ≡ true → quoted_text s ≡ 34 ∷ (s ++ 34 ∷ [])
-quoted_text-run s h = rw (chars-IsAscii s (ascii s h), quoted_chars-run s h) refl
+quoted_text-run s h = rw (chars-IsAscii s (run_ascii s h), quoted_chars-run s h) refl
 
 length-quoted : (s : List ℕ) → length (34 ∷ (s ++ 34 ∷ [])) ≡ length s + 2
 length-quoted s = omega (arith, length-append s (34 ∷ []))

@@ -6,7 +6,8 @@ use Rattle.yaml_spec.specs.Bytes.{all_bytes, is_digit, is_hex_digit, is_octal_di
 use Rattle.yaml_spec.specs.Flat.{is_plain_word, is_run}
 use Rattle.yaml_spec.specs.Scalars.{Form, bad_octal_form, bool_form, float_form, form, has_leading_zero, has_prefix, integer_form, is_float, null_form, octal_form, prefixed_form, some_of, string_form, unsigned, word_form}
 use Rattle.yaml_spec.specs.Text.{fits_plain}
-use Rattle.yaml_spec.proofs.RunsBack.{both, word_run}
+use Rattle.yaml_spec.proofs.Numerals.{both}
+use Rattle.yaml_spec.proofs.RunsBack.{word_run}
 
 -- the first test that holds decides
 abbrev by_tests : Bool → Bool → Bool → Bool → Bool → Bool → Bool → Bool → Bool → Bool → Form
