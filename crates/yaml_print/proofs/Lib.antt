@@ -4,3 +4,4 @@ pub mod Documents
 pub mod Indents
 pub mod Members
 pub mod Putting
+pub mod ReadBack

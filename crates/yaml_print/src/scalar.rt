@@ -6,12 +6,12 @@ ghost use Rattle.ytt_outside.specs.Sink.{SinkCounts};
 ghost use Rattle.yaml_print.specs.LineText.{line_text};
 ghost use Rattle.yaml_print.specs.Pending.{pending};
 ghost use Rattle.yaml_print.specs.Puts.{Puts};
-ghost use Rattle.yaml_spec.specs.Text.{key_text, line_end, string_text};
+ghost use Rattle.yaml_spec.specs.Text.{fits_plain, key_text, line_end, string_text};
 
 use crate::pending::Pending;
 use crate::quoted::write_quoted;
 use itoa::Buffer;
-use yaml_scalar::is_plain_word;
+use yaml_scalar::{all_letters_or_digits, is_string};
 use ytt_base::tree::{Key, Tree};
 use ytt_outside::sink::{Sink, SinkFailed};
 
@@ -36,6 +36,14 @@ fn write_int<O: Sink>(n: i128, out: &mut O, waiting: &mut Pending<'_>) -> Result
     waiting.put(out, buffer.format(n).as_bytes())
 }
 
+/// Whether the string is written as it stands: ASCII letters and digits that are read as this
+/// string.
+fn fits_plain(text: &[u8]) -> bool
+    ensures { result ≡ fits_plain text.now }
+{
+    !text.is_empty() && all_letters_or_digits(text) && is_string(text)
+}
+
 /// The string in the first style that fits: as it stands, else in double quotes.
 fn write_string<O: Sink>(
     text: &str,
@@ -46,7 +54,7 @@ fn write_string<O: Sink>(
     ensures cause { SinkCounts (O.faults out.old) (O.faults out.new) result }
     ensures same_buffer { waiting.new.bytes.ghost_name ≡ waiting.old.bytes.ghost_name }
 {
-    if is_plain_word(text.as_bytes()) {
+    if fits_plain(text.as_bytes()) {
         waiting.put(out, text.as_bytes())
     } else {
         write_quoted(text, out, waiting)

@@ -12,7 +12,7 @@ use Rattle.ytt_base.specs.declared.fault.Place.{Place}
 use Rattle.yaml_spec.specs.Bytes.{all_bytes, is_digit, is_letter_or_digit}
 use Rattle.yaml_spec.specs.Flat.{any_value, documents_in, entry_at, is_colon, is_plain_word, is_quoted_run, is_run, one_map, pairs_in, Reads}
 use Rattle.yaml_spec.specs.Lines.{lines}
-use Rattle.yaml_spec.specs.ReadsBack.{AreFlat, AreFlatPairs, IsValue}
+use Rattle.yaml_spec.specs.ReadsBack.{AreFlat, AreFlatPairs, IsValue, ReadsAlone}
 use Rattle.yaml_spec.specs.Text.{Text, fits_plain, key_text, map_text, pair_text, quoted_text, string_text}
 use Rattle.yaml_spec.proofs.IntegersBack.{decimal-digits, form-decimal, plain-decimal}
 use Rattle.yaml_spec.proofs.WordsBack.{word_fits}
@@ -186,3 +186,7 @@ reads_back (tree (scalar s) us) h file = elim h [ ]
 -- one text reads as at most one list
 pub reads_one : (bytes : List ℕ) (ts us : Trees) → Reads bytes ts → Reads bytes us → ts ≡ us
 reads_one bytes ts us h k = let e : Ok ts ≡ Ok us = sym (h 0) ∙ k 0 in cc
+
+-- such documents are all that their text reads as
+pub reads_alone : (ts : Trees) → AreFlat ts → ReadsAlone (Text ts) ts
+reads_alone ts h = record { reads = reads_back ts h; alone = λ us k. reads_one (Text ts) us ts k (reads_back ts h) }

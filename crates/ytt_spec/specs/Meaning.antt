@@ -32,6 +32,9 @@ largest_file = 8388608
 abbrev pub missing : List ℕ → Fault
 missing path = record { kind = kind.FileMissing; place = place_at 0 0; detail = path }
 
+abbrev pub too_large : List ℕ → Fault
+too_large path = record { kind = kind.FileTooLarge; place = place_at 0 0; detail = path }
+
 -- a form that isn't built yet, of no line
 abbrev pub not_built : Fault
 not_built = fault_at kind.NotBuilt (place_at 0 0)
@@ -40,4 +43,4 @@ not_built = fault_at kind.NotBuilt (place_at 0 0)
 abbrev pub meaning : List ℕ → Standing → Outcome Trees
 meaning path nothing = Err (missing path)
 meaning path (folder names) = Err not_built
-meaning path (file bytes) = if not (is_template (last_part path)) || nat_lt largest_file (length bytes) then Err not_built else read_trees 1 bytes
+meaning path (file bytes) = if not (is_template (last_part path)) then Err not_built else if nat_lt largest_file (length bytes) then Err (too_large path) else read_trees 1 bytes
