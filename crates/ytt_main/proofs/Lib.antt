@@ -1,3 +1,4 @@
 pub mod Causes
 pub mod Names
+pub mod ReadBack
 pub mod Refusals

@@ -1,6 +1,6 @@
 // What a request means over the files that are handed in.
 ghost use Rattle.std.specs.Prelude.{◌≡◌, IfSome, true};
-ghost use Rattle.ytt_spec.specs.Meaning.{has_ending, is_template, last_part, meaning, missing, not_built};
+ghost use Rattle.ytt_spec.specs.Meaning.{has_ending, is_template, last_part, meaning, missing, not_built, too_large};
 ghost use Rattle.ytt_main.specs.Rendering.{Counts, IsNoFolder, IsReadFailure, Means, Refuses};
 
 use std::alloc::Global;
@@ -45,6 +45,19 @@ fn missing(alloc: Global, path: &str) -> RenderStop
     match Text::of(alloc, path) {
         Ok(detail) => RenderStop::Fault(Fault {
             kind: FaultKind::FileMissing,
+            place: Place { file: 0, line: 0 },
+            detail,
+        }),
+        Err(_) => RenderStop::Memory,
+    }
+}
+
+fn too_large(alloc: Global, path: &str) -> RenderStop
+    ensures { Refuses (too_large path.now) result }
+{
+    match Text::of(alloc, path) {
+        Ok(detail) => RenderStop::Fault(Fault {
+            kind: FaultKind::FileTooLarge,
             place: Place { file: 0, line: 0 },
             detail,
         }),
@@ -101,7 +114,7 @@ fn read_file<F: Files>(alloc: Global, path: &str, files: &mut F) -> Result<Trees
         Err(FilesStop::Failed) => Err(read_failed(alloc, path)),
         Err(FilesStop::Memory) => Err(RenderStop::Memory),
         Ok(Got::Missing) => Err(missing(alloc, path)),
-        Ok(Got::TooLarge) => Err(not_built(alloc)),
+        Ok(Got::TooLarge) => Err(too_large(alloc, path)),
         Ok(Got::Bytes(bytes)) => match read_plain(alloc, bytes.as_slice(), 1) {
             Ok(trees) => Ok(trees),
             Err(Stop::Fault(fault)) => Err(RenderStop::Fault(fault)),

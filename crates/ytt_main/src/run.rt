@@ -2,7 +2,7 @@
 ghost use Rattle.std.specs.Prelude.{◌≡◌, ◌≢◌, ◌⊎◌, IfSome, map, string_bytes};
 ghost use Rattle.ytt_outside.specs.Counts.{NoneRose, Rose};
 ghost use Rattle.ytt_spec.specs.Due.{due};
-ghost use Rattle.ytt_main.specs.Headline.{IsReadFault, IsUsage, IsWhole, Meets};
+ghost use Rattle.ytt_main.specs.Headline.{IsReadBack, IsReadFault, IsUsage, IsWhole, Meets};
 
 use crate::answer::{Answer, answer_words};
 use std::alloc::Global;
@@ -53,6 +53,8 @@ pub fn ytt_main<F: Files, O: Sink, E: Sink>(
     ensures headline { IfSome (F.tree files.old) (λ tree. NoneRose (F.faults files.old) (F.faults files.new) → NoneRose (O.faults out.old) (O.faults out.new)
         → NoneRose (E.faults err.old) (E.faults err.new) → result ≢ Status.Memory
         → Meets (due (map string_bytes words.now) tree) result (O.held out.old) (O.held out.new) (E.held err.old) (E.held err.new)) }
+    // What `out` then holds more reads back as the documents that are meant, and as no others.
+    ensures reads_back { result ≡ Status.Done → IfSome (F.tree files.old) (λ tree. IsReadBack (map string_bytes words.now) tree (O.held out.old) (O.held out.new)) }
     // Only documents are written to `out`.
     ensures out_unchanged { result ≢ Status.Done → result ≢ Status.WriteFault → O.held out.new ≡ O.held out.old }
 

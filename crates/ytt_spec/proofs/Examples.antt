@@ -1,6 +1,9 @@
 -- What the definitions give for some command lines, by computing.
 use Rattle.std.proofs.Common.{◌≡◌, ℕ, List, [], ◌∷◌, refl, codes}
 use Rattle.std.specs.Fmt.{digits}
+use Rattle.std.specs.Str.{chars}
+use lib.Utf8.{encode}
+use Rattle.yaml_spec.specs.Scalars.{form}
 use Rattle.ytt_outside.specs.Standing.{Standing, nothing, file, folder}
 use Rattle.ytt_spec.specs.Due.{Due, done, fault, usage, due}
 
@@ -12,8 +15,16 @@ abbrev due_of : List ℕ → Due
 due_of text = due_over (file text) (codes "render" ∷ codes "-f" ∷ codes "a.yml" ∷ [])
 
 prints_itself : due_of (codes "name: web\nport: 80\n") ≡ done (codes "name: web\nport: 80\n")
-unfolding digits
+unfolding digits form
 prints_itself = refl
+
+reads_quoted : due_of (codes "a: \"1\"\nb: \"yes\"\nc: \"\"\n") ≡ done (codes "a: \"1\"\nb: \"yes\"\nc: \"\"\n")
+unfolding chars encode form
+reads_quoted = refl
+
+refuses_float : due_of (codes "v: 1.5\n") ≡ fault (codes "error: FloatScalar at a.yml:1\n")
+unfolding digits
+refuses_float = refl
 
 empty_file : due_of [] ≡ done []
 empty_file = refl
