@@ -101,7 +101,7 @@ fn a_path_of_one_byte_more(rt: HostRuntime) -> Result<(), Fail> {
 fn the_largest_file_and_one_byte_more(rt: HostRuntime) -> Result<(), Fail> {
     for (more, err) in [
         (0, "error: NotBuilt at a.yml:1\n"),
-        (1, "error: NotBuilt\n"),
+        (1, "error: FileTooLarge: a.yml\n"),
     ] {
         let text = vec![in rt.alloc(); b'\n'; 8388608 + more]?;
         let ran = run(rt.alloc(), WORDS, "a.yml", text.as_slice(), NOTHING)?;

@@ -1,11 +1,13 @@
 // The printer on trees that can't be read yet.
 
+use crate::runs::{NOTHING, compare, run};
 use sqlite_items::Items;
 use std::alloc::Global;
 use std::test::Fail;
 use yaml_print::print_to;
 use ytt_base::text::Text;
 use ytt_base::tree::{Key, Pairs, Tree, Trees, push_pair};
+use ytt_main::Status;
 use ytt_outside::mem_sink::MemSink;
 
 fn string(alloc: Global, text: &str) -> Result<Tree, Fail> {
@@ -61,6 +63,11 @@ fn strings(rt: HostRuntime) -> Result<(), Fail> {
         ("NO", "\"NO\"\n"),
         ("0644", "\"0644\"\n"),
         ("1e3", "\"1e3\"\n"),
+        ("0x1F", "\"0x1F\"\n"),
+        ("0o7", "\"0o7\"\n"),
+        ("7up", "7up\n"),
+        ("0x1G", "0x1G\n"),
+        ("1e3e", "1e3e\n"),
         ("a\"b\\c\n\t\r", "\"a\\\"b\\\\c\\n\\t\\r\"\n"),
         ("\u{1}\u{7f}\u{85}\u{a0}", "\"\\x01\\x7F\\x85\\xA0\"\n"),
         ("\u{2028}\u{feff}é", "\"\\u2028\\uFEFFé\"\n"),
@@ -68,6 +75,25 @@ fn strings(rt: HostRuntime) -> Result<(), Fail> {
         let mut trees: Trees = Items::new(alloc);
         trees.push(string(alloc, text)?)?;
         assert_eq!(rt; printed(alloc, &trees)?.bytes(), want.as_bytes());
+    }
+    Ok(())
+}
+
+/// A map of one string under the key `a`, printed, and that text rendered.
+#[test]
+fn strings_that_read_back(rt: HostRuntime) -> Result<(), Fail> {
+    let alloc = rt.alloc();
+    for text in ["0644", "Null", "NO", "1e3", "yes", "", "web"] {
+        let mut trees: Trees = Items::new(alloc);
+        trees.push(map(
+            alloc,
+            Key::Str(Text::of(alloc, "a")?),
+            string(alloc, text)?,
+        )?)?;
+        let out = printed(alloc, &trees)?;
+        let words = ["render", "-f", "a.yml"];
+        let ran = run(alloc, &words, "a.yml", out.bytes(), NOTHING)?;
+        compare(&rt, &ran, Status::Done, out.bytes(), "");
     }
     Ok(())
 }

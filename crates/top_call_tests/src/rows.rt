@@ -12,6 +12,16 @@ const PRINTED: &[(&str, &str)] = &[
     ("a: -7\nb: 0\n", "a: -7\nb: 0\n"),
     ("a: -0\n", "a: 0\n"),
     (
+        "a: \"1\"\nb: \"yes\"\nc: \"\"\n",
+        "a: \"1\"\nb: \"yes\"\nc: \"\"\n",
+    ),
+    (
+        "a: \"web\"\nb: \"7up\"\nc: \"0x1g\"\n",
+        "a: web\nb: 7up\nc: 0x1g\n",
+    ),
+    ("a: \"0644\"\n", "a: \"0644\"\n"),
+    ("a: \"0x1f\"\nb: \"1e3\"\n", "a: \"0x1f\"\nb: \"1e3\"\n"),
+    (
         "a: 99999999999999999999999999999999999999\n",
         "a: 99999999999999999999999999999999999999\n",
     ),
@@ -21,21 +31,30 @@ const PRINTED: &[(&str, &str)] = &[
     ),
 ];
 
-/// Texts of `a.yml` with a line outside the form, and that line's number.
+/// Texts of `a.yml` with a line that is refused, and the first refusal.
 const REFUSED: &[(&str, &str)] = &[
-    ("a: 1\nb: [1]\n", "2"),
-    ("a: 1\nb: [1]", "2"),
-    ("a: 1\r\nb: 2\r\n", "1"),
-    ("a: 1\nb: 2\na: 3\n", "3"),
-    ("a: 100000000000000000000000000000000000000\n", "1"),
-    ("a: 01\n", "1"),
-    ("a: \"1\"\n", "1"),
-    ("a: 1\nv: 1.5\n", "2"),
-    ("a: yes\n", "1"),
-    ("Null: 1\n", "1"),
-    ("a: 1\n\nb: 2\n", "2"),
-    ("a:  1\n", "1"),
-    ("a: é\n", "1"),
+    ("a: 1\nb: [1]\n", "NotBuilt at a.yml:2"),
+    ("a: 1\nb: [1]", "NotBuilt at a.yml:2"),
+    ("a: 1\r\nb: 2\r\n", "NotBuilt at a.yml:1"),
+    ("a: 1\nb: 2\na: 3\n", "NotBuilt at a.yml:3"),
+    (
+        "a: 100000000000000000000000000000000000000\n",
+        "NotBuilt at a.yml:1",
+    ),
+    ("a: 01\n", "NotBuilt at a.yml:1"),
+    ("a: 7up\n", "NotBuilt at a.yml:1"),
+    ("a: 'b'\n", "NotBuilt at a.yml:1"),
+    ("a: \"b c\"\n", "NotBuilt at a.yml:1"),
+    ("a: \"b\n", "NotBuilt at a.yml:1"),
+    ("v: 1.5\n", "FloatScalar at a.yml:1"),
+    ("a: 1\nv: -0.5\n", "FloatScalar at a.yml:2"),
+    ("a: [1]\nv: 1.5\n", "NotBuilt at a.yml:1"),
+    ("v: 1.5\na: [1]\n", "FloatScalar at a.yml:1"),
+    ("a: yes\n", "NotBuilt at a.yml:1"),
+    ("Null: 1\n", "NotBuilt at a.yml:1"),
+    ("a: 1\n\nb: 2\n", "NotBuilt at a.yml:2"),
+    ("a:  1\n", "NotBuilt at a.yml:1"),
+    ("a: é\n", "NotBuilt at a.yml:1"),
 ];
 
 /// Words that are no request, and the number of the first at which none goes on.
@@ -73,10 +92,10 @@ fn texts_that_are_printed(rt: HostRuntime) -> Result<(), Fail> {
 
 #[test]
 fn texts_that_are_refused(rt: HostRuntime) -> Result<(), Fail> {
-    for (text, line) in REFUSED {
+    for (text, fault) in REFUSED {
         let words = ["render", "-f", "x/y/a.yml"];
         let ran = run(rt.alloc(), &words, "x/y/a.yml", text.as_bytes(), NOTHING)?;
-        let err = format!(in rt.alloc(); "error: NotBuilt at a.yml:{line}\n")?;
+        let err = format!(in rt.alloc(); "error: {fault}\n")?;
         compare(&rt, &ran, Status::Fault, b"", err.as_str());
     }
     Ok(())
