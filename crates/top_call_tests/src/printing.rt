@@ -85,11 +85,7 @@ fn strings_that_read_back(rt: HostRuntime) -> Result<(), Fail> {
     let alloc = rt.alloc();
     for text in ["0644", "Null", "NO", "1e3", "yes", "", "web"] {
         let mut trees: Trees = Items::new(alloc);
-        trees.push(map(
-            alloc,
-            Key::Str(Text::of(alloc, "a")?),
-            string(alloc, text)?,
-        )?)?;
+        trees.push(map(alloc, Key::Str(Text::of(alloc, "a")?), string(alloc, text)?)?)?;
         let out = printed(alloc, &trees)?;
         let words = ["render", "-f", "a.yml"];
         let ran = run(alloc, &words, "a.yml", out.bytes(), NOTHING)?;

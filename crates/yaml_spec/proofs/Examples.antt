@@ -3,11 +3,12 @@ use Rattle.std.proofs.Common.{◌≡◌, ℕ, true, List, [], ◌∷◌, ◌++�
 use Rattle.std.specs.Fmt.{digits}
 use Rattle.std.specs.Str.{chars}
 use lib.Utf8.{encode}
-use Rattle.ytt_base.specs.Outcomes.{fault_at, place_at}
+use Rattle.ytt_base.specs.Outcomes.{Outcome, fault_at, place_at}
 use Rattle.ytt_base.specs.declared.fault.FaultKind.TheVariants as kind
-use Rattle.ytt_base.specs.Trees.{null, boolean, integer, string, Tree, scalar, list, map, no_trees, tree, no_pairs, pair}
-use Rattle.yaml_spec.specs.Flat.{read_trees, not_built}
-use Rattle.yaml_spec.specs.Scalars.{form}
+use Rattle.ytt_base.specs.Trees.{null, boolean, integer, string, Tree, scalar, list, map, Trees, no_trees, tree, no_pairs, pair}
+use Rattle.yaml_spec.specs.Flat.{any_value, documents_in, read_trees, not_built}
+use Rattle.yaml_spec.specs.Lines.{lines}
+use Rattle.yaml_spec.specs.Scalars.{form, plain, null_form, octal_form, bad_octal_form, integer_form, prefixed_form, float_form, word_form, string_form}
 use Rattle.yaml_spec.specs.Text.{Text}
 
 abbrev text : List ℕ → Tree
@@ -53,6 +54,70 @@ refuses_two_spaces = refl
 
 refuses_leading_zero : read_trees 1 (codes "a: 01\n") ≡ not_built (place_at 1 1)
 refuses_leading_zero = refl
+
+-- ---- the forms of plain scalars, and reading back
+
+form_null : form (codes "~") ≡ null_form
+unfolding form
+form_null = refl
+
+form_octal : form (codes "-0644") ≡ octal_form
+unfolding form
+form_octal = refl
+
+form_bad_octal : form (codes "089") ≡ bad_octal_form
+unfolding form
+form_bad_octal = refl
+
+form_integer : form (codes "+12") ≡ integer_form
+unfolding form
+form_integer = refl
+
+form_prefixed : form (codes "0x1F") ≡ prefixed_form 16
+unfolding form
+form_prefixed = refl
+
+form_float : form (codes "1e3") ≡ float_form
+unfolding form
+form_float = refl
+
+form_infinity : form (codes "-.inf") ≡ float_form
+unfolding form
+form_infinity = refl
+
+form_word : form (codes "No") ≡ word_form
+unfolding form
+form_word = refl
+
+form_string : form (codes "7up") ≡ string_form
+unfolding form
+form_string = refl
+
+abbrev value_of_a : List ℕ → Outcome Trees
+value_of_a value = documents_in any_value 1 (lines (codes "a: " ++ value))
+
+abbrev a_is : Tree → Outcome Trees
+a_is t = Ok (tree (map (pair (string (codes "a")) t no_pairs)) no_trees)
+
+reads_string_back : value_of_a (codes "7up") ≡ a_is (text (codes "7up"))
+unfolding form
+reads_string_back = refl
+
+reads_least_back : value_of_a (codes "-170141183460469231731687303715884105728") ≡ a_is (scalar (integer (negsuc 170141183460469231731687303715884105727)))
+unfolding form plain
+reads_least_back = refl
+
+reads_greatest_back : value_of_a (codes "170141183460469231731687303715884105727") ≡ a_is (scalar (integer (pos 170141183460469231731687303715884105727)))
+unfolding form plain
+reads_greatest_back = refl
+
+refuses_wider : value_of_a (codes "170141183460469231731687303715884105728") ≡ Err (fault_at kind.IntWide (place_at 1 1))
+unfolding form plain
+refuses_wider = refl
+
+refuses_word_back : value_of_a (codes "yes") ≡ not_built (place_at 1 1)
+unfolding form
+refuses_word_back = refl
 
 -- ---- printing
 

@@ -147,8 +147,8 @@ first_line : (k : List ℕ) (t : Tree) (ps : Pairs) → is_plain_word k ≡ true
 first_line k t ps h b =
     let r = run_line k (word_run k h) in
     let e : pairs_text (pair (string k) t ps) ≡ (k ++ 58 ∷ 32 ∷ value_text t) ++ 10 ∷ pairs_text ps =
-        rw (word_line k h, b.behind)
-        (ap (λ s. k ++ 58 ∷ 32 ∷ s) (append_assoc (value_text t) (10 ∷ []) (pairs_text ps)) ∙ sym (append_assoc k (58 ∷ 32 ∷ value_text t) (10 ∷ pairs_text ps)))
+    rw (word_line k h, b.behind)
+    (ap (λ s. k ++ 58 ∷ 32 ∷ s) (append_assoc (value_text t) (10 ∷ []) (pairs_text ps)) ∙ sym (append_assoc k (58 ∷ 32 ∷ value_text t) (10 ∷ pairs_text ps)))
     in ap lines e ∙ lines-line (k ++ 58 ∷ 32 ∷ value_text t) (pairs_text ps) (one_line-append k (58 ∷ 32 ∷ value_text t) r.0 (refl, (refl, b.line)))
 
 entry_back : (place : Place) (k : List ℕ) (t : Tree) → is_plain_word k ≡ true → IsBack t (value_text t) → entry_at any_value place (k ++ 58 ∷ 32 ∷ value_text t) ≡ Ok (string k, t)

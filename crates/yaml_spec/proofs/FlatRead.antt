@@ -1,12 +1,12 @@
 -- What is read from an input is of the form that reads back.
-use Rattle.std.proofs.Common.{◌≡◌, ℕ, ◌+◌, Bool, true, false, ◌&&◌, cond, nat_le, eqb, List, [], ◌∷◌, ◌++◌, length, ◌-◌, drop, slice_index, Ok, Err, refl, sym, ap, ◌∙◌}
+use Rattle.std.proofs.Common.{◌≡◌, ℕ, ◌+◌, Bool, true, false, ◌&&◌, nat_le, eqb, List, [], ◌∷◌, ◌++◌, length, ◌-◌, drop, slice_index, Ok, Err, refl, sym, ap, ◌∙◌}
 use Rattle.std.specs.List.{list_all, before_first, after_first}
 use Rattle.std.specs.Str.Parse.{signed_digits_value}
 use Rattle.ytt_base.specs.Outcomes.{Outcome, ◌>>=◌, place_at}
 use Rattle.ytt_base.specs.Trees.{Scalar, integer, string, Tree, scalar, map, Trees, no_trees, tree, Pairs, no_pairs, pair, has_key}
 use Rattle.ytt_base.specs.declared.fault.Place.{Place}
 use Rattle.yaml_spec.specs.Bytes.{is_letter_or_digit, first}
-use Rattle.yaml_spec.specs.Flat.{Entry, before_pairs, documents_in, entry_at, entry_from, is_colon, is_integer, is_plain_word, is_point_number, is_quoted_run, middle, no_value, not_built, one_map, pairs_in, read_trees, unrepeated, value_at, with_key}
+use Rattle.yaml_spec.specs.Flat.{Entry, before_pairs, documents_in, entry_at, entry_from, is_colon, is_integer, is_plain_word, is_point_number, is_quoted_run, middle, no_value, one_map, pairs_in, read_trees, unrepeated, value_at, with_key}
 use Rattle.yaml_spec.specs.Lines.{lines}
 use Rattle.yaml_spec.specs.ReadsBack.{AreFlat, AreFlatPairs, IsValue}
 use Rattle.yaml_spec.proofs.Numerals.{both, integer_fits}

@@ -10,8 +10,8 @@ use Rattle.std.specs.Str.Parse.{AllDigits, IsNumeral, digits_value, signed_digit
 use Rattle.std.specs.Char.{digit_value}
 use Rattle.std.specs.List.{list_all}
 use mir.Syntax.{w128}
-use Rattle.yaml_spec.specs.Bytes.{is_letter, is_digit, is_letter_or_digit, is_reserved}
-use Rattle.yaml_spec.specs.Flat.{is_plain_word, is_number, is_integer}
+use Rattle.yaml_spec.specs.Bytes.{is_digit, is_letter_or_digit}
+use Rattle.yaml_spec.specs.Flat.{is_number, is_integer}
 
 pub both : (a b : Bool) → (a && b) ≡ true → (a ≡ true) × (b ≡ true)
 both true b h = (refl, h)

@@ -1,11 +1,9 @@
 -- Strings of letters and digits, as they are printed, and what their bytes are.
-use Rattle.std.proofs.Common.{◌≡◌, ℕ, ◌+◌, ◌-◌, ◌≤◌, Bool, true, false, not, ◌&&◌, ◌||◌, eqb, nat_le, nat_lt, List, [], ◌∷◌, ◌++◌, length, take, slice_index, refl, ap, ◌∙◌, arith, length-append, ne_eqb, le-leb}
+use Rattle.std.proofs.Common.{◌≡◌, ℕ, ◌+◌, ◌-◌, ◌≤◌, true, false, not, ◌&&◌, ◌||◌, eqb, nat_le, nat_lt, List, [], ◌∷◌, ◌++◌, length, take, slice_index, refl, ap, ◌∙◌, arith, length-append, ne_eqb, le-leb}
 use Rattle.std.proofs.Math.Seq.{take-append_seam, get_or-append_seam}
 use Rattle.std.proofs.lemmas.Bool.Decides.{nat_tests}
 use Rattle.std.proofs.lemmas.Str.{chars-IsAscii, encode_ascii}
-use Rattle.std.proofs.lemmas.Str.Ascii.{IsAscii-nil, IsAscii-cons}
 use Rattle.std.specs.List.{list_all}
-use Rattle.std.specs.Str.{IsAscii}
 use Rattle.yaml_spec.specs.Bytes.{is_digit, is_letter, is_letter_or_digit, is_reserved}
 use Rattle.yaml_spec.specs.Flat.{is_plain_word, is_quoted_run, middle}
 use Rattle.yaml_spec.proofs.Numerals.{both, run_ascii}

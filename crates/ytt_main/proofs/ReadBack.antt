@@ -1,7 +1,8 @@
 -- Where documents are due, what was printed reads back as them.
-use Rattle.std.proofs.Common.{◌≡◌, ℕ, Bool, true, false, not, nat_lt, cond, List, length, Option, Some, None, IfSome, Ok, Err, refl, sym, ap, ◌∙◌}
+use Rattle.std.proofs.Common.{◌≡◌, ℕ, Bool, true, false, not, nat_lt, cond, List, length, Option, Some, None, IfSome, Ok, Err, refl, ap, ◌∙◌}
 use Rattle.ytt_base.specs.Outcomes.{Outcome}
 use Rattle.ytt_base.specs.Trees.{Trees}
+use Rattle.ytt_base.specs.declared.fault.FaultKind.TheVariants as kinds
 use Rattle.ytt_outside.specs.Sink.{Grows, grown}
 use Rattle.ytt_outside.specs.Standing.{Standing, nothing, file, folder}
 use Rattle.yaml_spec.proofs.FlatBack.{reads_alone}
@@ -9,14 +10,13 @@ use Rattle.yaml_spec.proofs.FlatRead.{read_flat}
 use Rattle.yaml_spec.specs.Flat.{read_trees}
 use Rattle.yaml_spec.specs.ReadsBack.{AreFlat}
 use Rattle.yaml_spec.specs.Text.{Text}
-use Rattle.yaml_print.specs.ReadBack.{GrowsReadable}
 use Rattle.ytt_spec.specs.Due.{done, due, due_asked, due_for}
-use Rattle.ytt_spec.specs.Meaning.{is_template, largest_file, last_part, meaning, not_built, too_large}
+use Rattle.ytt_spec.specs.Meaning.{is_template, largest_file, last_part, meaning, not_built, path_fault}
 use Rattle.ytt_spec.specs.Words.{Asked, asked, render, wrong}
 use Rattle.ytt_main.specs.Headline.{IsReadBack}
 
 flat_read : (path bytes : List ℕ) (ds : Trees) (template large : Bool)
-    → cond (not template) (Err not_built) (cond large (Err (too_large path)) (read_trees 1 bytes)) ≡ Ok ds → AreFlat ds
+    → cond (not template) (Err not_built) (cond large (Err (path_fault kinds.FileTooLarge path)) (read_trees 1 bytes)) ≡ Ok ds → AreFlat ds
 flat_read path bytes ds false large h = cc
 flat_read path bytes ds true true h = cc
 flat_read path bytes ds true false h = read_flat 1 bytes ds h

@@ -1,6 +1,6 @@
 // What a request means over the files that are handed in.
 ghost use Rattle.std.specs.Prelude.{◌≡◌, IfSome, true};
-ghost use Rattle.ytt_spec.specs.Meaning.{has_ending, is_template, last_part, meaning, missing, not_built, too_large};
+ghost use Rattle.ytt_spec.specs.Meaning.{has_ending, is_template, last_part, meaning, not_built, path_fault};
 ghost use Rattle.ytt_main.specs.Rendering.{Counts, IsNoFolder, IsReadFailure, Means, Refuses};
 
 use std::alloc::Global;
@@ -39,25 +39,13 @@ fn is_template(name: &[u8]) -> bool
         && !(name.ends_with(b".lib.yml".as_slice()) || name.ends_with(b".lib.yaml".as_slice()))
 }
 
-fn missing(alloc: Global, path: &str) -> RenderStop
-    ensures { Refuses (missing path.now) result }
+/// The fault of a whole path, of no line.
+fn path_fault(alloc: Global, kind: FaultKind, path: &str) -> RenderStop
+    ensures { Refuses (path_fault kind path.now) result }
 {
     match Text::of(alloc, path) {
         Ok(detail) => RenderStop::Fault(Fault {
-            kind: FaultKind::FileMissing,
-            place: Place { file: 0, line: 0 },
-            detail,
-        }),
-        Err(_) => RenderStop::Memory,
-    }
-}
-
-fn too_large(alloc: Global, path: &str) -> RenderStop
-    ensures { Refuses (too_large path.now) result }
-{
-    match Text::of(alloc, path) {
-        Ok(detail) => RenderStop::Fault(Fault {
-            kind: FaultKind::FileTooLarge,
+            kind,
             place: Place { file: 0, line: 0 },
             detail,
         }),
@@ -93,7 +81,7 @@ pub fn render<F: Files>(alloc: Global, path: &str, files: &mut F) -> Result<Tree
     match files.kind(path) {
         Err(FilesStop::Failed) => return Err(read_failed(alloc, path)),
         Err(FilesStop::Memory) => return Err(RenderStop::Memory),
-        Ok(PathKind::Missing) => return Err(missing(alloc, path)),
+        Ok(PathKind::Missing) => return Err(path_fault(alloc, FaultKind::FileMissing, path)),
         Ok(PathKind::Folder) => return Err(not_built(alloc)),
         Ok(PathKind::File) => {}
     }
@@ -113,8 +101,8 @@ fn read_file<F: Files>(alloc: Global, path: &str, files: &mut F) -> Result<Trees
     match files.read(alloc, path, LARGEST_FILE) {
         Err(FilesStop::Failed) => Err(read_failed(alloc, path)),
         Err(FilesStop::Memory) => Err(RenderStop::Memory),
-        Ok(Got::Missing) => Err(missing(alloc, path)),
-        Ok(Got::TooLarge) => Err(too_large(alloc, path)),
+        Ok(Got::Missing) => Err(path_fault(alloc, FaultKind::FileMissing, path)),
+        Ok(Got::TooLarge) => Err(path_fault(alloc, FaultKind::FileTooLarge, path)),
         Ok(Got::Bytes(bytes)) => match read_plain(alloc, bytes.as_slice(), 1) {
             Ok(trees) => Ok(trees),
             Err(Stop::Fault(fault)) => Err(RenderStop::Fault(fault)),

@@ -2,6 +2,7 @@
 use Rattle.std.specs.Prelude.{ℕ, nat_lt, nat_eq, ◌==◌, ◌||◌, ◌&&◌, not, Bool, List, [], ◌∷◌, length, codes, Err, if◌then◌else◌}
 use Rattle.std.specs.List.{ends_with, list_any}
 use Rattle.ytt_base.specs.declared.fault.Fault.{Fault}
+use Rattle.ytt_base.specs.declared.fault.FaultKind.{FaultKind}
 use Rattle.ytt_base.specs.declared.fault.FaultKind.TheVariants as kind
 use Rattle.ytt_base.specs.Outcomes.{Outcome, fault_at, place_at}
 use Rattle.ytt_base.specs.Trees.{Trees}
@@ -29,11 +30,9 @@ is_template name =
 abbrev pub largest_file : ℕ
 largest_file = 8388608
 
-abbrev pub missing : List ℕ → Fault
-missing path = record { kind = kind.FileMissing; place = place_at 0 0; detail = path }
-
-abbrev pub too_large : List ℕ → Fault
-too_large path = record { kind = kind.FileTooLarge; place = place_at 0 0; detail = path }
+-- a fault of a whole path, of no line
+abbrev pub path_fault : FaultKind → List ℕ → Fault
+path_fault k path = record { kind = k; place = place_at 0 0; detail = path }
 
 -- a form that isn't built yet, of no line
 abbrev pub not_built : Fault
@@ -41,6 +40,6 @@ not_built = fault_at kind.NotBuilt (place_at 0 0)
 
 -- What a path means, by what stands at it: the documents of a template file.
 abbrev pub meaning : List ℕ → Standing → Outcome Trees
-meaning path nothing = Err (missing path)
+meaning path nothing = Err (path_fault kind.FileMissing path)
 meaning path (folder names) = Err not_built
-meaning path (file bytes) = if not (is_template (last_part path)) then Err not_built else if nat_lt largest_file (length bytes) then Err (too_large path) else read_trees 1 bytes
+meaning path (file bytes) = if not (is_template (last_part path)) then Err not_built else if nat_lt largest_file (length bytes) then Err (path_fault kind.FileTooLarge path) else read_trees 1 bytes
