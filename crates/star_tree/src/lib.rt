@@ -1,0 +1,8 @@
+//! Syntax trees of Starlark code, and programs.
+#![tactic(auto)]
+
+mod expr;
+mod program;
+
+pub use expr::{BinOp, Expr, UnOp};
+pub use program::{Holds, Instr, Instrs, ItemKind, NodeOp, Program};
