@@ -1,0 +1,2 @@
+//! The definitions of templates and of their meaning. They stand in `specs/`.
+#![tactic(auto)]
