@@ -10,6 +10,8 @@ use Rattle.template_spec.specs.Template as plain
 use Rattle.template_spec.specs.Template.{Notes, no_notes, note, no_key, written_key, node, written_value, value_from, pairs, elements, Items, no_items, an_item}
 use Rattle.template_tree.specs.declared.tree.TNote.{TNote}
 use Rattle.template_tree.specs.declared.tree.TItem.{TItem, fold-TItem}
+use Rattle.template_tree.specs.declared.tree.TNode.{TNode, fold-TNode}
+use Rattle.template_tree.specs.declared.tree.TContent.{TContent, fold-TContent}
 use Rattle.template_tree.specs.declared.tree.TContent.TheOpen.{TContent-F, TItem-F, TNode-F}
 
 abbrev pub notes_of : (file : ℕ) → List TNote → Notes
@@ -46,12 +48,21 @@ item_step (TItem-F.Node n) = n
 abbrev pub node_step : (file : ℕ) → TNode-F plain.Content Standing Standing → Standing
 node_step file n = λ kind. node n.place kind (notes_of file n.notes) (in_key n.key) (in_content file n.value n.content)
 
--- ---- all levels
+-- ---- all levels, in a file of this number
 
--- an item of a file of this number
+abbrev pub content_of : (file : ℕ) → TContent → plain.Content
+content_of file = fold-TContent plain.Content Standing Standing content_step item_step (node_step file)
+
+abbrev pub node_of : (file : ℕ) → TNode → Standing
+node_of file = fold-TNode plain.Content Standing Standing content_step item_step (node_step file)
+
 abbrev pub item_of : (file : ℕ) → TItem → Standing
 item_of file = fold-TItem plain.Content Standing Standing content_step item_step (node_step file)
 
+-- items that stand where items are of this kind
+abbrev pub items_as : ItemKind → (file : ℕ) → List TItem → Items
+items_as kind file is = in_items kind (each (item_of file) is)
+
 -- the documents of a template
 abbrev pub items_of : (file : ℕ) → List TItem → Items
-items_of file is = in_items document_item (each (item_of file) is)
+items_of file is = items_as document_item file is
