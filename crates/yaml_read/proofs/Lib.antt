@@ -1,2 +1,4 @@
 pub mod Breaks
+pub mod NotedReading
+pub mod Noting
 pub mod Reading
