@@ -1,6 +1,6 @@
 // Expressions.
 
-use sqlite_items::Boxed;
+use sqlite_items::{Boxed, Items};
 use ytt_base::text::Text;
 
 /// An operator before its operand.
@@ -32,3 +32,6 @@ pub enum Expr {
     Unary(u32, UnOp, Boxed<Expr>),
     Binary(u32, BinOp, Boxed<Expr>, Boxed<Expr>),
 }
+
+/// The arguments of a call or of a note, in their order.
+pub type Args = Items<Expr>;

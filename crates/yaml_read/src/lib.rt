@@ -3,9 +3,11 @@
 
 mod entry;
 mod lines;
+mod noted;
 mod read;
 #[cfg(test)]
 mod tests;
 mod value;
 
+pub use noted::{Comments, Content, NotedDocs, NotedItem, NotedItems, RawComment};
 pub use read::read_plain;
