@@ -1,3 +1,4 @@
+pub mod Examples
 pub mod Follows
 pub mod Functions
 pub mod Leaving
