@@ -1,2 +1,13 @@
+pub mod Acts
+pub mod Binding
+pub mod Blocks
+pub mod Calls
 pub mod Code
+pub mod Eval
+pub mod Language
+pub mod Numbers
+pub mod Operators
+pub mod Outcomes
 pub mod Program
+pub mod Store
+pub mod Values

@@ -1,6 +1,6 @@
 -- A program: a flat list of instructions, each with its place, which are parts of nodes, simple statements, and the
 -- heads and ends of blocks.
-use Rattle.std.specs.Prelude.{ℕ, List, Option}
+use Rattle.std.specs.Prelude.{ℕ, Option}
 use Rattle.ytt_base.specs.declared.fault.Place.{Place}
 use Rattle.ytt_base.specs.Trees.{Scalar}
 use Rattle.star_spec.specs.Code.{Name, Expr, Exprs, Parameters, Statement}

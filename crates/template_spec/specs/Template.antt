@@ -53,7 +53,7 @@ abbrev mutual
   is_node (code s) = false
   is_node (if_block p e body more) = has_nodes body || branches_have_nodes more
   is_node (for_block p x e body q) = has_nodes body
-  is_node (def_block p number name parameters kind body q) = false
+  is_node (def_block p number name ps kind body q) = false
 
   pub has_nodes : Items → Bool
   has_nodes no_items = false
@@ -71,7 +71,7 @@ abbrev mutual
   is_written (code s) = false
   is_written (if_block p e body more) = has_written body || branches_have_written more
   is_written (for_block p x e body q) = has_written body
-  is_written (def_block p number name parameters kind body q) = has_written body
+  is_written (def_block p number name ps kind body q) = has_written body
 
   pub has_written : Items → Bool
   has_written no_items = false
