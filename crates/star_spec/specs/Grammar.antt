@@ -1,19 +1,18 @@
 -- The grammar of expressions: the tokens that spell each, its tree, and what a reader of tokens answers.
 use Rattle.std.specs.Prelude.{◌≡◌, ℤ, ℕ, suc, ◌<◌, ◌≤◌, max, List, [], ◌∷◌, ◌++◌, Result, Ok, Err}
-use Rattle.ytt_base.specs.declared.fault.Place.{Place}
 use Rattle.ytt_base.specs.Outcomes.{place_at}
 use Rattle.star_spec.specs.Code as code
 use Rattle.star_spec.specs.Code.{Expr, UnaryOperator, negation, BinaryOperator, addition, subtraction, multiplication, floor_division}
 use Rattle.star_spec.specs.Tokens as k
 use Rattle.star_spec.specs.Tokens.{Kind, Token, token}
 
--- An expression as it is written: brackets are in it, and the place of each token.
+-- An expression as it is written: brackets are in it, and the line of each token.
 pub data Source : Type 0 where
-  int : Place → ℤ → Source
-  text : Place → List ℕ → Source
-  unary : UnaryOperator → Place → Source → Source
-  binary : BinaryOperator → Place → Source → Source → Source
-  group : (opening closing : Place) → Source → Source
+  int : (line : ℕ) → ℤ → Source
+  text : (line : ℕ) → List ℕ → Source
+  unary : UnaryOperator → (line : ℕ) → Source → Source
+  binary : BinaryOperator → (line : ℕ) → Source → Source → Source
+  group : (opening_line closing_line : ℕ) → Source → Source
 
 abbrev pub unary_kind : UnaryOperator → Kind
 unary_kind negation = k.minus
@@ -26,26 +25,26 @@ binary_kind floor_division = k.double_slash
 
 -- the tokens of a source, and then these
 abbrev pub spell : Source → List Token → List Token
-spell (int p z) ts = token (k.int z) p ∷ ts
-spell (text p t) ts = token (k.text t) p ∷ ts
-spell (unary op p a) ts = token (unary_kind op) p ∷ spell a ts
-spell (binary op p a b) ts = spell a (token (binary_kind op) p ∷ spell b ts)
+spell (int l z) ts = token (k.int z) l ∷ ts
+spell (text l t) ts = token (k.text t) l ∷ ts
+spell (unary op l a) ts = token (unary_kind op) l ∷ spell a ts
+spell (binary op l a b) ts = spell a (token (binary_kind op) l ∷ spell b ts)
 spell (group l r a) ts = token k.opening l ∷ spell a (token k.closing r ∷ ts)
 
--- its tree, which has no brackets
-abbrev pub tree : Source → Expr
-tree (int p z) = code.int p z
-tree (text p t) = code.text p t
-tree (unary op p a) = code.unary p op (tree a)
-tree (binary op p a b) = code.binary p op (tree a) (tree b)
-tree (group l r a) = tree a
+-- its tree in a file of this number, which has no brackets
+abbrev pub tree : (file : ℕ) → Source → Expr
+tree file (int l z) = code.int (place_at file l) z
+tree file (text l t) = code.text (place_at file l) t
+tree file (unary op l a) = code.unary (place_at file l) op (tree file a)
+tree file (binary op l a b) = code.binary (place_at file l) op (tree file a) (tree file b)
+tree file (group l r a) = tree file a
 
 -- its height, in which a pair of brackets is a level
 abbrev pub height : Source → ℕ
-height (int p z) = 1
-height (text p t) = 1
-height (unary op p a) = suc (height a)
-height (binary op p a b) = suc (max (height a) (height b))
+height (int l z) = 1
+height (text l t) = 1
+height (unary op l a) = suc (height a)
+height (binary op l a b) = suc (max (height a) (height b))
 height (group l r a) = suc (height a)
 
 -- how tightly a source holds together
@@ -68,41 +67,41 @@ binary_level multiplication = product_level
 binary_level floor_division = product_level
 
 abbrev pub level : Source → ℕ
-level (int p z) = operand_level
-level (text p t) = operand_level
-level (unary op p a) = unary_level
-level (binary op p a b) = binary_level op
+level (int l z) = operand_level
+level (text l t) = operand_level
+level (unary op l a) = unary_level
+level (binary op l a b) = binary_level op
 level (group l r a) = operand_level
 
 -- each part holds as tightly as it must; operators between operands are left-associative
 abbrev pub IsWhole : Source → Type 0
-IsWhole (int p z) = Unit {0}
-IsWhole (text p t) = Unit {0}
-IsWhole (unary op p a) = (unary_level ≤ level a) × IsWhole a
-IsWhole (binary op p a b) = (binary_level op ≤ level a) × (binary_level op < level b) × IsWhole a × IsWhole b
+IsWhole (int l z) = Unit {0}
+IsWhole (text l t) = Unit {0}
+IsWhole (unary op l a) = (unary_level ≤ level a) × IsWhole a
+IsWhole (binary op l a b) = (binary_level op ≤ level a) × (binary_level op < level b) × IsWhole a × IsWhole b
 IsWhole (group l r a) = IsWhole a
 
 -- ---- what a reader of tokens answers
 
 -- the tokens of a source and the text's end
-abbrev pub whole_text : Source → Place → List Token
-whole_text s p = spell s (token k.end p ∷ [])
+abbrev pub whole_text : Source → (end_line : ℕ) → List Token
+whole_text s line = spell s (token k.end line ∷ [])
 
--- the tokens spell this expression, which is at most so high
-pub record Parses (limit : ℕ) (ts : List Token) (e : Expr) : Type 0 where
+-- the tokens spell this expression of a file, which is at most so high
+pub record Parses (limit file : ℕ) (ts : List Token) (e : Expr) : Type 0 where
   pub source : Source
-  pub end_place : Place
-  pub spelled : whole_text source end_place ≡ ts
+  pub end_line : ℕ
+  pub spelled : whole_text source end_line ≡ ts
   pub whole : IsWhole source
   pub low : height source ≤ limit
-  pub is_tree : tree source ≡ e
+  pub is_tree : tree file source ≡ e
 
 -- some expression at most so high begins with these tokens
 pub record Front (limit : ℕ) (ts : List Token) : Type 0 where
   pub source : Source
-  pub end_place : Place
+  pub end_line : ℕ
   pub rest : List Token
-  pub spelled : whole_text source end_place ≡ ts ++ rest
+  pub spelled : whole_text source end_line ≡ ts ++ rest
   pub whole : IsWhole source
   pub low : height source ≤ limit
 
@@ -121,18 +120,18 @@ pub record DeepAt (limit : ℕ) (before : List Token) (k : Token) : Type 0 where
 abbrev pub RefusedAt : List Token → (List Token → Token → Type 0) → Type 0
 RefusedAt ts Why = (before : List Token) × (k : Token) × (after : List Token) × (ts ≡ before ++ k ∷ after) × Why before k
 
--- why tokens have no tree, and where
+-- why tokens have no tree, and on which line
 pub data Refusal : Type 0 where
-  code_form : Place → Refusal
-  too_deep : Place → Refusal
+  code_form : (line : ℕ) → Refusal
+  too_deep : (line : ℕ) → Refusal
 
--- the place of the first token
-abbrev pub first_place : List Token → Place
-first_place [] = place_at 0 0
-first_place (k ∷ ks) = k.place
+-- the line of the first token
+abbrev pub first_line : List Token → ℕ
+first_line [] = 0
+first_line (k ∷ ks) = k.line
 
--- The tree, or the least token that is refused: code of no form stands at it, and code that is too high at its first token.
-abbrev pub Answers : ℕ → List Token → Result Expr Refusal → Type 0
-Answers limit ts (Ok e) = Parses limit ts e
-Answers limit ts (Err (code_form p)) = RefusedAt ts (λ before k. (p ≡ k.place) × FormAt limit before k)
-Answers limit ts (Err (too_deep p)) = (p ≡ first_place ts) × RefusedAt ts (λ before k. DeepAt limit before k)
+-- The tree, or the least token that is refused: code without form stands at it, code that is too high at the first token.
+abbrev pub Answers : ℕ → ℕ → List Token → Result Expr Refusal → Type 0
+Answers limit file ts (Ok e) = Parses limit file ts e
+Answers limit file ts (Err (code_form line)) = RefusedAt ts (λ before k. (line ≡ k.line) × FormAt limit before k)
+Answers limit file ts (Err (too_deep line)) = (line ≡ first_line ts) × RefusedAt ts (λ before k. DeepAt limit before k)

@@ -14,8 +14,8 @@ max_height = 100
 -- the text, whose first line is this place's, is this expression
 pub record IsExpr (place : Place) (text : List ℕ) (e : Expr) : Type 0 where
   pub found : List Token
-  pub cut : tokens place text ≡ Some found
-  pub parsed : Parses max_height found e
+  pub cut : tokens place.line text ≡ Some found
+  pub parsed : Parses max_height place.file found e
 
 -- The text reads as this outcome: as the expression that it is, or as code that isn't built, which it is where it is no expression.
 abbrev pub Reads : Place → List ℕ → Outcome Expr → Type 0

@@ -4,7 +4,6 @@ use Rattle.std.specs.Char.{is_ascii_digit, is_ascii_alphanumeric}
 use Rattle.std.specs.List.{prefix_len}
 use Rattle.std.specs.Option.{option_map}
 use Rattle.std.specs.Str.Parse.{digits_value}
-use Rattle.ytt_base.specs.declared.fault.Place.{Place}
 
 -- a literal has its value, where a text is its bytes; the end of the text is the last token
 pub data Kind : Type 0 where
@@ -20,10 +19,10 @@ pub data Kind : Type 0 where
 
 pub record Token : Type 0 where
   pub kind : Kind
-  pub place : Place
+  pub line : ℕ
 
-abbrev pub token : Kind → Place → Token
-token kind place = record { kind = kind; place = place }
+abbrev pub token : Kind → ℕ → Token
+token kind line = record { kind = kind; line = line }
 
 -- what a text begins with: a token, or space, which is none, and how many bytes it has
 pub record Piece : Type 0 where
@@ -75,16 +74,16 @@ front_piece t =
     else None
 
 -- a token before others, unless it is space
-abbrev pub with_token : Place → Option Kind → List Token → List Token
-with_token place None ts = ts
-with_token place (Some kind) ts = token kind place ∷ ts
+abbrev pub with_token : ℕ → Option Kind → List Token → List Token
+with_token line None ts = ts
+with_token line (Some kind) ts = token kind line ∷ ts
 
--- The tokens of a text from this many bytes on, with its end, all at this place; none where what stands there is no token.
-abbrev pub tokens_from : ℕ → Place → List ℕ → Option (List Token)
-tokens_from n place [] = Some (token end place ∷ [])
-tokens_from (suc n) place (b ∷ bs) = tokens_from n place bs
-tokens_from zero place (b ∷ bs) = option_and_then (λ p. option_map (with_token place p.kind) (tokens_from (p.size - 1) place bs)) (front_piece (b ∷ bs))
+-- The tokens of a text from this many bytes on, with its end, all on this line; none where what stands there is no token.
+abbrev pub tokens_from : ℕ → ℕ → List ℕ → Option (List Token)
+tokens_from n line [] = Some (token end line ∷ [])
+tokens_from (suc n) line (b ∷ bs) = tokens_from n line bs
+tokens_from zero line (b ∷ bs) = option_and_then (λ p. option_map (with_token line p.kind) (tokens_from (p.size - 1) line bs)) (front_piece (b ∷ bs))
 
--- the tokens of a text that begins at this place
-abbrev pub tokens : Place → List ℕ → Option (List Token)
-tokens place t = tokens_from 0 place t
+-- the tokens of a text that begins on this line
+abbrev pub tokens : ℕ → List ℕ → Option (List Token)
+tokens line t = tokens_from 0 line t
