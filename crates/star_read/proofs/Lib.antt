@@ -1,0 +1,6 @@
+pub mod Complete
+pub mod Held
+pub mod Judge
+pub mod Open
+pub mod Sound
+pub mod Steps

@@ -1,0 +1,7 @@
+//! Reading the text of code into syntax trees.
+#![tactic(auto)]
+
+mod frame;
+mod machine;
+mod stack;
+mod token;
