@@ -4,8 +4,6 @@
 mod entry;
 mod lines;
 mod read;
-#[cfg(test)]
-mod tests;
 mod value;
 
 pub use read::read_plain;
