@@ -7,8 +7,6 @@ mod noted;
 mod noted_entry;
 mod noted_read;
 mod read;
-#[cfg(test)]
-mod tests;
 mod value;
 
 pub use noted::{Comments, Content, NotedDocs, NotedItem, NotedItems, RawComment};

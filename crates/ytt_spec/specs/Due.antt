@@ -23,6 +23,9 @@ read_failed_line path = codes "error: read failed: " ++ path ++ 10 ∷ []
 abbrev pub write_failed_line : List ℕ
 write_failed_line = codes "error: write failed\n"
 
+abbrev pub out_of_memory_line : List ℕ
+out_of_memory_line = codes "error: out of memory\n"
+
 -- the file is shown by the last part of its path
 abbrev pub due_for : List ℕ → Outcome Trees → Due
 due_for path (Ok documents) = done (Text documents)

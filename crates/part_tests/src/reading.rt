@@ -1,8 +1,9 @@
 // What texts are read as.
-use crate::read_plain;
+
 use std::alloc::Global;
 use std::process::Abort;
 use std::test::Fail;
+use yaml_read::read_plain;
 use ytt_base::fault::Stop;
 use ytt_base::report::fault_text;
 use ytt_base::text::{Names, Text};
