@@ -2,7 +2,7 @@
 ghost use Rattle.std.specs.Prelude.{◌≡◌, ◌^◌, ◌<◌, IfOk, IfSome, length, true};
 ghost use Rattle.ytt_base.specs.View.{trees_of};
 ghost use Rattle.yaml_spec.specs.Flat.{read_trees};
-ghost use Rattle.yaml_spec.specs.ReadsBack.{AreFlat};
+ghost use Rattle.yaml_spec.specs.FirstReadsBack.{AreFlat};
 ghost use Rattle.ytt_spec.specs.Meaning.{has_ending, is_template, last_part, meaning, not_built, path_fault};
 ghost use Rattle.ytt_main.specs.Rendering.{Counts, IsNoFailure, IsNoFolder, IsReadFailure, Means, Refuses};
 
