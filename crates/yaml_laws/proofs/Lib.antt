@@ -1,0 +1,16 @@
+pub mod CutBack
+pub mod Depth
+pub mod DistinctBack
+pub mod GoodBack
+pub mod HeadsBack
+pub mod ItemsBack
+pub mod KeysBack
+pub mod LiteralsBack
+pub mod MarkersBack
+pub mod Pass
+pub mod PlainBack
+pub mod QuotesBack
+pub mod RowsBack
+pub mod Stack
+pub mod TextLines
+pub mod ValuesBack

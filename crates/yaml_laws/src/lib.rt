@@ -1,0 +1,2 @@
+//! The laws of the YAML profile.
+#![tactic(auto)]
