@@ -4,7 +4,7 @@ use Rattle.std.proofs.Common.{◌≡◌, ℕ, zero, suc, ◌+◌, Bool, true, fa
 use Rattle.yaml_spec.specs.Bytes.{comma, left_bracket, right_bracket, left_brace, right_brace, first}
 use Rattle.ytt_base.specs.declared.fault.FaultKind.TheVariants as kind
 use Rattle.ytt_base.specs.Outcomes.{Outcome, ◌>>=◌}
-use Rattle.yaml_spec.specs.Refusals.{refused, place_below}
+use Rattle.yaml_spec.specs.Refusals.{refused}
 use Rattle.yaml_spec.specs.Quotes.{Cursor, after}
 use Rattle.yaml_spec.specs.Noted.{Comment, noted_list, noted_map}
 use Rattle.yaml_spec.specs.Flow.{Node, elements, pairs, pair_value, value_behind, Flow_key, flow, flow_scalar, starts_collection, size, flow_key, next_token, is_single_pair, is_key_end}

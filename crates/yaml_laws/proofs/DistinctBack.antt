@@ -1,9 +1,8 @@
 -- The documents of printed trees have no key twice, and none is null.
-use Rattle.ytt_base.specs.declared.fault.Place.{Place}
 use Rattle.std.proofs.Common.{◌≡◌, ℕ, pos, negsuc, Bool, true, false, ◌==◌, List, [], ◌∷◌, None, Ok, refl, sym, ◌∙◌, ap, subst}
 use Rattle.std.proofs.lemmas.Bool.{or_parts, ne_eqb, eqb-true, eqb-false, eq-eqb, or_from}
 use Rattle.std.specs.Prelude.{bytes_eq}
-use Rattle.ytt_base.specs.Trees.{Scalar, null, boolean, integer, string, same_key, has_key, keys, Trees, no_trees, tree, IsTree, AreTrees, ArePairs, Writable, scalar}
+use Rattle.ytt_base.specs.Trees.{Scalar, null, boolean, integer, string, same_key, has_key, keys, Trees, no_trees, tree, IsTree, AreTrees, ArePairs, Writable}
 use Rattle.yaml_spec.specs.Noted.{Content, noted_scalar, noted_list, noted_map, Items, no_items, item, Documents, key_of, bare_tree, bare_trees, bare_pairs, drop_null, twice, twice_below, twice_among}
 use Rattle.yaml_spec.specs.Read.{distinct}
 
@@ -65,7 +64,7 @@ mutual
   unfolding AllNew
 
   pub twice-none : (c : Content) → IsTree (bare_tree c) → twice c ≡ None
-  twice-none (noted_scalar (scalar s)) h = refl
+  twice-none (noted_scalar t) h = refl
   twice-none (noted_list is) h = below-none is h
   twice-none (noted_map is) h = among-none is [] h (all_new-nil (keys (bare_pairs is)))
 
@@ -77,9 +76,9 @@ mutual
   among-none no_items ks h n = refl
   among-none (item m c is) ks h n = rw (n.0, twice_among, twice-none c h.1) (among-none is (key_of m ∷ ks) h.3 (all_new-cons (key_of m) ks (keys (bare_pairs is)) h.2 n.1))
 
-pub distinct-back : (ds : Documents) (ts : Trees) → bare_trees ds.items ≡ ts → AreTrees ts → distinct ds ≡ Ok ds
+pub distinct-back : (file : ℕ) (ds : Documents) (ts : Trees) → bare_trees ds.items ≡ ts → AreTrees ts → distinct file ds ≡ Ok ds
 unfolding distinct
-distinct-back ds ts e h = rw (below-none ds.items (subst AreTrees (sym e) h), distinct) refl
+distinct-back file ds ts e h = rw (below-none ds.items (subst AreTrees (sym e) h), distinct) refl
 
 pub drop-back : (ts : Trees) → Writable ts → drop_null ts ≡ ts
 drop-back no_trees w = refl

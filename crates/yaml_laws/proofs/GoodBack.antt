@@ -1,5 +1,4 @@
 -- What is printed is UTF-8 of printable characters, without a break.
-use Rattle.ytt_base.specs.declared.fault.Place.{Place}
 use Rattle.std.proofs.Common.{◌≡◌, ℕ, zero, suc, ◌+◌, ◌/◌, ◌%◌, ◌<◌, ◌≤◌, pos, negsuc, Bool, true, false, not, ◌&&◌, ◌||◌, ◌==◌, List, [], ◌∷◌, ◌++◌, refl, sym, ◌∙◌, ap, subst, arith, true≢false, if◌then◌else◌, ◌⊎◌, inl, inr}
 use Rattle.std.proofs.lemmas.List.{append-nil}
 use Rattle.std.proofs.lemmas.Bool.{cond_both, ne_eqb, eqb-true, eqb-false, leb-true, le-leb, ltb-true, ltb-false, or_parts, or_right, and_cases, cases_lt, lt-leb, leb-false}

@@ -10,7 +10,10 @@ pub mod MarkersBack
 pub mod Pass
 pub mod PlainBack
 pub mod QuotesBack
+pub mod ReadsBack
 pub mod RowsBack
+pub mod Shallow
 pub mod Stack
+pub mod TextBack
 pub mod TextLines
 pub mod ValuesBack

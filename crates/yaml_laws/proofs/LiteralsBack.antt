@@ -8,7 +8,7 @@ use Rattle.std.proofs.lemmas.Bool.{ne_eqb, eqb-true, le-leb, and_right, eq-eqb, 
 use Rattle.std.specs.Prelude.{chars, nat_le, map, replicate}
 use Rattle.yaml_spec.specs.Bytes.{line_feed, space, tab, first, is_white, is_empty, indent}
 use Rattle.yaml_spec.specs.Lines.{Line, numbered}
-use Rattle.ytt_base.specs.Trees.{string, scalar}
+use Rattle.ytt_base.specs.Trees.{string}
 use Rattle.yaml_spec.specs.Folding.{breaks}
 use Rattle.yaml_spec.specs.Quotes.{Cursor}
 use Rattle.yaml_spec.specs.Blocks.{Chomp, strip, clip, keep, Body, header, is_spaces, found_indent, too_long, lines_within, body_at, body, drop_empty_end, literal, end_breaks, block_text, Block}

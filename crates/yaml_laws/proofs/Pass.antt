@@ -1,10 +1,9 @@
 -- One pass over the lines of a document, with a stack of open blocks, reads what the definition reads.
-use Rattle.ytt_base.specs.declared.fault.Place.{Place}
 use Rattle.std.proofs.Common.{◌≡◌, ℕ, zero, suc, ◌+◌, ◌-◌, Bool, true, false, not, ◌&&◌, ◌||◌, ◌==◌, List, [], ◌∷◌, ◌++◌, Option, Ok, Err, refl, sym, ◌∙◌, ap, subst, arith, if◌then◌else◌}
 use Rattle.yaml_spec.specs.Bytes.{hash, first, is_blank, skip_white}
 use Rattle.ytt_base.specs.declared.fault.FaultKind.TheVariants as kind
 use Rattle.ytt_base.specs.Outcomes.{Outcome, ◌>>=◌}
-use Rattle.yaml_spec.specs.Refusals.{refused, place_below}
+use Rattle.yaml_spec.specs.Refusals.{refused}
 use Rattle.yaml_spec.specs.Lines.{Line}
 use Rattle.ytt_base.specs.Trees.{max_depth}
 use Rattle.yaml_spec.specs.Plain.{typed}
@@ -13,7 +12,7 @@ use Rattle.yaml_spec.specs.Values.{Value}
 use Rattle.yaml_spec.specs.Rows.{Mark, dash_mark, key_mark, Head, Row, has_value, row_value, row_at, taken, rows}
 use Rattle.yaml_spec.specs.Entries.{is_dash_mark, starts_with_dash, misplaced, begins_entry, row_comment, behind_head, stray, Found, content_of, Doc}
 use Rattle.yaml_laws.proofs.Depth.{grows_row}
-use Rattle.yaml_laws.specs.Machine.{Frame, Hole, wanting, filled, Begun, Opened, begin_content, begin_entry, begin_at, opens, finish, step, run, Passed, own_comment, pass}
+use Rattle.yaml_laws.specs.Machine.{Frame, Hole, wanting, filled, Begun, Opened, begin_content, begin_entry, begin_at, opens, step, run, Passed, own_comment, pass}
 use Rattle.yaml_laws.proofs.Stack.{bind_assoc, run-content_of}
 
 -- ---- what holds of an outcome

@@ -1,5 +1,4 @@
 -- A string in double quotes, as it is printed, reads back.
-use Rattle.ytt_base.specs.declared.fault.Place.{Place}
 use Rattle.std.proofs.Common.{◌≡◌, ℕ, zero, suc, ◌+◌, ◌*◌, ◌/◌, ◌%◌, ◌<◌, ◌≤◌, Bool, true, false, cond, ◌||◌, ◌==◌, List, [], ◌∷◌, ◌++◌, refl, sym, ◌∙◌, ap, subst, append_assoc, arith, true≢false, inl, inr, ◌⊎◌}
 use Rattle.std.proofs.lemmas.List.{append-nil}
 use Rattle.std.proofs.lemmas.Bool.{cond_both, le-ltb, ne_eqb, eqb-true, ltb-true, ltb-false, le-leb, leb-true, lt-ltb}

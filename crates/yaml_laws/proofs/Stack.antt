@@ -1,16 +1,14 @@
 -- A pass over the rows with a stack of open blocks reads what the definition by cutting reads.
-use Rattle.ytt_base.specs.declared.fault.Place.{Place}
 use Rattle.std.proofs.Common.{◌≡◌, ℕ, zero, suc, Bool, true, false, not, ◌&&◌, ◌||◌, ◌==◌, List, [], ◌∷◌, ◌++◌, Option, Some, None, Ok, Err, refl, sym, ◌∙◌, ap, if◌then◌else◌}
 use Rattle.ytt_base.specs.declared.fault.FaultKind.TheVariants as kind
 use Rattle.ytt_base.specs.Outcomes.{Outcome, ◌>>=◌}
-use Rattle.yaml_spec.specs.Refusals.{refused, place_below}
-use Rattle.ytt_base.specs.Trees.{Scalar, null}
+use Rattle.yaml_spec.specs.Refusals.{refused}
+use Rattle.ytt_base.specs.Trees.{Scalar}
 use Rattle.yaml_spec.specs.Plain.{typed}
-use Rattle.yaml_spec.specs.Noted.{Comment, Note, Content, noted_scalar, noted_list, noted_map, Items, no_items, item}
+use Rattle.yaml_spec.specs.Noted.{Comment, Note, Content, Items, no_items, item}
 use Rattle.yaml_spec.specs.Values.{Value}
 use Rattle.yaml_spec.specs.Rows.{Mark, dash_mark, key_mark, Head, Row, has_value, row_value}
 use Rattle.yaml_spec.specs.Entries.{is_dash_mark, starts_with_dash, misplaced, Entry, begins_entry, cut_after, over, row_comment, note_of, behind_head, stray, Found, content_of, entry_content, entry, entry_at, entries, Doc}
-
 use Rattle.yaml_laws.specs.Machine.{Frame, Hole, wanting, filled, wrap, with_items, Begun, Opened, begin_content, begin_entry, begin_at, opens, finish, step, run}
 
 -- ---- what the definition gives for the rows that are left

@@ -1,5 +1,4 @@
 -- The printed text as lines: a node is what stands on the line where it begins, and its further lines.
-use Rattle.ytt_base.specs.declared.fault.Place.{Place}
 use Rattle.std.proofs.Common.{ℕ, ◌+◌, Bool, true, false, not, ◌&&◌, List, [], ◌∷◌, ◌++◌, if◌then◌else◌}
 use Rattle.std.specs.Prelude.{codes}
 use Rattle.yaml_spec.specs.Bytes.{space, dash, colon, is_empty}

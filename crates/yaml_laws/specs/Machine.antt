@@ -2,7 +2,7 @@
 use Rattle.std.specs.Prelude.{ℕ, zero, suc, Bool, true, false, not, ◌&&◌, ◌||◌, ◌==◌, List, [], ◌∷◌, ◌++◌, Option, Some, None, Ok, if◌then◌else◌}
 use Rattle.ytt_base.specs.declared.fault.FaultKind.TheVariants as kind
 use Rattle.ytt_base.specs.Outcomes.{Outcome, ◌>>=◌}
-use Rattle.ytt_base.specs.Trees.{Scalar, null, scalar, max_depth}
+use Rattle.ytt_base.specs.Trees.{null, scalar, max_depth}
 use Rattle.yaml_spec.specs.Bytes.{hash, first, is_blank, skip_white}
 use Rattle.yaml_spec.specs.Refusals.{refused}
 use Rattle.yaml_spec.specs.Lines.{Line}
