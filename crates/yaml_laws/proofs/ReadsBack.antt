@@ -12,6 +12,7 @@ use Rattle.yaml_spec.specs.Noted.{Content, noted_scalar, noted_list, noted_map, 
 use Rattle.yaml_spec.specs.Rows.{Row, Head, heads_of, owner_of, passing, rows}
 use Rattle.yaml_spec.specs.Entries.{content_of, Doc, row_comment}
 use Rattle.yaml_spec.specs.Read.{Segment, first_marker, segments, first_content, document_content, document_note, marker_row, with_document, explicit, documents, implicit, Read, read_trees, Reads}
+use Rattle.yaml_spec.specs.ReadsBack.{ReadsAlone}
 use Rattle.yaml_spec.specs.Text.{Text}
 use Rattle.yaml_laws.proofs.TextLines.{scalar_first, scalar_more, node_first, node_more, node_heads, document_lines}
 use Rattle.yaml_laws.proofs.ItemsBack.{LeafReads, leaf-taken}
@@ -188,3 +189,7 @@ reads_one bytes ts us p q = ap given (sym (p 1) ∙ q 1)
 -- two writable lists of documents have different texts
 pub text_one : (ts us : Trees) → AreTrees ts → Writable ts → AreTrees us → Writable us → Text ts ≡ Text us → ts ≡ us
 text_one ts us h w i v e = reads_one (Text ts) ts us (reads_back ts h w) (subst (λ (b : List ℕ). Reads b us) (sym e) (reads_back us i v))
+
+-- and as no others
+pub reads_alone : (ts : Trees) → AreTrees ts → Writable ts → ReadsAlone (Text ts) ts
+reads_alone ts h w = record { reads = reads_back ts h w; alone = λ us r. reads_one (Text ts) us ts r (reads_back ts h w) }

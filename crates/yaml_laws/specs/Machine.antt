@@ -9,7 +9,7 @@ use Rattle.yaml_spec.specs.Lines.{Line}
 use Rattle.yaml_spec.specs.Plain.{typed}
 use Rattle.yaml_spec.specs.Noted.{Comment, Note, Content, noted_scalar, noted_list, noted_map, Items, no_items, item}
 use Rattle.yaml_spec.specs.Rows.{Mark, dash_mark, key_mark, Head, Row, has_value, row_value, row_at, taken}
-use Rattle.yaml_spec.specs.Entries.{is_dash_mark, starts_with_dash, misplaced, begins_entry, row_comment, note_of, behind_head, stray, Found}
+use Rattle.yaml_spec.specs.Entries.{is_dash_mark, starts_with_dash, misplaced, begins_entry, row_comment, note_of, behind_head, stray, Found, content_of, Doc}
 
 -- ---- open blocks
 
@@ -123,3 +123,7 @@ pass stop is_owned zero least cs fs h (l ∷ ls) =
             pass stop false e.0 (row_at stop is_owned least cs l ls).least e.1 s.0 s.1 ls))
       ]
     ]
+
+-- the same by cutting the rows top down, with the comments behind them
+abbrev pub passed_by : List Row × List Comment → Outcome Passed
+passed_by rs = content_of max_depth (Doc max_depth) rs.0 >>= (λ f. Ok (f, rs.1))

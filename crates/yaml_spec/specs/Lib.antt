@@ -14,6 +14,7 @@ pub mod Plain
 pub mod Positions
 pub mod Quotes
 pub mod Read
+pub mod ReadsBack
 pub mod Refusals
 pub mod Rows
 pub mod Scalars
