@@ -1,6 +1,8 @@
+pub mod BackExamples
 pub mod CutBack
 pub mod Depth
 pub mod DistinctBack
+pub mod Examples
 pub mod GoodBack
 pub mod HeadsBack
 pub mod ItemsBack
