@@ -33,7 +33,7 @@ due_for path (Err f) = fault (fault_line (last_part path ∷ []) f)
 
 abbrev pub due_asked : Asked → (List ℕ → Standing) → Due
 due_asked (wrong n) tree = usage (usage_line n)
-due_asked (render path) tree = due_for path (meaning path (tree path))
+due_asked (render path steps) tree = due_for path (meaning path (tree path))
 
 -- what is due for these words over these files
 abbrev pub due : List (List ℕ) → (List ℕ → Standing) → Due
