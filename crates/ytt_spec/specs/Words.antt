@@ -22,9 +22,13 @@ most_steps = 20000000
 abbrev pub number_of : List ℕ → ℕ
 number_of word = digits_value 10 word
 
--- 1 to 8 decimal digits, whose number is within its range
+-- 1 to 8 decimal digits
+abbrev pub is_number : List ℕ → Bool
+is_number word = nat_le 1 (length word) && nat_le (length word) 8 && all_ascii_digits word
+
+-- whose number is within its range
 abbrev pub is_steps : List ℕ → Bool
-is_steps word = nat_le 1 (length word) && nat_le (length word) 8 && all_ascii_digits word && nat_le 1 (number_of word) && nat_le (number_of word) most_steps
+is_steps word = is_number word && (nat_le 1 (number_of word) && nat_le (number_of word) most_steps)
 
 abbrev pub is_command : List ℕ → Bool
 is_command word = bytes_eq word (codes "render")
