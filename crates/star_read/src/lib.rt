@@ -2,6 +2,8 @@
 #![tactic(auto)]
 
 mod frame;
+mod halt;
+mod lexer;
 mod machine;
 mod stack;
 mod token;
