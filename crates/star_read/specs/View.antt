@@ -1,11 +1,8 @@
 -- The plain data that tokens of the program stand for.
-use Rattle.std.specs.Prelude.{◌≡◌, ℕ, List, [], ◌∷◌, Option, None, Some, Result, Ok, Err, Vec}
+use Rattle.std.specs.Prelude.{List, [], ◌∷◌}
 use Rattle.std.specs.Option.{option_map}
 use Rattle.star_spec.specs.Tokens as plain
-use Rattle.star_spec.specs.Tokens.{tokens, int, text, plus, minus, star, double_slash, opening, closing, end}
-use Rattle.std.specs.declared.alloc.Global.{Global}
-use Rattle.star_read.specs.declared.halt.Halt.{Halt}
-use Rattle.star_read.specs.declared.halt.Halt.TheVariants as halt
+use Rattle.star_spec.specs.Tokens.{int, text, plus, minus, star, double_slash, opening, closing, end}
 use Rattle.star_read.specs.declared.token.Kind.{Kind}
 use Rattle.star_read.specs.declared.token.Kind.TheVariants as held
 use Rattle.star_read.specs.declared.token.Piece.{Piece}
@@ -31,10 +28,3 @@ tokens_of (t ∷ ts) = token_of t ∷ tokens_of ts
 
 abbrev pub piece_of : Piece → plain.Piece
 piece_of p = record { kind = option_map kind_of p.kind; size = p.size }
-
--- The tokens of a text from this line on, or that it has none.
-abbrev pub HasCut : ℕ → List ℕ → Result (Vec Token Global) Halt → Type 0
-HasCut line t (Ok v) = tokens line t ≡ Some (tokens_of v.items)
-HasCut line t (Err (halt.CodeForm l)) = tokens line t ≡ None
-HasCut line t (Err (halt.TooDeep l)) = ⊥
-HasCut line t (Err halt.Memory) = Unit {0}

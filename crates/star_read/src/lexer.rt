@@ -4,7 +4,8 @@ ghost use Rattle.std.specs.Char.{is_ascii_digit};
 ghost use Rattle.std.specs.List.{prefix_len};
 ghost use Rattle.std.specs.Option.{option_map};
 ghost use Rattle.std.specs.Str.Parse.{AllDigits, digits_value};
-ghost use Rattle.star_read.specs.View.{HasCut, kind_of, piece_of, tokens_of};
+ghost use Rattle.star_read.specs.Outcome.{HasCut};
+ghost use Rattle.star_read.specs.View.{kind_of, piece_of, tokens_of};
 ghost use Rattle.star_spec.specs.Tokens.{digits, front_piece, greatest_integer, integer_piece, is_decimal, run_size, text_piece, token_piece, double_slash, with_token};
 
 use crate::halt::Halt;
