@@ -6,7 +6,7 @@ use ytt_base::text::{Memory, Text};
 
 /// Why no tree was read: the form of the code, with the line of the token that is refused; its
 /// height, with its first line; or want of memory.
-#[derive(Clone, Copy, Debug, PartialEq, Eq)]
+#[derive(Clone, Copy)]
 pub enum Halt {
     CodeForm(u32),
     TooDeep(u32),
