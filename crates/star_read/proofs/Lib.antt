@@ -1,4 +1,5 @@
 pub mod Complete
+pub mod Examples
 pub mod Held
 pub mod Judge
 pub mod Laws

@@ -75,7 +75,9 @@ fn integer_piece(digits: &[u8]) -> Option<Piece>
 fn run_size(text: &[u8]) -> usize
     ensures { result ≡ run_size text.now }
 {
-    text.iter().take_while(|b| b.is_ascii_alphanumeric()).count()
+    text.iter()
+        .take_while(|b| b.is_ascii_alphanumeric())
+        .count()
 }
 
 /// The text of the letters and digits at the front. Its only error is want of memory.

@@ -13,8 +13,8 @@ use crate::lexer::tokens;
 use crate::machine::{is_low, step};
 use crate::stack::Stack;
 use crate::token::Token;
-use std::alloc::Global;
 use star_tree::Expr;
+use std::alloc::Global;
 use ytt_base::fault::{Place, Stop};
 use ytt_base::text::Text;
 
@@ -78,17 +78,14 @@ pub fn read_flat(alloc: Global, text: &Text, at: Place) -> Result<Expr, Stop>
 /// A text is at most one expression.
 pub fn one_expression()
     ensures { OneExpression }
-{
-}
+{}
 
 /// Each text reads as something: as an expression, or as what isn't built.
 pub fn a_reader_exists()
     ensures { AReaderExists }
-{
-}
+{}
 
 /// And it reads as one thing alone.
 pub fn readers_agree()
     ensures { ReadersAgree }
-{
-}
+{}

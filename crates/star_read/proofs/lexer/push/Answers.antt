@@ -1,5 +1,3 @@
-use Rattle.std.proofs.Common.{arith}
-use Rattle.std.proofs.lemmas.Grind.{common_steps}
 use Rattle.star_read.proofs.Pieces.{tokens_of-snoc}
 use Rattle.star_read.proofs.lexer.push.Goals as goal
 

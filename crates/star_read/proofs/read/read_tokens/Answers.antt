@@ -1,4 +1,4 @@
-use Rattle.std.proofs.Common.{◌≡◌, ◌<◌, ◌≤◌, arith}
+use Rattle.std.proofs.Common.{◌<◌, ◌≤◌, arith}
 use Rattle.std.proofs.lemmas.Grind.{common_steps}
 use Rattle.star_read.specs.Machine.{state_height}
 use Rattle.star_read.proofs.Turns.{turn, refused_form, refused_deep, read_whole, read_ends, first_at, stopped}
