@@ -1,1 +1,4 @@
 pub mod Code
+pub mod Grammar
+pub mod Reading
+pub mod Tokens
