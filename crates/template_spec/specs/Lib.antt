@@ -7,3 +7,4 @@ pub mod Placed
 pub mod Run
 pub mod Take
 pub mod Template
+pub mod WellNested
