@@ -1,6 +1,7 @@
 pub mod Bytes
 pub mod Flat
 pub mod Lines
+pub mod Noted
 pub mod ReadsBack
 pub mod Scalars
 pub mod Text

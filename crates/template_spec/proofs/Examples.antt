@@ -1,0 +1,139 @@
+-- What the definitions give for some templates, by computing: first as they are built, and then as their programs run.
+use Rattle.std.proofs.Common.{◌≡◌, ℕ, ◌-◌, ◌^◌, ℤ, pos, negsuc, List, [], refl, codes}
+use Rattle.ytt_base.specs.declared.fault.Fault.{Fault}
+use Rattle.ytt_base.specs.declared.fault.FaultKind.TheVariants as kind
+use Rattle.ytt_base.specs.Outcomes.{place_at, fault_at}
+use Rattle.ytt_base.specs.Trees.{Scalar, null, integer, string, scalar, map, Trees, no_trees, tree, no_pairs, pair}
+use Rattle.yaml_spec.specs.Scalars.{form}
+use Rattle.star_spec.specs.Code.{Expr, int, text, unary, binary, negation, addition, multiplication, floor_division}
+use Rattle.star_spec.specs.Program.{document_item, pair_item}
+use Rattle.star_spec.specs.Values.{Children}
+use Rattle.star_spec.specs.Outcomes.{State, Ending, done, bad}
+use Rattle.star_spec.specs.Calls.{no_natives}
+use Rattle.star_spec.specs.Eval.{starlark}
+use Rattle.template_spec.specs.Template.{Items, no_items, an_item, node, no_notes, no_key, written_key, Content, written_value, value_from, pairs}
+use Rattle.template_spec.specs.Compiled.{compiled}
+use Rattle.template_spec.specs.Meaning.{BuildFile, RunFile, documents}
+
+-- what is left to see of an ending: documents with the steps that are left, or a fault
+pub data Seen : Type 0 where
+  gives : Trees → (steps : ℕ) → Seen
+  faults : Fault → Seen
+
+abbrev seen : Ending (Unit {0}) Children → Seen
+seen (done cs s) = gives (documents cs) s.steps
+seen (bad f s) = faults f
+
+abbrev at_start : ℕ → State (Unit {0})
+at_start steps = record { store = []; steps = steps; host = tt }
+
+-- a template alone in file 1, with so many steps
+abbrev built_with : ℕ → Items → Seen
+built_with steps t = seen (BuildFile starlark no_natives (λ f. t) 10 t (at_start steps))
+
+abbrev run_with : ℕ → Items → Seen
+run_with steps t = seen (RunFile starlark no_natives (λ f. compiled t) 10 (compiled t) (at_start steps))
+
+abbrev document : Content → Items → Items
+document c more = an_item (node (place_at 1 1) document_item no_notes no_key c) more
+
+abbrev pair_at : ℕ → List ℕ → Content → Items → Items
+pair_at line key c more = an_item (node (place_at 1 line) pair_item no_notes (written_key (string key)) c) more
+
+-- `a: ` and an expression, on the second line
+abbrev one_pair : Expr → Items
+one_pair e = document (pairs (pair_at 2 (codes "a") (value_from e) no_items)) no_items
+
+abbrev number : ℤ → Expr
+number z = int (place_at 1 2) z
+
+abbrev words : List ℕ → Expr
+words t = text (place_at 1 2) t
+
+abbrev a_is : Scalar → Trees
+a_is x = tree (map (pair (string (codes "a")) (scalar x) no_pairs)) no_trees
+
+-- an operation on two operands
+abbrev sum : Expr → Expr → Expr
+sum a b = binary (place_at 1 2) addition a b
+
+abbrev product : Expr → Expr → Expr
+product a b = binary (place_at 1 2) multiplication a b
+
+abbrev quotient : Expr → Expr → Expr
+quotient a b = binary (place_at 1 2) floor_division a b
+
+abbrev minus : Expr → Expr
+minus a = unary (place_at 1 2) negation a
+
+abbrev two_plus_three_times_four : Items
+two_plus_three_times_four = one_pair (sum (number (pos 2)) (product (number (pos 3)) (number (pos 4))))
+
+-- the document, the pair, and five nodes take a step each
+sum_and_product : built_with 100 two_plus_three_times_four ≡ gives (a_is (integer (pos 14))) 93
+sum_and_product = refl
+
+sum_and_product_run : run_with 100 two_plus_three_times_four ≡ gives (a_is (integer (pos 14))) 93
+sum_and_product_run = refl
+
+refuses_zero_divisor : built_with 100 (one_pair (quotient (number (pos 1)) (number (pos 0)))) ≡ faults (fault_at kind.DivideZero (place_at 1 2))
+refuses_zero_divisor = refl
+
+refuses_unlike_kinds : built_with 100 (one_pair (sum (number (pos 1)) (words (codes "x")))) ≡ faults (fault_at kind.ValueKind (place_at 1 2))
+refuses_unlike_kinds = refl
+
+greatest : built_with 100 (one_pair (number (pos (2 ^ 127 - 1)))) ≡ gives (a_is (integer (pos (2 ^ 127 - 1)))) 97
+greatest = refl
+
+refuses_one_more : built_with 100 (one_pair (sum (number (pos (2 ^ 127 - 1))) (number (pos 1)))) ≡ faults (fault_at kind.IntOverflow (place_at 1 2))
+refuses_one_more = refl
+
+refuses_quotient_of_least : built_with 100 (one_pair (quotient (number (negsuc (2 ^ 127 - 1))) (minus (number (pos 1))))) ≡ faults (fault_at kind.IntOverflow (place_at 1 2))
+refuses_quotient_of_least = refl
+
+refuses_negated_least : built_with 100 (one_pair (minus (number (negsuc (2 ^ 127 - 1))))) ≡ faults (fault_at kind.IntOverflow (place_at 1 2))
+refuses_negated_least = refl
+
+rounds_down : built_with 100 (one_pair (quotient (minus (number (pos 7))) (number (pos 2)))) ≡ gives (a_is (integer (negsuc 3))) 94
+rounds_down = refl
+
+rounds_down_at_negative : built_with 100 (one_pair (quotient (number (pos 7)) (number (negsuc 1)))) ≡ gives (a_is (integer (negsuc 3))) 95
+rounds_down_at_negative = refl
+
+-- the document, the pair and the literal take all three steps
+three_steps : built_with 3 (one_pair (number (pos 1))) ≡ gives (a_is (integer (pos 1))) 0
+three_steps = refl
+
+two_steps : built_with 2 (one_pair (number (pos 1))) ≡ faults (fault_at kind.Steps (place_at 1 2))
+two_steps = refl
+
+two_steps_run : run_with 2 (one_pair (number (pos 1))) ≡ faults (fault_at kind.Steps (place_at 1 2))
+two_steps_run = refl
+
+joins : built_with 100 (one_pair (sum (words (codes "ab")) (words (codes "c")))) ≡ gives (a_is (string (codes "abc"))) 95
+joins = refl
+
+repeats : built_with 100 (one_pair (product (words (codes "x")) (number (pos 3)))) ≡ gives (a_is (string (codes "xxx"))) 95
+repeats = refl
+
+repeats_from_the_left : built_with 100 (one_pair (product (number (pos 3)) (words (codes "x")))) ≡ gives (a_is (string (codes "xxx"))) 95
+repeats_from_the_left = refl
+
+empty_below_one : built_with 100 (one_pair (product (words (codes "x")) (minus (number (pos 1))))) ≡ gives (a_is (string [])) 94
+empty_below_one = refl
+
+-- the operands have 1 byte and the result 100,000,000: their sixteenth is past the budget
+refuses_large_product : built_with 1000000 (one_pair (product (words (codes "x")) (number (pos 100000000)))) ≡ faults (fault_at kind.Steps (place_at 1 2))
+refuses_large_product = refl
+
+-- 16 bytes repeated once are 32 bytes of operand and result: two steps; and one for the text that is taken over
+text_steps : built_with 100 (one_pair (product (words (codes "0123456789abcdef")) (number (pos 1)))) ≡ gives (a_is (string (codes "0123456789abcdef"))) 92
+text_steps = refl
+
+refuses_second_key : built_with 100 (document (pairs (pair_at 2 (codes "a") (written_value null) (pair_at 3 (codes "a") (written_value null) no_items))) no_items) ≡ faults (record { kind = kind.KeyTwice; place = place_at 1 3; detail = codes "a" })
+unfolding form
+refuses_second_key = refl
+
+-- a null document is dropped; an empty map stays one
+drops_null : built_with 100 (document (written_value null) (document (pairs no_items) no_items)) ≡ gives (tree (map no_pairs) no_trees) 98
+drops_null = refl

@@ -1,0 +1,9 @@
+pub mod Examples
+pub mod Follows
+pub mod Functions
+pub mod Leaving
+pub mod NamesAgree
+pub mod Nested
+pub mod Nesting
+pub mod Runs
+pub mod Theorem

@@ -1,0 +1,10 @@
+pub mod Adding
+pub mod Build
+pub mod Compiled
+pub mod Meaning
+pub mod Names
+pub mod Placed
+pub mod Run
+pub mod Take
+pub mod Template
+pub mod WellNested

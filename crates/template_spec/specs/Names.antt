@@ -1,0 +1,54 @@
+-- The names that a file or a function's block binds, in text order; those of inner functions not.
+use Rattle.std.specs.Prelude.{List, [], ◌∷◌, ◌++◌}
+use Rattle.star_spec.specs.Code.{Name, Expr, name, Statement, assign}
+use Rattle.star_spec.specs.Blocks.{Op, op_part, op_statement, op_if, op_for, op_def, Ops, no_ops, an_op, Arms, no_arm, else_arm, arm}
+use Rattle.template_spec.specs.Template.{Item, node, code, if_block, for_block, def_block, Items, no_items, an_item, Branches, no_branch, else_branch, elif_branch, Content, written_value, value_from, pairs, elements}
+
+abbrev pub target_names : Expr → List Name
+target_names (name p x) = x ∷ []
+target_names _ = []
+
+abbrev pub statement_names : Statement → List Name
+statement_names (assign p x e) = target_names x
+statement_names _ = []
+
+abbrev mutual
+  pub item_names : Item → List Name
+  item_names (node p kind ns key c) = content_names c
+  item_names (code s) = statement_names s
+  item_names (if_block p e body more) = items_names body ++ branches_names more
+  item_names (for_block p x e body q) = target_names x ++ items_names body
+  item_names (def_block p number x ps kind body q) = x ∷ []
+
+  pub items_names : Items → List Name
+  items_names no_items = []
+  items_names (an_item i is) = item_names i ++ items_names is
+
+  pub branches_names : Branches → List Name
+  branches_names (no_branch q) = []
+  branches_names (else_branch p body q) = items_names body
+  branches_names (elif_branch p e body more) = items_names body ++ branches_names more
+
+  pub content_names : Content → List Name
+  content_names (written_value x) = []
+  content_names (value_from e) = []
+  content_names (pairs is) = items_names is
+  content_names (elements is) = items_names is
+
+-- the names that the blocks of a program bind
+abbrev mutual
+  pub op_names : Op → List Name
+  op_names (op_part o) = []
+  op_names (op_statement s) = statement_names s
+  op_names (op_if p branches) = arms_names branches
+  op_names (op_for p x e body) = target_names x ++ ops_names body
+  op_names (op_def p number fragment x ps body) = x ∷ []
+
+  pub ops_names : Ops → List Name
+  ops_names no_ops = []
+  ops_names (an_op o os) = op_names o ++ ops_names os
+
+  pub arms_names : Arms → List Name
+  arms_names no_arm = []
+  arms_names (else_arm os) = ops_names os
+  arms_names (arm e os more) = ops_names os ++ arms_names more

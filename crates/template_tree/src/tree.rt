@@ -1,0 +1,62 @@
+// The items of a template.
+
+use sqlite_items::Items;
+use star_tree::{Args, Expr};
+use ytt_base::fault::Place;
+use ytt_base::text::Text;
+use ytt_base::tree::{Key, Tree};
+
+/// A note of an item: its name without the `@`, its arguments, and its line.
+#[derive(Drop)]
+pub struct TNote {
+    pub name: Text,
+    pub args: Args,
+    pub line: u32,
+}
+
+/// The notes of an item, in the order of the text.
+pub type TNotes = Items<TNote>;
+
+/// An item of a template.
+#[cycle(template)]
+#[derive(Drop)]
+pub enum TItem {
+    /// A document, a pair or an element: at the top of a template, in a map, or in a list.
+    Node(TNode),
+}
+
+/// Items in the order of the text.
+pub type TItems = Items<TItem>;
+
+/// A document, a pair of a map, or an element of a list.
+#[cycle(template)]
+#[derive(Drop)]
+pub struct TNode {
+    /// Its file, and the line on which it begins.
+    pub place: Place,
+    /// The key of a pair. Documents and elements have none.
+    pub key: Option<Key>,
+    pub notes: TNotes,
+    /// The value expression on its line, which stands for what is written there.
+    pub value: Option<Expr>,
+    pub content: TContent,
+}
+
+/// What is written in an item.
+#[cycle(template)]
+#[derive(Drop)]
+pub enum TContent {
+    /// A scalar, which is no list and no map.
+    Scalar(Tree),
+    /// The pairs of a map.
+    Map(TItems),
+    /// The elements of a list.
+    List(TItems),
+}
+
+/// The template of a file: its number, and its documents.
+#[derive(Drop)]
+pub struct Template {
+    pub file: u32,
+    pub items: TItems,
+}

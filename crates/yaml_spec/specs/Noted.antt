@@ -1,0 +1,52 @@
+-- Noted documents: trees with a line for each item and with the comments that belong to it (YAML 1.2.2, 3.1 and 6.6).
+use Rattle.std.specs.Prelude.{ℕ, Bool, List, Option, unwrap_or}
+use Rattle.ytt_base.specs.Trees.{Scalar, null, Tree, list, map, Trees, no_trees, tree, Pairs, no_pairs, pair}
+
+-- a comment from `#` on to the end of its line; `own_line` where only white space stands before it
+pub record Comment : Type 0 where
+  pub line : ℕ
+  pub own_line : Bool
+  pub text : List ℕ
+
+-- an item besides its content; an item is a document, a pair of a map or an element of a list, and a pair has a key
+pub record Note : Type 0 where
+  pub line : ℕ
+  pub key : Option Scalar
+  pub before : List Comment
+  pub trailing : Option Comment
+  pub flow : Bool
+
+-- a scalar is a tree without items below it
+mutual
+  pub data Content : Type 0 where
+    noted_scalar : Tree → Content
+    noted_list : Items → Content
+    noted_map : Items → Content
+
+  pub data Items : Type 0 where
+    no_items : Items
+    item : Note → Content → Items → Items
+
+-- the documents of a text, and the comments after the last item
+pub record Documents : Type 0 where
+  pub items : Items
+  pub after : List Comment
+
+-- ---- the trees without their notes
+
+abbrev pub key_of : Note → Scalar
+key_of n = unwrap_or n.key null
+
+abbrev mutual
+  pub bare_tree : Content → Tree
+  bare_tree (noted_scalar t) = t
+  bare_tree (noted_list is) = list (bare_trees is)
+  bare_tree (noted_map is) = map (bare_pairs is)
+
+  pub bare_trees : Items → Trees
+  bare_trees no_items = no_trees
+  bare_trees (item n c is) = tree (bare_tree c) (bare_trees is)
+
+  pub bare_pairs : Items → Pairs
+  bare_pairs no_items = no_pairs
+  bare_pairs (item n c is) = pair (key_of n) (bare_tree c) (bare_pairs is)
