@@ -4,5 +4,6 @@ pub mod Functions
 pub mod Leaving
 pub mod NamesAgree
 pub mod Nested
+pub mod PlacingStands
 pub mod Runs
 pub mod Theorem
