@@ -1,5 +1,5 @@
 -- What the grammar allows is read.
-use Rattle.std.proofs.Common.{◌≡◌, ℕ, suc, ◌<◌, ◌≤◌, max, List, [], ◌∷◌, Some, refl, ◌∙◌, arith}
+use Rattle.std.proofs.Common.{◌≡◌, ℕ, suc, ◌≤◌, max, List, [], ◌∷◌, refl, ◌∙◌, arith}
 use Rattle.star_spec.specs.Code.{BinaryOperator, negation}
 use Rattle.star_spec.specs.Tokens.{Token, token, minus, opening, closing}
 use Rattle.star_spec.specs.Tokens as k

@@ -13,7 +13,6 @@ use Rattle.star_tree.specs.declared.expr.BinOp.TheVariants.{Add, Subtract, Multi
 use Rattle.star_tree.specs.declared.expr.Expr.{Expr}
 use Rattle.star_tree.specs.declared.expr.Expr.TheVariants as e
 use Rattle.star_read.specs.declared.frame.Frame.{Frame}
-use Rattle.star_read.specs.declared.frame.Frame.TheVariants as f
 use Rattle.star_read.specs.Machine.{act, looseness, on_operator, op_level}
 
 abbrev pub unary_held : UnaryOperator → UnOp

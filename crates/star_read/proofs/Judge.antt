@@ -3,13 +3,13 @@ use Rattle.std.proofs.Common.{◌≡◌, ℕ, ◌<◌, ◌≤◌, max, List, [],
 use Rattle.std.proofs.lemmas.Bool.{cond-true, cond-false, le-leb, lt-leb, cases_lt}
 use Rattle.star_spec.specs.Code as code
 use Rattle.star_spec.specs.Tokens.{Token, token, end}
-use Rattle.star_spec.specs.Grammar.{Source, spell, tree, height, level, IsWhole, whole_text, Parses, Front, FormAt, DeepAt}
+use Rattle.star_spec.specs.Grammar.{Source, spell, height, level, IsWhole, whole_text, Parses, Front, FormAt, DeepAt}
 use Rattle.star_tree.specs.View.{expr_of}
 use Rattle.star_tree.specs.declared.expr.Expr.{Expr}
 use Rattle.star_read.specs.declared.frame.Frame.{Frame}
 use Rattle.star_read.specs.declared.frame.Top.{Top}
 use Rattle.star_read.specs.declared.frame.Top.TheVariants as t
-use Rattle.star_read.specs.Machine.{State, total, state_height, step, go_on, read, finished, Verdict, Whole, Unfinished, Form, Deep, Judged}
+use Rattle.star_read.specs.Machine.{State, total, state_height, step, go_on, read, finished, Verdict, Whole, Form, Deep, Judged}
 use Rattle.star_read.proofs.Complete.{reads}
 use Rattle.star_read.proofs.Held.{held, held-tree, source_pos}
 use Rattle.star_read.proofs.Steps.{took, acted}

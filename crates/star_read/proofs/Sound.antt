@@ -1,5 +1,5 @@
 -- What the machine has read is spelled so.
-use Rattle.std.proofs.Common.{◌≡◌, ℕ, suc, ◌<◌, ◌≤◌, List, [], ◌∷◌, Option, Some, None, refl, sym, ap, ◌∙◌, subst, ⊎_elim, arith}
+use Rattle.std.proofs.Common.{◌≡◌, ℕ, ◌<◌, ◌≤◌, List, [], ◌∷◌, Option, Some, None, refl, sym, ap, ◌∙◌, subst, ⊎_elim, arith}
 use Rattle.std.proofs.lemmas.Bool.{cond-true, cond-false, le-leb, lt-leb, cases_lt}
 use Rattle.star_spec.specs.Code.{BinaryOperator, negation, addition, subtraction, multiplication, floor_division}
 use Rattle.star_spec.specs.Tokens as k
@@ -10,7 +10,7 @@ use Rattle.star_read.specs.declared.frame.Frame.{Frame}
 use Rattle.star_read.specs.declared.frame.Top.{Top}
 use Rattle.star_read.specs.declared.frame.Top.TheVariants as t
 use Rattle.star_read.specs.Machine.{State, raised, total, state_height, op_level, tightness, looseness, reduced, settle, act, act_settled, after, begin, step}
-use Rattle.star_read.proofs.Held.{binary_held, held, level_held, level_pos, source_pos}
+use Rattle.star_read.proofs.Held.{binary_held, held, level_held, level_pos}
 use Rattle.star_read.proofs.Steps.{Stays}
 use Rattle.star_read.proofs.Open.{Begun, b_unary, b_binary, b_group, frame, frames, spell_begun, before, gap, gap_max, AllBegun, close_begun}
 

@@ -1,18 +1,16 @@
 -- A turn of the machine, and the heights that it tests.
-use Rattle.std.proofs.Common.{get_or, take, length, ◌≡◌, ℕ, suc, ◌+◌, ◌-◌, ◌^◌, ◌<◌, ◌≤◌, max, min, List, [], ◌∷◌, ◌++◌, Option, Some, refl, ap, ◌∙◌, arith}
+use Rattle.std.proofs.Common.{get_or, take, length, ◌≡◌, ℕ, ◌+◌, ◌<◌, ◌≤◌, List, [], ◌∷◌, ◌++◌, Some, refl, ap, ◌∙◌, arith}
 use Rattle.std.proofs.lemmas.Bool.{cond-true, cond-false, le-leb, lt-leb}
 use Rattle.std.specs.Prelude.{reverse}
 use Rattle.std.proofs.lemmas.List.{take_more, reverse-append}
-use Rattle.star_spec.specs.Tokens.{Kind, Token}
+use Rattle.star_spec.specs.Tokens.{Token}
 use Rattle.star_spec.specs.Grammar.{Source, int, text, unary, binary, group, height}
-use Rattle.star_tree.specs.declared.expr.BinOp.{BinOp}
-use Rattle.star_tree.specs.declared.expr.BinOp.TheVariants.{Add, Subtract, Multiply, FloorDivide}
 use Rattle.star_tree.specs.declared.expr.Expr.{Expr}
 use Rattle.star_read.specs.declared.frame.Frame.{Frame}
 use Rattle.star_read.specs.declared.frame.Frame.TheVariants as f
 use Rattle.star_read.specs.declared.frame.Top.{Top}
 use Rattle.star_read.specs.declared.frame.Top.TheVariants as t
-use Rattle.star_read.specs.Machine.{raised, total, state_height, op_level, tightness, looseness, reduced, settle, act, act_settled, step, go_on, read}
+use Rattle.star_read.specs.Machine.{raised, total, state_height, tightness, looseness, reduced, settle, act, act_settled, step, go_on, read}
 
 -- ---- heights
 

@@ -1,10 +1,9 @@
 -- The reader's machine, which takes one token at a time.
-use Rattle.std.specs.Prelude.{◌≡◌, ℤ, ℕ, suc, max, Bool, nat_le, if◌then◌else◌, List, [], ◌∷◌, ◌++◌, Option, Some, None, Result, Ok, Err}
+use Rattle.std.specs.Prelude.{◌≡◌, ℕ, suc, max, nat_le, if◌then◌else◌, List, [], ◌∷◌, ◌++◌, Option, Some, None, Result, Ok, Err}
 use Rattle.ytt_base.specs.declared.text.Memory.{Memory}
 use Rattle.star_spec.specs.Tokens.{Kind, Token, token, int, text, plus, minus, star, double_slash, opening, closing, end}
 use Rattle.star_spec.specs.Grammar.{unary_level, sum_level, product_level, operand_level, Parses, Front, FormAt, DeepAt}
 use Rattle.star_tree.specs.View.{expr_of}
-use Rattle.star_tree.specs.declared.expr.UnOp.{UnOp}
 use Rattle.star_tree.specs.declared.expr.UnOp.TheVariants as unary
 use Rattle.star_tree.specs.declared.expr.BinOp.{BinOp}
 use Rattle.star_tree.specs.declared.expr.BinOp.TheVariants as binary
