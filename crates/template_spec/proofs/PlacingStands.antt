@@ -2,14 +2,14 @@
 use Rattle.std.proofs.Common.{◌≡◌, ℕ, Bool, true, false, if◌then◌else◌, List, [], ◌∷◌, Option, Some, None, Ok, Err}
 use Rattle.ytt_base.specs.declared.fault.Place.{Place}
 use Rattle.ytt_base.specs.Outcomes.{Outcome, ◌>>=◌}
-use Rattle.ytt_base.specs.Trees.{Scalar, scalar, list, map}
+use Rattle.ytt_base.specs.Trees.{Scalar}
 use Rattle.yaml_spec.specs.Flat.{not_built}
 use Rattle.yaml_spec.specs.Noted as noted
 use Rattle.yaml_spec.specs.Noted.{Comment, Note, Documents, noted_scalar, noted_list, noted_map, code_in, is_code}
 use Rattle.star_spec.specs.Code.{Expr}
 use Rattle.star_spec.specs.Reading.{Reader}
 use Rattle.template_spec.specs.Placed.{Around, free, in_node, Placed, PlacedContent, PlacedItem}
-use Rattle.template_spec.specs.Placing.{before_items, code_value, content_beside, map_in, scalar_in, document_at, document_content, own_place, pair_content, pair_under, placed, placed_document, placed_documents, placed_each, placed_pair, placed_pairs, value_content, without_comments}
+use Rattle.template_spec.specs.Placing.{before_items, content_beside, map_in, scalar_in, document_at, document_content, own_place, pair_content, pair_under, placed, placed_document, placed_documents, placed_each, placed_pair, placed_pairs, value_content, without_comments}
 use Rattle.template_spec.specs.Template.{Item, Items, Content, written_value}
 
 -- what an outcome gives is so

@@ -1,5 +1,5 @@
 -- What stands behind the mark of code.
-use Rattle.std.proofs.Common.{◌≡◌, ℕ, List, length, drop, Option, Some, None, MatchOption, Bool, true, false, sym, ap, subst, ◌∙◌, Bor, eqb, codes}
+use Rattle.std.proofs.Common.{◌≡◌, ℕ, List, drop, Option, Some, None, MatchOption, true, false, sym, ap, subst, ◌∙◌, Bor}
 use Rattle.std.specs.Str.{IsCharBoundary}
 use Rattle.std.specs.Str.Pattern.{FindsTextPrefix, StripsPrefix}
 use Rattle.std.proofs.lemmas.Str.Pattern.{starts_text}
