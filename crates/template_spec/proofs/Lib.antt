@@ -5,5 +5,6 @@ pub mod Leaving
 pub mod NamesAgree
 pub mod Nested
 pub mod Nesting
+pub mod PlacingStands
 pub mod Runs
 pub mod Theorem

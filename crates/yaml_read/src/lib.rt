@@ -4,8 +4,11 @@
 mod entry;
 mod lines;
 mod noted;
+mod noted_entry;
+mod noted_read;
 mod read;
 mod value;
 
 pub use noted::{Comments, Content, NotedDocs, NotedItem, NotedItems, RawComment};
+pub use noted_read::read_noted;
 pub use read::read_plain;

@@ -1,5 +1,6 @@
 pub mod Bytes
 pub mod Flat
+pub mod FlatNoted
 pub mod Lines
 pub mod Noted
 pub mod ReadsBack

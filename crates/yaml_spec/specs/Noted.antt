@@ -1,5 +1,6 @@
 -- Noted documents: trees with a line for each item and with the comments that belong to it (YAML 1.2.2, 3.1 and 6.6).
-use Rattle.std.specs.Prelude.{ℕ, Bool, List, Option, unwrap_or}
+use Rattle.std.specs.Prelude.{ℕ, Bool, ◌==◌, List, Option, unwrap_or, codes, drop}
+use Rattle.std.specs.List.{starts_with}
 use Rattle.ytt_base.specs.Trees.{Scalar, null, Tree, list, map, Trees, no_trees, tree, Pairs, no_pairs, pair}
 
 -- a comment from `#` on to the end of its line; `own_line` where only white space stands before it
@@ -50,3 +51,16 @@ abbrev mutual
   pub bare_pairs : Items → Pairs
   bare_pairs no_items = no_pairs
   bare_pairs (item n c is) = pair (key_of n) (bare_tree c) (bare_pairs is)
+
+-- ---- code in comments
+
+-- what the comment of a value expression begins with
+abbrev pub code_mark : List ℕ
+code_mark = codes "#@ "
+
+abbrev pub is_code : List ℕ → Bool
+is_code text = starts_with (λ a b. a == b) text code_mark
+
+-- the code behind the mark
+abbrev pub code_in : List ℕ → List ℕ
+code_in text = drop 3 text
