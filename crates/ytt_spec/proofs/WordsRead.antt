@@ -1,8 +1,8 @@
 -- Words that ask for a path are the words of a request, and all requests are read so.
-use Rattle.std.proofs.Common.{◌≡◌, ◌⊎◌, ℕ, ◌+◌, Bool, true, false, ◌&&◌, cond, List, [], ◌∷◌, Option, Some, None, is_none, codes, bytes_eq, refl, ap, sym, ◌∙◌, inl, inr, ⊎_elim}
+use Rattle.std.proofs.Common.{◌≡◌, ℕ, ◌+◌, Bool, true, false, ◌&&◌, cond, List, [], ◌∷◌, Option, Some, None, is_none, codes, bytes_eq, refl, ap, sym, ◌∙◌, inl, inr, ⊎_elim}
 use Rattle.std.proofs.lemmas.Slice.Eq.{bytes_eq-Decides}
 use Rattle.ytt_spec.specs.Requests.{Given, path_given, steps_given, spelled, paths, numbers, IsBudget, IsRequest}
-use Rattle.ytt_spec.specs.Words.{Asked, render, wrong, default_steps, is_path, is_steps, number_of, is_command, is_path_option, is_steps_option, options, path_of, steps_of, asked}
+use Rattle.ytt_spec.specs.Words.{render, wrong, default_steps, is_path, is_steps, number_of, is_command, is_path_option, is_steps_option, options, path_of, steps_of, asked}
 
 -- ---- what the options still have to give, behind those that were read
 

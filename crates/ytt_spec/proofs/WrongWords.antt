@@ -1,5 +1,5 @@
 -- The number of the wrong word is that of the first at which no request goes on.
-use Rattle.std.proofs.Common.{◌≡◌, ℕ, ◌+◌, ◌-◌, ◌≤◌, Bool, true, false, ◌&&◌, cond, List, [], ◌∷◌, ◌++◌, length, take, Option, Some, None, is_none, unwrap_or, codes, refl, ap, sym, ◌∙◌, subst, arith, append_assoc, append-nil}
+use Rattle.std.proofs.Common.{◌≡◌, ℕ, ◌+◌, ◌-◌, ◌≤◌, Bool, true, false, ◌&&◌, cond, List, [], ◌∷◌, ◌++◌, length, take, Option, Some, None, is_none, unwrap_or, codes, refl, ap, sym, ◌∙◌, arith, append_assoc, append-nil}
 use Rattle.std.proofs.Math.Seq.{take-append_seam, take-append-add}
 use Rattle.ytt_spec.proofs.WordsRead.{read_request, request_read}
 use Rattle.ytt_spec.specs.Requests.{Begins, IsFirstWrong}
@@ -134,7 +134,7 @@ without_command word words m h (x ∷ front) s f =
     let split : word ∷ words ≡ x ∷ (front ++ s.rest) = s.split ∙ ap (λ l. l ++ s.rest) f in
     let same : x ≡ word = cc in
     let read : (others : List (List ℕ)) → asked (s.front ++ others) ≡ options 1 None None (s.front ++ others) = λ others.
-        ap (λ l. asked (l ++ others)) f ∙ ap (λ v. cond v (options 2 None None (front ++ others)) (options 1 None None (x ∷ (front ++ others)))) (ap is_command same ∙ h) ∙ sym (ap (λ l. options 1 None None (l ++ others)) f) in
+    ap (λ l. asked (l ++ others)) f ∙ ap (λ v. cond v (options 2 None None (front ++ others)) (options 1 None None (x ∷ (front ++ others)))) (ap is_command same ∙ h) ∙ sym (ap (λ l. options 1 None None (l ++ others)) f) in
     record {
       front = s.front;
       rest = s.rest;
