@@ -1,5 +1,5 @@
 -- The plain data that tokens of the program stand for.
-use Rattle.std.specs.Prelude.{ℕ, List, [], ◌∷◌, Option, None, Some}
+use Rattle.std.specs.Prelude.{List, [], ◌∷◌}
 use Rattle.std.specs.Option.{option_map}
 use Rattle.star_spec.specs.Tokens as plain
 use Rattle.star_spec.specs.Tokens.{int, text, plus, minus, star, double_slash, opening, closing, end}

@@ -4,5 +4,5 @@
 mod expr;
 mod program;
 
-pub use expr::{Args, BinOp, Expr, UnOp};
+pub use expr::{Args, BinOp, Expr, UnOp, copy_args};
 pub use program::{Holds, Instr, Instrs, ItemKind, NodeOp, Program};

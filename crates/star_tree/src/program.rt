@@ -1,7 +1,9 @@
 // Programs: what a template is compiled to.
 
-use crate::expr::Expr;
+use crate::expr::{Args, Expr};
 use sqlite_items::Items;
+use ytt_base::fault::Place;
+use ytt_base::text::Text;
 use ytt_base::tree::{Key, Tree};
 
 /// What an item is.
@@ -22,14 +24,16 @@ pub enum Holds {
     Void,
 }
 
-/// A part of a node, with its line.
+/// A part of a node, with its place: its start, a note with its name and arguments, a pair's key, its
+/// value as it is written or from an expression, its end.
 #[derive(Drop)]
 pub enum NodeOp {
-    Start(u32, ItemKind, Holds),
-    Key(u32, Key),
-    Value(u32, Tree),
-    ValueFrom(u32, Expr),
-    End(u32),
+    Start(Place, ItemKind, Holds),
+    Note(Place, Text, Args),
+    Key(Place, Key),
+    Value(Place, Tree),
+    ValueFrom(Place, Expr),
+    End(Place),
 }
 
 /// An instruction of a program.

@@ -2,3 +2,4 @@ pub mod Breaks
 pub mod NotedReading
 pub mod Noting
 pub mod Reading
+pub mod Views

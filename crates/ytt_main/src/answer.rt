@@ -72,7 +72,7 @@ pub fn answer_words<F: Files>(alloc: Global, words: &[String], files: &mut F) ->
     ensures found { Found (asked (map string_bytes words.now)) (F.tree files.old) (F.faults files.old) (F.faults files.new) result }
 {
     match read_words(words) {
-        Ok(path) => answer_render(alloc, path.as_str(), files),
+        Ok(request) => answer_render(alloc, request.path.as_str(), files),
         Err(word) => match usage_text(alloc, word) {
             Ok(line) => Answer::Usage(line),
             Err(_) => Answer::Memory,

@@ -1,5 +1,4 @@
-use Rattle.std.proofs.Common.{◌≡◌, ap, sym, ◌∙◌, arith}
-use Rattle.std.proofs.lemmas.Grind.{common_steps}
+use Rattle.std.proofs.Common.{◌≡◌, sym, ◌∙◌, arith}
 use Rattle.std.proofs.lemmas.Bool.{cond-true, le-leb}
 use Rattle.star_read.specs.Machine.{raised, reduced, settle, tightness, total}
 use Rattle.star_read.proofs.Steps.{raised_below}

@@ -1,4 +1,4 @@
-use Rattle.std.proofs.Common.{◌≡◌, ◌≤◌, ◌<◌, ◌+◌, ◌-◌, arith, ap, subst, get_or, take}
+use Rattle.std.proofs.Common.{◌≡◌, ◌<◌, ◌+◌, ◌-◌, arith, ap, subst, get_or, take}
 use Rattle.std.specs.Prelude.{reverse}
 use Rattle.star_read.specs.declared.frame.Frame.{Frame}
 use Rattle.star_read.specs.Machine.{total, raised}

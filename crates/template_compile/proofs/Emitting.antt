@@ -1,0 +1,52 @@
+-- Instructions that are put behind others.
+use Rattle.std.proofs.Common.{◌≡◌, ℕ, ◌+◌, ◌<◌, List, [], ◌∷◌, ◌++◌, length, drop, get_or, refl, sym, ap, ◌∙◌, add-one, append_assoc, append-nil, Result, Ok, Err, OnOk}
+use Rattle.ytt_base.specs.declared.text.Memory.{Memory}
+use Rattle.std.proofs.Math.Seq.{drop-cons}
+use Rattle.star_spec.specs.Program.{Instruction, part}
+use Rattle.star_tree.specs.declared.program.Instr.{Instr}
+use Rattle.star_tree.specs.declared.program.Instr.TheVariants as instr
+use Rattle.star_tree.specs.declared.program.NodeOp.{NodeOp}
+use Rattle.star_tree.specs.View.{instruction_of, instructions_of, part_of}
+use Rattle.template_compile.specs.Emits.{Emits}
+
+instructions_append : (file : ℕ) (a b : List Instr) → instructions_of file (a ++ b) ≡ instructions_of file a ++ instructions_of file b
+instructions_append file [] b = refl
+instructions_append file (i ∷ a) b = ap (λ is. instruction_of file i ∷ is) (instructions_append file a b)
+
+-- one instruction
+pub emits_one : (file : ℕ) (old new : List Instr) (op : NodeOp) → new ≡ old ++ instr.Node op ∷ [] → Emits file old new (λ is. part (part_of file op) ∷ is)
+emits_one file old new op e is =
+    ap (λ all. instructions_of file all ++ is) e
+    ∙ ap (λ all. all ++ is) (instructions_append file old (instr.Node op ∷ []))
+    ∙ append_assoc (instructions_of file old) (part (part_of file op) ∷ []) is
+
+-- one part, and then another
+pub emits_then : (file : ℕ) (a b c : List Instr) (f g : List Instruction → List Instruction) → Emits file a b f → Emits file b c g → Emits file a c (λ is. f (g is))
+emits_then file a b c f g h k is = k is ∙ h (g is)
+
+-- the same instructions
+pub emits_same : (file : ℕ) (a b : List Instr) (f g : List Instruction → List Instruction) → Emits file a b f → g ≡ f → Emits file a b g
+emits_same file a b f g h e is = h is ∙ ap (λ k. instructions_of file a ++ k is) (sym e)
+
+-- the member at an index, and those behind it
+pub dropped : {T : Type 0} (xs : List T) (j : ℕ) (x : T) → j < length xs → x ≡ get_or xs j x → drop j xs ≡ x ∷ drop (j + 1) xs
+dropped xs j x lt e = drop-cons xs j x lt ∙ (λ i. sym e i ∷ drop (sym (add-one j) i) xs)
+
+-- one more member of a loop, whose instructions in front of the rest are those of all that are left
+pub emits_next : {T : Type 0} (file : ℕ) (a b c : List Instr) (xs : List T) (j : ℕ) (x : T) (rest : List T → List Instruction → List Instruction) (all one : List Instruction → List Instruction) →
+    j < length xs → x ≡ get_or xs j x → ((ys : List T) (is : List Instruction) → rest (x ∷ ys) is ≡ one (rest ys is)) →
+    ((is : List Instruction) → instructions_of file b ++ rest (drop j xs) is ≡ instructions_of file a ++ all is) → Emits file b c one →
+    (is : List Instruction) → instructions_of file c ++ rest (drop (j + 1) xs) is ≡ instructions_of file a ++ all is
+emits_next file a b c xs j x rest all one lt e first h k is =
+    k (rest (drop (j + 1) xs) is)
+    ∙ ap (λ l. instructions_of file b ++ l) (sym (ap (λ l. rest l is) (dropped xs j x lt e) ∙ first (drop (j + 1) xs) is))
+    ∙ h is
+
+-- the same instructions, where there was room
+pub on_ok_same : (r : Result (Unit {0}) Memory) (file : ℕ) (a b : List Instr) (f g : List Instruction → List Instruction) → OnOk r (Emits file a b f) → g ≡ f → OnOk r (Emits file a b g)
+on_ok_same (Ok u) file a b f g h e = emits_same file a b f g h e
+on_ok_same (Err m) file a b f g h e = tt
+
+-- what was put behind no instruction is all that there is
+pub emits_all : (file : ℕ) (old new : List Instr) (f : List Instruction → List Instruction) → old ≡ [] → Emits file old new f → instructions_of file new ≡ f []
+emits_all file old new f e h = sym (append-nil (instructions_of file new)) ∙ h [] ∙ ap (λ l. instructions_of file l ++ f []) e

@@ -1,0 +1,45 @@
+-- The plain items of what a template is made of.
+use Rattle.std.proofs.Common.{◌≡◌, ℕ, List, [], ◌∷◌, Option, None, true, false, ◌||◌, ◌&&◌, not, if◌then◌else◌, refl, sym, ap, ◌∙◌}
+use Rattle.star_spec.specs.Program.{ItemKind, pair_item, element_item, holds_map, holds_list, holds_void}
+use Rattle.star_tree.specs.declared.expr.Expr.{Expr}
+use Rattle.template_spec.specs.Template.{Content, is_node, is_written, has_nodes, has_written, is_void}
+use Rattle.template_spec.specs.Compiled.{holds_of}
+use Rattle.template_tree.specs.declared.tree.TContent as content
+use Rattle.template_tree.specs.declared.tree.TContent.{TContent}
+use Rattle.template_tree.specs.declared.tree.TItem.{TItem, fold_out-TItem, out-TItem, map-TItem}
+use Rattle.template_tree.specs.declared.tree.TContent.TheOpen.{TItem-F}
+use Rattle.template_tree.specs.declared.tree.TNode.{TNode}
+use Rattle.template_tree.specs.View.{Standing, content_of, content_step, in_content, item_of, item_step, items_as, node_of, node_step}
+use Rattle.template_tree.proofs.Views.{node_of-node, content_of-Map, content_of-List}
+
+node_layer : (file : ℕ) (kind : ItemKind) (x : TItem-F TContent TItem TNode) → is_node (item_step (map-TItem TContent TItem TNode Content Standing Standing (content_of file) (item_of file) (node_of file) x) kind) ≡ true
+node_layer file kind (TItem-F.Node n) = ap is_node (node_of-node file n kind)
+
+node_here : (file : ℕ) (i : TItem) (kind : ItemKind) → is_node (item_of file i kind) ≡ true
+node_here file i kind = ap (λ (s : Standing). is_node (s kind)) (fold_out-TItem Content Standing Standing content_step item_step (node_step file) i) ∙ node_layer file kind (out-TItem i)
+
+written_layer : (file : ℕ) (kind : ItemKind) (x : TItem-F TContent TItem TNode) → is_written (item_step (map-TItem TContent TItem TNode Content Standing Standing (content_of file) (item_of file) (node_of file) x) kind) ≡ true
+written_layer file kind (TItem-F.Node n) = ap is_written (node_of-node file n kind)
+
+written_here : (file : ℕ) (i : TItem) (kind : ItemKind) → is_written (item_of file i kind) ≡ true
+written_here file i kind = ap (λ (s : Standing). is_written (s kind)) (fold_out-TItem Content Standing Standing content_step item_step (node_step file) i) ∙ written_layer file kind (out-TItem i)
+
+-- where all items are nodes, no collection is void
+pub not_void : (kind : ItemKind) (file : ℕ) (is : List TItem) → is_void (items_as kind file is) ≡ false
+not_void kind file [] = refl
+not_void kind file (i ∷ is) =
+    λ j. (written_here file i kind j || has_written (items_as kind file is)) && not (node_here file i kind j || has_nodes (items_as kind file is))
+
+-- ---- contents
+
+pub holds_map_here : (file : ℕ) (o : Option Expr) (c : TContent) (is : List TItem) → o ≡ None → c ≡ content.Map is → holds_map ≡ holds_of (in_content file o (content_of file c))
+holds_map_here file o c is e f =
+    sym (ap (λ (p : Option Expr). holds_of (in_content file p (content_of file c))) e
+    ∙ ap holds_of (ap (content_of file) f ∙ content_of-Map file is)
+    ∙ ap (λ b. if b then holds_void else holds_map) (not_void pair_item file is))
+
+pub holds_list_here : (file : ℕ) (o : Option Expr) (c : TContent) (is : List TItem) → o ≡ None → c ≡ content.List is → holds_list ≡ holds_of (in_content file o (content_of file c))
+holds_list_here file o c is e f =
+    sym (ap (λ (p : Option Expr). holds_of (in_content file p (content_of file c))) e
+    ∙ ap holds_of (ap (content_of file) f ∙ content_of-List file is)
+    ∙ ap (λ b. if b then holds_void else holds_list) (not_void element_item file is))

@@ -1,0 +1,7 @@
+//! From a template to its program.
+#![tactic(auto)]
+
+mod compile;
+mod parts;
+
+pub use compile::compile_flat;
