@@ -1,5 +1,5 @@
 -- What is read of lines in UTF-8 is UTF-8: folded lines, strings in quotes, block scalars and plain scalars.
-use Rattle.std.proofs.Common.{◌≡◌, ℕ, zero, suc, ◌+◌, ◌<◌, ◌≤◌, Bool, true, false, ◌&&◌, ◌||◌, ◌==◌, List, [], ◌∷◌, ◌++◌, map, length, take, drop, Ok, Err, Option, Some, None, Result, refl, sym, ap, subst, arith, true≢false, if◌then◌else◌, replicate}
+use Rattle.std.proofs.Common.{◌≡◌, ℕ, zero, suc, ◌+◌, ◌<◌, Bool, true, false, ◌&&◌, ◌||◌, ◌==◌, List, [], ◌∷◌, ◌++◌, map, drop, Ok, Option, Some, None, refl, arith, if◌then◌else◌, replicate}
 use Rattle.std.specs.Prelude.{IsUtf8, nat_le}
 use Rattle.std.proofs.lemmas.Bool.{leb-true}
 use Rattle.std.proofs.lemmas.Bool.Decides.{nat_tests}
@@ -8,11 +8,11 @@ use Rattle.ytt_base.specs.declared.fault.Place.{Place}
 use Rattle.ytt_base.specs.declared.fault.FaultKind.TheVariants as kind
 use Rattle.yaml_spec.specs.Refusals.{refused}
 use Rattle.ytt_base.specs.Outcomes.{Outcome, ◌>>=◌}
-use Rattle.yaml_spec.specs.Bytes.{quote, first, is_empty, is_white, is_blank, skip_white, indent}
+use Rattle.yaml_spec.specs.Bytes.{quote, first, is_empty, is_blank, skip_white, indent}
 use Rattle.yaml_spec.specs.Lines.{Line}
 use Rattle.yaml_spec.specs.Folding.{Part, breaks, joint, is_empty_line, fold_rest, fold_parts, whole_line, Fold}
 use Rattle.yaml_spec.specs.Quotes.{Cursor, Scan, open_end, closed, wrong, scan, parts, Quote, quote_on_line, starts_quote}
-use Rattle.yaml_spec.specs.Blocks.{Chomp, strip, clip, keep, is_spaces, Body, found_indent, too_long, lines_within, lines_of_spaces, body_at, empty_body, body, drop_empty_end, literal, between, folded_rest, folded, starts_white, end_breaks, block_text, header, ends_header, Block}
+use Rattle.yaml_spec.specs.Blocks.{Chomp, strip, clip, keep, is_spaces, Body, found_indent, too_long, lines_within, lines_of_spaces, body, drop_empty_end, literal, between, folded_rest, folded, starts_white, end_breaks, block_text, header, ends_header, Block}
 use Rattle.yaml_spec.specs.Plain.{part, behind, ends_scalar, breaks_scalar, further}
 use Rattle.yaml_laws.proofs.Yields.{Yields, yields_ok, yields_err, yields_bind, yields_if, yields_option}
 use Rattle.yaml_laws.proofs.TextParts.{utf8_drop, utf8_one, skip_utf8, part_utf8, spaces_utf8, indent_utf8}

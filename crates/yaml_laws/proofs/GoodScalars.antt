@@ -1,12 +1,11 @@
 -- A scalar that is read is one that the program holds: its integer has 128 bits, its string is UTF-8.
-use Rattle.std.proofs.Common.{◌≡◌, ℕ, zero, suc, ◌^◌, ◌<◌, ◌≤◌, ℤ, pos, negsuc, Bool, true, false, List, [], ◌∷◌, Result, Ok, Err, Some, None, FitsSigned, refl, sym, ap, subst, arith, true≢false, if◌then◌else◌}
+use Rattle.std.proofs.Common.{◌≡◌, ℕ, zero, suc, ◌^◌, ◌<◌, ◌≤◌, pos, Bool, true, false, List, ◌∷◌, Result, Ok, Err, FitsSigned, refl, arith, if◌then◌else◌}
 use Rattle.std.specs.Prelude.{IsUtf8, nat_le, nat_lt, codes, bytes_eq}
 use Rattle.std.specs.Int.{w128}
 use Rattle.std.proofs.lemmas.Bool.{leb-true, ltb-true}
 use Rattle.ytt_base.specs.declared.fault.FaultKind.{FaultKind}
 use Rattle.ytt_base.specs.declared.fault.FaultKind.TheVariants as kind
 use Rattle.ytt_base.specs.declared.fault.Place.{Place}
-use Rattle.ytt_base.specs.Outcomes.{Outcome, ◌>>=◌}
 use Rattle.ytt_base.specs.Trees.{Scalar, null, boolean, integer, string, IsScalar}
 use Rattle.yaml_spec.specs.Bytes.{is_blank}
 use Rattle.yaml_spec.specs.Scalars.{Form, null_form, bool_form, octal_form, bad_octal_form, integer_form, prefixed_form, float_form, word_form, string_form, form, digits_value, unsigned, with_sign, integer_of, is_negative, value_of, plain}

@@ -1,18 +1,18 @@
 -- What is read of lines in UTF-8 holds only scalars that the program holds: in brackets, and as a value on a line.
-use Rattle.std.proofs.Common.{◌≡◌, ℕ, zero, suc, ◌<◌, Bool, true, false, ◌&&◌, ◌||◌, ◌==◌, List, [], ◌∷◌, ◌++◌, drop, length, Option, Some, None, Ok, Err, refl, sym, ap, subst, arith, true≢false, if◌then◌else◌}
+use Rattle.std.proofs.Common.{◌≡◌, ℕ, zero, suc, ◌<◌, Bool, true, false, ◌&&◌, ◌||◌, ◌==◌, List, [], ◌∷◌, ◌++◌, length, Option, Some, None, Ok, refl, sym, arith, true≢false}
 use Rattle.std.specs.Prelude.{IsUtf8, nat_lt}
 use Rattle.std.proofs.lemmas.Bool.{eqb-true}
 use Rattle.ytt_base.specs.declared.fault.FaultKind.TheVariants as kind
 use Rattle.ytt_base.specs.declared.fault.Place.{Place}
 use Rattle.ytt_base.specs.Outcomes.{Outcome, ◌>>=◌}
-use Rattle.ytt_base.specs.Trees.{Scalar, null, string, IsScalar, scalar, IsTree}
-use Rattle.yaml_spec.specs.Bytes.{hash, bar, greater, comma, colon, left_bracket, right_bracket, left_brace, right_brace, first, is_empty, skip_white}
+use Rattle.ytt_base.specs.Trees.{string, IsScalar, IsTree}
+use Rattle.yaml_spec.specs.Bytes.{hash, bar, greater, comma, left_bracket, right_bracket, left_brace, right_brace, first, is_empty, skip_white}
 use Rattle.yaml_spec.specs.Refusals.{refused}
 use Rattle.yaml_spec.specs.Lines.{Line}
-use Rattle.yaml_spec.specs.Noted.{Comment, Note, Content, noted_scalar, noted_list, noted_map, Items, no_items, item, key_of, is_note}
+use Rattle.yaml_spec.specs.Noted.{Comment, Content, noted_scalar, noted_list, noted_map, Items, no_items, item, key_of, is_note}
 use Rattle.yaml_spec.specs.Quotes.{Cursor, after, Quote, quote_on_line, starts_quote}
-use Rattle.yaml_spec.specs.Blocks.{ends_header, header_rest, Block}
-use Rattle.yaml_spec.specs.Plain.{start_fault, behind, plain_lines, plain_key, typed}
+use Rattle.yaml_spec.specs.Blocks.{header_rest, Block}
+use Rattle.yaml_spec.specs.Plain.{start_fault, plain_lines, plain_key, typed}
 use Rattle.yaml_spec.specs.Flow.{Look, line_over, comment, note_comment, token, look, gap, next_token, Node, Members, starts_collection, is_key_end, is_single_pair, Flow_key, flow_key, elements, pair_value, value_behind, pairs, size, flow_scalar, flow}
 use Rattle.yaml_spec.specs.Values.{Value, noted, ended, has_stray_note, value}
 use Rattle.yaml_laws.proofs.Yields.{Yields, yields_ok, yields_err, yields_bind, yields_if, yields_test, yields_cond, yields_option}

@@ -8,6 +8,8 @@ pub mod GoodParts
 pub mod GoodScalars
 pub mod HeadsBack
 pub mod Held
+pub mod HeldDocuments
+pub mod HeldRows
 pub mod ItemsBack
 pub mod KeysBack
 pub mod LiteralsBack

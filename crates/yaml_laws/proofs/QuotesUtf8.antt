@@ -1,18 +1,14 @@
 -- What is read in quotes is UTF-8, and so is the text behind it.
-use Rattle.std.proofs.Common.{◌≡◌, ℕ, zero, suc, ◌+◌, ◌*◌, ◌<◌, ◌≤◌, Bool, true, false, ◌&&◌, ◌||◌, ◌==◌, List, [], ◌∷◌, ◌++◌, Option, Some, None, refl, sym, ◌∙◌, ap, subst, append_assoc, arith, true≢false, length, if◌then◌else◌}
+use Rattle.std.proofs.Common.{◌≡◌, ℕ, zero, suc, ◌+◌, ◌*◌, ◌<◌, ◌≤◌, Bool, true, false, ◌&&◌, ◌==◌, List, [], ◌∷◌, ◌++◌, Option, Some, None, refl, sym, ◌∙◌, ap, subst, append_assoc, arith, true≢false, length, if◌then◌else◌}
 use Rattle.std.specs.Prelude.{IsUtf8, nat_lt}
-use Rattle.std.specs.Char.{IsScalar}
 use lib.Utf8.{encode, encodes, scalars, scalar}
 use Rattle.std.proofs.lemmas.Bool.{eqb-true, ne_eqb, ltb-true, ltb-false}
 use Rattle.std.proofs.lemmas.Bool.Decides.{nat_tests}
 use Rattle.std.proofs.lemmas.Str.{IsUtf8-nil, IsUtf8-append, IsUtf8-encode, length-encode, len_utf8_bounds}
-use Rattle.ytt_base.specs.declared.fault.Place.{Place}
-use Rattle.ytt_base.specs.Outcomes.{Outcome}
 use Rattle.yaml_spec.specs.Bytes.{quote, apostrophe, backslash, is_white, is_hex_digit, digit_value}
-use Rattle.yaml_spec.specs.Folding.{Part}
 use Rattle.yaml_spec.specs.Quotes.{Scan, open_end, closed, wrong, prepend, line_ends, single, Mode, normal, escape, digits, escaped, escape_digits, is_scalar_value, double, scan}
 use Rattle.yaml_laws.proofs.QuotesBack.{AreHigh, high, encode_high, encode_low}
-use Rattle.yaml_laws.proofs.TextParts.{white_low, utf8_one}
+use Rattle.yaml_laws.proofs.TextParts.{utf8_one}
 
 -- the strings of what a line holds are UTF-8
 unfoldable pub IsGoodScan : Scan → Type 0
@@ -153,9 +149,23 @@ char_first c l = high_first (encode c) (encode_high c l) (let b = len_utf8_bound
 escaped_high : (b : ℕ) → 128 ≤ b → (escaped b ≡ None) × (escape_digits b ≡ None)
 escaped_high b l = (
   rw (
-    ne_eqb b 48 (omega arith), ne_eqb b 97 (omega arith), ne_eqb b 98 (omega arith), ne_eqb b 116 (omega arith), ne_eqb b 110 (omega arith), ne_eqb b 118 (omega arith),
-    ne_eqb b 102 (omega arith), ne_eqb b 114 (omega arith), ne_eqb b 101 (omega arith), ne_eqb b 32 (omega arith), ne_eqb b 34 (omega arith), ne_eqb b 47 (omega arith),
-    ne_eqb b 92 (omega arith), ne_eqb b 78 (omega arith), ne_eqb b 95 (omega arith), ne_eqb b 76 (omega arith), ne_eqb b 80 (omega arith),
+    ne_eqb b 48 (omega arith),
+    ne_eqb b 97 (omega arith),
+    ne_eqb b 98 (omega arith),
+    ne_eqb b 116 (omega arith),
+    ne_eqb b 110 (omega arith),
+    ne_eqb b 118 (omega arith),
+    ne_eqb b 102 (omega arith),
+    ne_eqb b 114 (omega arith),
+    ne_eqb b 101 (omega arith),
+    ne_eqb b 32 (omega arith),
+    ne_eqb b 34 (omega arith),
+    ne_eqb b 47 (omega arith),
+    ne_eqb b 92 (omega arith),
+    ne_eqb b 78 (omega arith),
+    ne_eqb b 95 (omega arith),
+    ne_eqb b 76 (omega arith),
+    ne_eqb b 80 (omega arith),
   ) refl,
   rw (ne_eqb b 120 (omega arith), ne_eqb b 117 (omega arith), ne_eqb b 85 (omega arith)) refl,
 )

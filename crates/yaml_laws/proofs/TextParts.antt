@@ -1,16 +1,19 @@
 -- Parts of UTF-8 text that are cut at ASCII bytes are UTF-8.
-use Rattle.std.proofs.Common.{◌≡◌, ℕ, zero, suc, ◌+◌, ◌<◌, ◌≤◌, Bool, true, false, ◌&&◌, ◌||◌, ◌==◌, List, [], ◌∷◌, ◌++◌, length, take, drop, get_or, refl, sym, ◌∙◌, ap, subst, append_assoc, arith, true≢false, if◌then◌else◌}
-use Rattle.std.specs.Prelude.{IsUtf8}
+use Rattle.std.proofs.Common.{◌≡◌, ℕ, zero, suc, ◌<◌, ◌≤◌, Bool, true, false, ◌&&◌, ◌||◌, ◌==◌, List, [], ◌∷◌, ◌++◌, length, take, drop, get_or, refl, sym, ◌∙◌, ap, subst, arith, true≢false, if◌then◌else◌}
+use Rattle.std.specs.Prelude.{IsUtf8, bytes_eq}
 use Rattle.std.specs.Str.{IsCharBoundary}
 use Rattle.std.proofs.Math.Seq.{drop-append_seam, take-append_seam}
 use Rattle.std.proofs.lemmas.Bool.{eqb-true}
 use Rattle.std.proofs.lemmas.Bool.Decides.{nat_tests}
-use Rattle.std.proofs.lemmas.List.{append-nil, length-append}
+use Rattle.std.proofs.lemmas.List.{append-nil, length-append, take-append-drop}
+use Rattle.std.proofs.lemmas.Slice.Eq.{bytes_eq-Decides}
 use Rattle.std.proofs.lemmas.Str.{IsUtf8-nil, IsUtf8-append, IsUtf8-take, IsUtf8-drop, IsUtf8-from_ascii, IsCharBoundary-before_ascii, IsCharBoundary-after_ascii, IsCharBoundary-end}
 use Rattle.std.proofs.lemmas.Str.Ascii.{IsAscii-nil, IsAscii-cons}
-use Rattle.yaml_spec.specs.Bytes.{first, is_white, is_empty, skip_white, trim_end, indent, is_flow_indicator, space}
-use Rattle.yaml_spec.specs.Plain.{ends_before, is_stop, span, part, behind}
+use Rattle.yaml_spec.specs.Bytes.{first, is_white, is_empty, skip_white, trim_end, indent, space}
+use Rattle.yaml_spec.specs.Plain.{ends_before, span, part, behind}
 use Rattle.yaml_spec.specs.Blocks.{is_spaces}
+use Rattle.yaml_spec.specs.Lines.{Line}
+use Rattle.yaml_spec.specs.Read.{is_start, is_stop}
 
 -- ---- at an ASCII byte
 
@@ -124,3 +127,23 @@ indent_utf8 (b ∷ bs) (suc n) l u = go (indent_utf8 bs n) (b == space) refl l
     go : (n ≤ indent bs → IsUtf8 bs → IsUtf8 (drop n bs)) → (s : Bool) → (b == space) ≡ s → suc n ≤ elim s as (λ _. ℕ) [ true ↦ suc (indent bs) | false ↦ 0 ] → IsUtf8 (drop n bs)
     go h true p l = h (omega arith) (utf8_tail b bs (let q = eqb-true b space p in omega arith) u)
     go h false p l = absurd (omega arith)
+
+-- ---- markers
+
+marker_text : (a b c : ℕ) (t : List ℕ) → a < 128 → b < 128 → c < 128 → bytes_eq (take 3 t) (a ∷ b ∷ c ∷ []) ≡ true → IsUtf8 t → IsUtf8 (drop 3 t)
+marker_text a b c t l m n e u =
+    let p : take 3 t ≡ a ∷ b ∷ c ∷ [] = (bytes_eq-Decides (take 3 t) (a ∷ b ∷ c ∷ [])).0 e in
+    let q : t ≡ a ∷ b ∷ c ∷ drop 3 t = sym (take-append-drop 3 t) ∙ ap (λ x. x ++ drop 3 t) p in
+    utf8_tail c _ n (utf8_tail b _ m (utf8_tail a _ l (subst IsUtf8 q u)))
+
+-- behind the marker of a line
+pub utf8_marker : (l : Line) → (is_start l || is_stop l) ≡ true → IsUtf8 l.text → IsUtf8 (drop 3 l.text)
+utf8_marker l e u = go (is_start l) refl e
+  where
+    front : (x y : Bool) → (x && y) ≡ true → x ≡ true
+    front true y e = refl
+    front false y e = absurd (true≢false (sym e))
+
+    go : (b : Bool) → is_start l ≡ b → (b || is_stop l) ≡ true → IsUtf8 (drop 3 l.text)
+    go true p e = marker_text 45 45 45 l.text (omega arith) (omega arith) (omega arith) (front _ _ p) u
+    go false p e = marker_text 46 46 46 l.text (omega arith) (omega arith) (omega arith) (front _ _ e) u
