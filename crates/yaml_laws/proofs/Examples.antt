@@ -156,6 +156,65 @@ documents_read :
 unfolding is_utf8 chars encode digits cut lines_of checked Lines form plain fold_parts single double parts Quote header body block_text Block start_fault span further plain_lines gap flow_key elements pair_value pairs flow_scalar flow noted ended value key_at heads_of row_at taken rows cut_after content_of entry_content entry entry_at entries Doc segments explicit read_ended documents implicit Read distinct read_trees fits_plain fits_literal
 documents_read = (refl, refl, refl, refl, refl, refl, refl, refl, refl, refl)
 
+-- what ends behind an indicator, and tabs
+gaps_read :
+    (read_trees 1 (codes "a:\t\nb:\t# c\n") ≡ Ok (tree (map (pair (string (codes "a")) (scalar null) (pair (string (codes "b")) (scalar null) no_pairs))) no_trees))
+    × (read_trees 1 (codes "-\t\n- 1\n") ≡ Ok (tree (list (tree (scalar null) (tree (integral (pos 1)) no_trees))) no_trees))
+    × (read_trees 1 (codes "-\tx\n") ≡ Ok (tree (text (codes "-\tx")) no_trees))
+    × (read_trees 1 (codes "---\t\na\n") ≡ Ok (tree (text (codes "a")) no_trees))
+    × (read_trees 1 (codes "---\tx\n") ≡ Ok (tree (text (codes "---\tx")) no_trees))
+    × (read_trees 1 (codes "...\tx\n") ≡ Ok (tree (text (codes "...\tx")) no_trees))
+    × (read_trees 1 (codes "a: [1]\n \tb: 2\n") ≡ fault kind.YamlTab 2)
+    × (read_trees 1 (codes "- [a]\n \t- b\n") ≡ fault kind.YamlTab 2)
+    × (read_trees 1 (codes "- a\n \t- b\n") ≡ Ok (tree (list (tree (text (codes "a - b")) no_trees)) no_trees))
+    × (read_trees 1 (codes "a:\n  \tx\n") ≡ Ok (tree (map (pair (string (codes "a")) (text (codes "x")) no_pairs)) no_trees))
+    × (read_trees 1 (codes "?\n") ≡ fault kind.YamlOut 1)
+    × (read_trees 1 (codes "a: -\n") ≡ fault kind.YamlForm 1)
+    × (read_trees 1 (codes "a: [1]\n  ? b\n") ≡ fault kind.YamlForm 2)
+    × (read_trees 1 (codes "a: 1\n!x b\n") ≡ fault kind.YamlOut 2)
+    × (read_trees 1 (codes "a: b:\t\n") ≡ fault kind.YamlForm 1)
+    × (read_trees 1 (codes "[a:\t]\n") ≡ fault kind.YamlForm 1)
+    × (read_trees 1 (codes "a:\t: b\n") ≡ fault kind.YamlForm 1)
+unfolding is_utf8 chars encode digits cut lines_of checked Lines form plain fold_parts single double parts Quote header body block_text Block start_fault span further plain_lines gap flow_key elements pair_value pairs flow_scalar flow noted ended value key_at heads_of row_at taken rows cut_after content_of entry_content entry entry_at entries Doc segments explicit read_ended documents implicit Read distinct read_trees fits_plain fits_literal
+gaps_read = (refl, refl, refl, refl, refl, refl, refl, refl, refl, refl, refl, refl, refl, refl, refl, refl, refl)
+
+-- a collection in brackets before a colon
+bracket_keys :
+    (read_trees 1 (codes "- a: [b]: c\n") ≡ fault kind.YamlForm 1)
+    × (read_trees 1 (codes "--- [a]: 1\n") ≡ fault kind.YamlForm 1)
+    × (read_trees 1 (codes "[[a]: 1]\n") ≡ fault kind.YamlOut 1)
+    × (read_trees 1 (codes "[[a]:1]\n") ≡ fault kind.YamlOut 1)
+    × (read_trees 1 (codes "[::]\n") ≡ fault kind.YamlOut 1)
+    × (read_trees 1 (codes "{: x}\n") ≡ fault kind.YamlForm 1)
+    × (read_trees 1 (codes "{\"a\nb\": 1}\n") ≡ fault kind.YamlForm 1)
+    × (read_trees 1 (codes "{<<: 1}\n") ≡ fault kind.YamlOut 1)
+    × (read_trees 1 (codes "[<<]\n") ≡ Ok (tree (list (tree (text (codes "<<")) no_trees)) no_trees))
+    × (read_trees 1 (codes "[1.5\n") ≡ fault kind.FloatScalar 1)
+    × (read_trees 1 (codes "a:\n  [\n  {\n") ≡ fault kind.YamlForm 2)
+unfolding is_utf8 chars encode digits cut lines_of checked Lines form plain fold_parts single double parts Quote header body block_text Block start_fault span further plain_lines gap flow_key elements pair_value pairs flow_scalar flow noted ended value key_at heads_of row_at taken rows cut_after content_of entry_content entry entry_at entries Doc segments explicit read_ended documents implicit Read distinct read_trees fits_plain fits_literal
+bracket_keys = (refl, refl, refl, refl, refl, refl, refl, refl, refl, refl, refl)
+
+-- markers inside values, and block scalars of a document
+markers_read :
+    (read_trees 1 (codes "a: \"x\n...\n") ≡ fault kind.YamlForm 2)
+    × (read_trees 1 (codes "a: [1\n---\n") ≡ fault kind.YamlForm 2)
+    × (read_trees 1 (codes "a: |\n  x\n---\nb\n") ≡ Ok (tree (map (pair (string (codes "a")) (text (codes "x\n")) no_pairs)) (tree (text (codes "b")) no_trees)))
+    × (read_trees 1 (codes "|1\nx\n") ≡ Ok (tree (text (codes "x\n")) no_trees))
+    × (read_trees 1 (codes "|2\n x\n") ≡ Ok (tree (text (codes "x\n")) no_trees))
+    × (read_trees 1 (codes "\"x\\\n\n\n y\"\n") ≡ Ok (tree (text (codes "x\n\ny")) no_trees))
+    × (read_trees 1 (codes "'x\n   y'\n") ≡ Ok (tree (text (codes "x y")) no_trees))
+    × (read_trees 1 (codes "...\na: 1\n") ≡ fault kind.YamlForm 2)
+    × (read_trees 1 (codes "...\n---\na\n") ≡ Ok (tree (text (codes "a")) no_trees))
+    × (read_trees 1 (codes "a\n... b\n") ≡ fault kind.YamlForm 2)
+    × (read_trees 1 (codes "---\n%a\n") ≡ fault kind.YamlForm 2)
+    × (read_trees 1 (codes ">\n\n\n x\n") ≡ Ok (tree (text (codes "\n\nx\n")) no_trees))
+    × (read_trees 1 (codes "|\n  x") ≡ Ok (tree (text (codes "x\n")) no_trees))
+    × (read_trees 1 (codes "|+\n\n\n") ≡ Ok (tree (text (codes "\n\n")) no_trees))
+    × (read_trees 1 (codes "|\n\n") ≡ Ok (tree (text (codes "")) no_trees))
+    × (read_trees 1 (codes "a: |\n\tx\n") ≡ fault kind.YamlForm 2)
+unfolding is_utf8 chars encode digits cut lines_of checked Lines form plain fold_parts single double parts Quote header body block_text Block start_fault span further plain_lines gap flow_key elements pair_value pairs flow_scalar flow noted ended value key_at heads_of row_at taken rows cut_after content_of entry_content entry entry_at entries Doc segments explicit read_ended documents implicit Read distinct read_trees fits_plain fits_literal
+markers_read = (refl, refl, refl, refl, refl, refl, refl, refl, refl, refl, refl, refl, refl, refl, refl, refl)
+
 -- the text of documents: the first style that fits
 styles :
     (Text (tree (map (pair (string (codes "mode")) (integral (pos 420)) no_pairs)) no_trees) ≡ codes "mode: 420\n")
