@@ -1,12 +1,11 @@
 -- The template that is read of a text is no item, or one document whose map has pairs of plain words and of values or
 -- code that gives them.
-use Rattle.std.proofs.Common.{◌≡◌, ℕ, ◌+◌, ◌-◌, Bool, true, false, ◌&&◌, nat_le, eqb, List, [], ◌∷◌, ◌++◌, length, slice_index, Option, Some, None, Ok, Err, refl}
+use Rattle.std.proofs.Common.{◌≡◌, ℕ, ◌+◌, ◌-◌, true, ◌&&◌, nat_le, eqb, List, [], ◌∷◌, ◌++◌, length, slice_index, Option, Some, None, Ok, Err}
 use Rattle.std.specs.List.{list_all, after_first}
 use Rattle.std.specs.Str.{is_utf8}
-use Rattle.std.specs.Str.Parse.{signed_digits_value}
 use Rattle.ytt_base.specs.declared.fault.Place.{Place}
 use Rattle.ytt_base.specs.Outcomes.{Outcome, ◌>>=◌, place_at}
-use Rattle.ytt_base.specs.Trees.{Scalar, null, boolean, integer, string, Tree, scalar, list, map, has_key}
+use Rattle.ytt_base.specs.Trees.{Scalar, null, boolean, integer, string, scalar, has_key}
 use Rattle.yaml_spec.specs.Bytes.{is_letter_or_digit, first}
 use Rattle.yaml_spec.specs.Flat.{entry_at, is_colon, is_entry, is_integer, is_plain_word, is_point_number, is_quoted_run, key_part, middle, no_value, unrepeated, value_at, value_part, with_key}
 use Rattle.yaml_spec.specs.FlatNoted.{Beside, before_items, beside_at, code_beside, noted_documents, noted_in, noted_pairs_in, one_noted_map, value_beside}
@@ -17,11 +16,11 @@ use Rattle.yaml_spec.specs.ReadsBack.{IsValue}
 use Rattle.yaml_spec.proofs.Numerals.{both, integer_fits}
 use Rattle.yaml_spec.proofs.RunsBack.{word_run}
 use Rattle.star_spec.specs.Code.{Expr}
-use Rattle.star_spec.specs.Program.{pair_item, document_item}
+use Rattle.star_spec.specs.Program.{pair_item}
 use Rattle.star_spec.specs.Reading.{Reader, IsReader, Reads}
 use Rattle.template_spec.specs.Placing as placing
 use Rattle.template_spec.specs.Placing.{code_value, content_beside, document_at, document_content, map_in, own_place, pair_content, pair_under, placed, placed_document, placed_documents, placed_each, placed_pair, placed_pairs, scalar_in, value_content, without_comments}
-use Rattle.template_spec.specs.Template.{Key, no_key, written_key, key_from, no_notes, Item, node, Items, no_items, an_item, Content, written_value, value_from, pairs, elements}
+use Rattle.template_spec.specs.Template.{no_key, written_key, no_notes, Item, node, Items, no_items, an_item, Content, written_value, value_from, pairs}
 use Rattle.ytt_spec.proofs.Holding.{Holds, holds_any, holds_behind, holds_either, holds_weaker}
 use Rattle.ytt_spec.proofs.PlainCode.{IsPlainExpr, plain_expr}
 

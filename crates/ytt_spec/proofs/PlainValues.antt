@@ -13,7 +13,7 @@ use Rattle.star_spec.specs.Language.{Call}
 use Rattle.star_spec.specs.Numbers.{at_least_zero, fits, floor_quotient, is_zero}
 use Rattle.star_spec.specs.Operators.{binary_row, copies, difference_row, either, int_of, product_row, quotient_row, repeat_text, repeated, sum_row, text_cost, unary_row}
 use Rattle.star_spec.specs.Outcomes.{Computation, give, fail, ◌>>=◌}
-use Rattle.star_spec.specs.Values.{Value, none_value, int_value, text_value, function_value, fragment_value, native_value, replace_value, Env}
+use Rattle.star_spec.specs.Values.{Value, int_value, text_value, Env}
 use Rattle.ytt_spec.proofs.Holding.{Yields, yields_paid, yields_then}
 use Rattle.ytt_spec.proofs.PlainCode.{IsPlainExpr}
 
