@@ -6,24 +6,24 @@ use Rattle.star_spec.specs.Code as code
 use Rattle.star_spec.specs.Code.{negation, addition, subtraction, multiplication, floor_division}
 use Rattle.star_spec.specs.Grammar.{int, text, unary, binary, group}
 use Rattle.star_spec.specs.Reading.{IsExpr}
-use Rattle.star_spec.specs.Tokens as k
+use Rattle.star_spec.specs.Tokens as plain
 use Rattle.star_spec.specs.Tokens.{Token, token, tokens}
 
 -- ---- tokens
 
-pub spaces_between : tokens 3 (codes " 12 //\"a1\" ") ≡ Some (token (k.int (pos 12)) 3 ∷ token k.double_slash 3 ∷ token (k.text (codes "a1")) 3 ∷ token k.end 3 ∷ [])
+pub spaces_between : tokens 3 (codes " 12 //\"a1\" ") ≡ Some (token (plain.int (pos 12)) 3 ∷ token plain.double_slash 3 ∷ token (plain.text (codes "a1")) 3 ∷ token plain.end 3 ∷ [])
 spaces_between = refl
 
-pub marks : tokens 1 (codes "+-*()0") ≡ Some (token k.plus 1 ∷ token k.minus 1 ∷ token k.star 1 ∷ token k.opening 1 ∷ token k.closing 1 ∷ token (k.int (pos 0)) 1 ∷ token k.end 1 ∷ [])
+pub marks : tokens 1 (codes "+-*()0") ≡ Some (token plain.plus 1 ∷ token plain.minus 1 ∷ token plain.star 1 ∷ token plain.opening 1 ∷ token plain.closing 1 ∷ token (plain.int (pos 0)) 1 ∷ token plain.end 1 ∷ [])
 marks = refl
 
-pub nothing : tokens 1 [] ≡ Some (token k.end 1 ∷ [])
+pub nothing : tokens 1 [] ≡ Some (token plain.end 1 ∷ [])
 nothing = refl
 
-pub empty_text : tokens 1 (codes "\"\"") ≡ Some (token (k.text []) 1 ∷ token k.end 1 ∷ [])
+pub empty_text : tokens 1 (codes "\"\"") ≡ Some (token (plain.text []) 1 ∷ token plain.end 1 ∷ [])
 empty_text = refl
 
-pub greatest : tokens 1 (codes "170141183460469231731687303715884105727") ≡ Some (token (k.int (pos 170141183460469231731687303715884105727)) 1 ∷ token k.end 1 ∷ [])
+pub greatest : tokens 1 (codes "170141183460469231731687303715884105727") ≡ Some (token (plain.int (pos 170141183460469231731687303715884105727)) 1 ∷ token plain.end 1 ∷ [])
 greatest = refl
 
 pub too_great : tokens 1 (codes "170141183460469231731687303715884105728") ≡ None

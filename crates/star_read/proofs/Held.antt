@@ -11,7 +11,7 @@ use Rattle.star_tree.specs.declared.expr.UnOp.TheVariants.{Minus}
 use Rattle.star_tree.specs.declared.expr.BinOp.{BinOp}
 use Rattle.star_tree.specs.declared.expr.BinOp.TheVariants.{Add, Subtract, Multiply, FloorDivide}
 use Rattle.star_tree.specs.declared.expr.Expr.{Expr}
-use Rattle.star_tree.specs.declared.expr.Expr.TheVariants as e
+use Rattle.star_tree.specs.declared.expr.Expr.TheVariants as expr
 use Rattle.star_read.specs.declared.frame.Frame.{Frame}
 use Rattle.star_read.specs.Machine.{act, looseness, on_operator, op_level}
 
@@ -25,10 +25,10 @@ binary_held multiplication = Multiply
 binary_held floor_division = FloorDivide
 
 abbrev pub held : Source → Expr
-held (int l z) = e.Int l z
-held (text l s) = e.Text l s
-held (unary op l a) = e.Unary l (unary_held op) (held a)
-held (binary op l a b) = e.Binary l (binary_held op) (held a) (held b)
+held (int l z) = expr.Int l z
+held (text l s) = expr.Text l s
+held (unary op l a) = expr.Unary l (unary_held op) (held a)
+held (binary op l a b) = expr.Binary l (binary_held op) (held a) (held b)
 held (group l r a) = held a
 
 both : (file l : ℕ) (op : BinaryOperator) (a b : Source) → expr_of file (held a) ≡ tree file a → expr_of file (held b) ≡ tree file b

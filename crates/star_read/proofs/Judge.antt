@@ -8,7 +8,7 @@ use Rattle.star_tree.specs.View.{expr_of}
 use Rattle.star_tree.specs.declared.expr.Expr.{Expr}
 use Rattle.star_read.specs.declared.frame.Frame.{Frame}
 use Rattle.star_read.specs.declared.frame.Top.{Top}
-use Rattle.star_read.specs.declared.frame.Top.TheVariants as t
+use Rattle.star_read.specs.declared.frame.Top.TheVariants as state
 use Rattle.star_read.specs.Machine.{State, total, state_height, step, go_on, read, finished, Verdict, Whole, Form, Deep, Judged}
 use Rattle.star_read.proofs.Complete.{reads}
 use Rattle.star_read.proofs.Held.{held, held-tree, source_pos}
@@ -18,22 +18,22 @@ use Rattle.star_read.proofs.Sound.{Now, n_want, n_have, n_done, top_of, spelled,
 
 -- ---- every whole text is read
 
-reads_text : (s : Source) (line limit : ℕ) → IsWhole s → height s ≤ limit → read limit (whole_text s line) t.Want [] ≡ Whole (held s)
+reads_text : (s : Source) (line limit : ℕ) → IsWhole s → height s ≤ limit → read limit (whole_text s line) state.Want [] ≡ Whole (held s)
 unfolding read
 reads_text s line limit w low =
     reads s w limit [] (token end line ∷ []) (source_pos s) (source_pos s) low
-    ∙ acted limit (token end line) [] (held s) (height s) [] (t.Done (held s)) [] tt refl (omega arith)
+    ∙ acted limit (token end line) [] (held s) (height s) [] (state.Done (held s)) [] tt refl (omega arith)
 
 -- what is parsed is the source of a tree that is read
 pub record Held (limit file : ℕ) (ts : List Token) (e : code.Expr) : Type 0 where
   pub expr : Expr
-  pub is_read : read limit ts t.Want [] ≡ Whole expr
+  pub is_read : read limit ts state.Want [] ≡ Whole expr
   pub is_tree : expr_of file expr ≡ e
 
 pub parsed : (limit file : ℕ) (ts : List Token) (e : code.Expr) → Parses limit file ts e → Held limit file ts e
 parsed limit file ts e p = record {
   expr = held p.source;
-  is_read = ap (λ l. read limit l t.Want []) (sym p.spelled) ∙ reads_text p.source p.end_line limit p.whole p.low;
+  is_read = ap (λ l. read limit l state.Want []) (sym p.spelled) ∙ reads_text p.source p.end_line limit p.whole p.low;
   is_tree = held-tree file p.source ∙ p.is_tree;
 }
 
@@ -71,13 +71,13 @@ fronts limit (n_done s l) bs pre w low d e = record { source = s; end_line = l; 
 
 -- every text that begins so leads to this state
 abbrev Reaches : ℕ → List Token → Top → List Frame → Type 0
-Reaches limit pre top rs = (g : ℕ) → limit ≤ g → (ks : List Token) → read g (pre ++ ks) t.Want [] ≡ read g ks top rs
+Reaches limit pre top rs = (g : ℕ) → limit ≤ g → (ks : List Token) → read g (pre ++ ks) state.Want [] ≡ read g ks top rs
 
 whole_or : (h g : ℕ) (pre : List Token) (k : Token) (top : Top) (rs : List Frame) → (f : Front h (pre ++ k ∷ [])) → h ≤ g
-    → ((ks : List Token) → read g (pre ++ ks) t.Want [] ≡ read g ks top rs) → Whole (held f.source) ≡ read g (k ∷ f.rest) top rs
+    → ((ks : List Token) → read g (pre ++ ks) state.Want [] ≡ read g ks top rs) → Whole (held f.source) ≡ read g (k ∷ f.rest) top rs
 whole_or h g pre k top rs f le reach =
     sym (reads_text f.source f.end_line g f.whole (omega (arith, f.low)))
-    ∙ ap (λ l. read g l t.Want []) (f.spelled ∙ append_assoc pre (k ∷ []) f.rest)
+    ∙ ap (λ l. read g l state.Want []) (f.spelled ∙ append_assoc pre (k ∷ []) f.rest)
     ∙ reach (k ∷ f.rest)
 
 pub refuses_form : (g : ℕ) (k : Token) (ks : List Token) (top : Top) (rs : List Frame) → step k top rs ≡ None → read g (k ∷ ks) top rs ≡ Form (k ∷ ks)
@@ -139,7 +139,7 @@ stands_on limit pre now bs k top rs s e low w =
       done_low = DoneLow_up w.now (state_height (top_of now) (frames bs)) limit s.low w.low;
       spells = λ ts. w.spells ts ∙ s.spells (k ∷ ts) ∙ sym (append_assoc pre (k ∷ []) ts);
       reaches = λ g le ts.
-          ap (λ l. read g l t.Want []) (append_assoc pre (k ∷ []) ts) ∙ s.reaches g le (k ∷ ts)
+          ap (λ l. read g l state.Want []) (append_assoc pre (k ∷ []) ts) ∙ s.reaches g le (k ∷ ts)
           ∙ took g k ts (top_of now) (frames bs) top rs e (omega arith)
           ∙ ap (λ a. read g ts a rs) (sym w.is_top) ∙ ap (λ r. read g ts (top_of w.now) r) (sym w.is_rules);
     }
@@ -185,5 +185,5 @@ judge limit (k ∷ ks) pre now bs s = on (step k (top_of now) (frames bs)) refl 
         (λ le. subst P (sym (cond-true _ _ _ (le-leb (state_height st.0 st.1) limit le))) (next st.0 st.1 e le w))
         (cases_lt limit (state_height st.0 st.1))
 
-pub judged : (limit : ℕ) (ts : List Token) → 1 ≤ limit → Judged limit ts (read limit ts t.Want [])
+pub judged : (limit : ℕ) (ts : List Token) → 1 ≤ limit → Judged limit ts (read limit ts state.Want [])
 judged limit ts one = judge limit ts [] n_want [] (record { whole = tt; low = one; done_low = tt; spells = λ ts. refl; reaches = λ g le ks. refl })

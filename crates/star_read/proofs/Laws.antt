@@ -11,7 +11,7 @@ use Rattle.star_spec.specs.Reading.{IsExpr, Reads, Reader, IsReader, max_height,
 use Rattle.star_spec.specs.Tokens.{Token, tokens}
 use Rattle.star_tree.specs.View.{expr_of}
 use Rattle.star_tree.specs.declared.expr.Expr as held
-use Rattle.star_read.specs.declared.frame.Top.TheVariants as t
+use Rattle.star_read.specs.declared.frame.Top.TheVariants as state
 use Rattle.star_read.specs.Machine.{read, Verdict, Whole, Unfinished, Form, Deep, Judged}
 use Rattle.star_read.specs.Outcome.{HasAnswered, HasRead, HasText, IsNone, stop_at}
 use Rattle.star_read.specs.declared.halt.Halt.{Halt}
@@ -55,7 +55,7 @@ outcome_of place (Deep ts) = Err (fault_at kind.NotBuilt place)
 whole_not : (x : held.Expr) (v : Verdict) → Whole x ≡ v → (ts : List Token) → (v ≡ Unfinished → ⊥) × (v ≡ Form ts → ⊥) × (v ≡ Deep ts → ⊥)
 whole_not x v e ts = ((λ h. cc), (λ h. cc), (λ h. cc))
 
-verdict_reads : (place : Place) (text : List ℕ) (ts : List Token) → tokens place.line text ≡ Some ts → (v : Verdict) → read max_height ts t.Want [] ≡ v → Judged max_height ts v → Reads place text (outcome_of place v)
+verdict_reads : (place : Place) (text : List ℕ) (ts : List Token) → tokens place.line text ≡ Some ts → (v : Verdict) → read max_height ts state.Want [] ≡ v → Judged max_height ts v → Reads place text (outcome_of place v)
 unfolding outcome_of
 verdict_reads place text ts cut (Whole x) e j = record { found = ts; cut = cut; parsed = j place.file }
 verdict_reads place text ts cut Unfinished e j = (refl, λ f p. let h = parsed max_height place.file ts f (parsed_from place text ts f cut p) in (whole_not h.expr _ (sym h.is_read) []).0 e)
@@ -64,7 +64,7 @@ verdict_reads place text ts cut (Deep rest) e j = (refl, λ f p. let h = parsed 
 
 read_cut : Place → Option (List Token) → Outcome Expr
 read_cut place None = Err (fault_at kind.NotBuilt place)
-read_cut place (Some ts) = outcome_of place (read max_height ts t.Want [])
+read_cut place (Some ts) = outcome_of place (read max_height ts state.Want [])
 
 none_not : (ts : List Token) (o : Option (List Token)) → o ≡ Some ts → o ≡ None → ⊥
 none_not ts o e f = cc
@@ -72,7 +72,7 @@ none_not ts o e f = cc
 cut_reads : (place : Place) (text : List ℕ) (o : Option (List Token)) → tokens place.line text ≡ o → Reads place text (read_cut place o)
 unfolding read_cut
 cut_reads place text None e = (refl, λ f p. none_not p.found (tokens place.line text) p.cut e)
-cut_reads place text (Some ts) e = verdict_reads place text ts e (read max_height ts t.Want []) refl (judged max_height ts (omega arith))
+cut_reads place text (Some ts) e = verdict_reads place text ts e (read max_height ts state.Want []) refl (judged max_height ts (omega arith))
 
 pub a_reader_exists : AReaderExists
 a_reader_exists = (record { expr = λ place text. read_cut place (tokens place.line text) }, λ place text. cut_reads place text (tokens place.line text) refl)

@@ -4,7 +4,7 @@ use Rattle.star_spec.specs.Code.{UnaryOperator, BinaryOperator}
 use Rattle.star_spec.specs.Tokens.{Token, token, opening, closing}
 use Rattle.star_spec.specs.Grammar.{Source, int, unary, binary, group, unary_kind, binary_kind, spell, height, binary_level, level, IsWhole}
 use Rattle.star_read.specs.declared.frame.Frame.{Frame}
-use Rattle.star_read.specs.declared.frame.Frame.TheVariants as f
+use Rattle.star_read.specs.declared.frame.Frame.TheVariants as rule
 use Rattle.star_read.specs.Machine.{raised, total}
 use Rattle.star_read.proofs.Complete.{room}
 use Rattle.star_read.proofs.Held.{unary_held, binary_held, held, level_held, level_low}
@@ -18,9 +18,9 @@ pub data Begun : Type 0 where
 -- ---- as the machine has it
 
 abbrev pub frame : Begun → Frame
-frame (b_unary op l) = f.Unary (unary_held op) l
-frame (b_binary op l a) = f.Binary (binary_held op) l (held a) (height a)
-frame (b_group l) = f.Group
+frame (b_unary op l) = rule.Unary (unary_held op) l
+frame (b_binary op l a) = rule.Binary (binary_held op) l (held a) (height a)
+frame (b_group l) = rule.Group
 
 abbrev pub frames : List Begun → List Frame
 frames [] = []

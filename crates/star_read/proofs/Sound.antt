@@ -2,13 +2,13 @@
 use Rattle.std.proofs.Common.{◌≡◌, ℕ, ◌<◌, ◌≤◌, List, [], ◌∷◌, Option, Some, None, refl, sym, ap, ◌∙◌, subst, ⊎_elim, arith}
 use Rattle.std.proofs.lemmas.Bool.{cond-true, cond-false, le-leb, lt-leb, cases_lt}
 use Rattle.star_spec.specs.Code.{BinaryOperator, negation, addition, subtraction, multiplication, floor_division}
-use Rattle.star_spec.specs.Tokens as k
+use Rattle.star_spec.specs.Tokens as plain
 use Rattle.star_spec.specs.Tokens.{Kind, Token, token}
 use Rattle.star_spec.specs.Grammar.{Source, int, text, unary, binary, group, binary_kind, spell, height, binary_level, level, IsWhole}
 use Rattle.star_tree.specs.declared.expr.Expr.{Expr}
 use Rattle.star_read.specs.declared.frame.Frame.{Frame}
 use Rattle.star_read.specs.declared.frame.Top.{Top}
-use Rattle.star_read.specs.declared.frame.Top.TheVariants as t
+use Rattle.star_read.specs.declared.frame.Top.TheVariants as state
 use Rattle.star_read.specs.Machine.{State, raised, total, state_height, op_level, tightness, looseness, reduced, settle, act, act_settled, after, begin, step}
 use Rattle.star_read.proofs.Held.{binary_held, held, level_held, level_pos}
 use Rattle.star_read.proofs.Steps.{Stays}
@@ -21,14 +21,14 @@ pub data Now : Type 0 where
   n_done : Source → (end_line : ℕ) → Now
 
 abbrev pub top_of : Now → Top
-top_of n_want = t.Want
-top_of (n_have s) = t.Have (held s) (height s)
-top_of (n_done s l) = t.Done (held s)
+top_of n_want = state.Want
+top_of (n_have s) = state.Have (held s) (height s)
+top_of (n_done s l) = state.Done (held s)
 
 abbrev pub spelled : Now → List Begun → List Token → List Token
 spelled n_want bs ts = before bs ts
 spelled (n_have s) bs ts = before bs (spell s ts)
-spelled (n_done s l) bs ts = spell s (token k.end l ∷ ts)
+spelled (n_done s l) bs ts = spell s (token plain.end l ∷ ts)
 
 abbrev pub NowWhole : Now → List Begun → Type 0
 NowWhole n_want bs = AllBegun bs
@@ -55,12 +55,12 @@ Goes S h kind line None = Unit {0}
 Goes S h kind line (Some s) = Went S h kind line s.0 s.1
 
 wants : (S : List Token → List Token) (bs : List Begun) (kind : Kind) (line h : ℕ) → AllBegun bs → ((ts : List Token) → before bs ts ≡ S (token kind line ∷ ts))
-    → Went S h kind line t.Want (frames bs)
+    → Went S h kind line state.Want (frames bs)
 wants S bs kind line h a sp = record { now = n_want; begun = bs; is_top = refl; is_rules = refl; spells = sp; whole = a; low = tt }
 
 -- an operand
 gives : (S : List Token → List Token) (to : Source) (bs : List Begun) (kind : Kind) (line h : ℕ) → IsWhole to → 4 ≤ level to → AllBegun bs
-    → ((ts : List Token) → before bs (spell to ts) ≡ S (token kind line ∷ ts)) → Went S h kind line (t.Have (held to) (height to)) (frames bs)
+    → ((ts : List Token) → before bs (spell to ts) ≡ S (token kind line ∷ ts)) → Went S h kind line (state.Have (held to) (height to)) (frames bs)
 gives S to bs kind line h w four a sp = record { now = n_have to; begun = bs; is_top = refl; is_rules = refl; spells = sp; whole = (w, four, a); low = tt }
 
 -- ---- rules that a token closes
@@ -139,55 +139,55 @@ record Ready (S : List Token → List Token) (p : ℕ) (s : Source) (bs : List B
   rest_stays : Stays p (frames bs)
 
 acts_op : (S : List Token → List Token) (op : BinaryOperator) (l : ℕ) (s : Source) (bs : List Begun) (h : ℕ) → Ready S (binary_level op) s bs
-    → Goes S h (binary_kind op) l (Some (t.Want, frames (b_binary op l s ∷ bs)))
+    → Goes S h (binary_kind op) l (Some (state.Want, frames (b_binary op l s ∷ bs)))
 acts_op S op l s bs h r =
     wants S (b_binary op l s ∷ bs) (binary_kind op) l h ((gap_op bs (binary_level op) (level_pos op) r.rest_stays, r.loose, r.whole), r.begun) (λ ts. r.spells (token (binary_kind op) l ∷ ts))
 
-acts_closing : (S : List Token → List Token) (l : ℕ) (s : Source) (bs : List Begun) (h : ℕ) → Ready S 1 s bs → Goes S h k.closing l (act k.closing l (held s) (height s) (frames bs))
+acts_closing : (S : List Token → List Token) (l : ℕ) (s : Source) (bs : List Begun) (h : ℕ) → Ready S 1 s bs → Goes S h plain.closing l (act plain.closing l (held s) (height s) (frames bs))
 acts_closing S l s [] h r = tt
 acts_closing S l s (b_unary op m ∷ bs) h r = tt
 acts_closing S l s (b_binary op m a ∷ bs) h r = tt
-acts_closing S l s (b_group m ∷ bs) h r = gives S (group m l s) bs k.closing l h r.whole (omega arith) r.begun.1 (λ ts. r.spells (token k.closing l ∷ ts))
+acts_closing S l s (b_group m ∷ bs) h r = gives S (group m l s) bs plain.closing l h r.whole (omega arith) r.begun.1 (λ ts. r.spells (token plain.closing l ∷ ts))
 
 acts_end : (S : List Token → List Token) (l : ℕ) (s : Source) (bs : List Begun) (h : ℕ) → total (frames bs) (height s) ≤ h → Ready S 1 s bs
-    → Goes S h k.end l (act k.end l (held s) (height s) (frames bs))
-acts_end S l s [] h low r = record { now = n_done s l; begun = []; is_top = refl; is_rules = refl; spells = λ ts. r.spells (token k.end l ∷ ts); whole = r.whole; low = low }
+    → Goes S h plain.end l (act plain.end l (held s) (height s) (frames bs))
+acts_end S l s [] h low r = record { now = n_done s l; begun = []; is_top = refl; is_rules = refl; spells = λ ts. r.spells (token plain.end l ∷ ts); whole = r.whole; low = low }
 acts_end S l s (b ∷ bs) h low r = tt
 
 acts : (S : List Token → List Token) (kind : Kind) (l : ℕ) (s : Source) (bs : List Begun) (h : ℕ) → total (frames bs) (height s) ≤ h → Ready S (looseness kind) s bs
     → Goes S h kind l (act kind l (held s) (height s) (frames bs))
-acts S k.plus l s bs h low r = acts_op S addition l s bs h r
-acts S k.minus l s bs h low r = acts_op S subtraction l s bs h r
-acts S k.star l s bs h low r = acts_op S multiplication l s bs h r
-acts S k.double_slash l s bs h low r = acts_op S floor_division l s bs h r
-acts S k.closing l s bs h low r = acts_closing S l s bs h r
-acts S k.end l s bs h low r = acts_end S l s bs h low r
-acts S (k.int z) l s bs h low r = tt
-acts S (k.text t) l s bs h low r = tt
-acts S k.opening l s bs h low r = tt
+acts S plain.plus l s bs h low r = acts_op S addition l s bs h r
+acts S plain.minus l s bs h low r = acts_op S subtraction l s bs h r
+acts S plain.star l s bs h low r = acts_op S multiplication l s bs h r
+acts S plain.double_slash l s bs h low r = acts_op S floor_division l s bs h r
+acts S plain.closing l s bs h low r = acts_closing S l s bs h r
+acts S plain.end l s bs h low r = acts_end S l s bs h low r
+acts S (plain.int z) l s bs h low r = tt
+acts S (plain.text t) l s bs h low r = tt
+acts S plain.opening l s bs h low r = tt
 
 loose_pos : (kind : Kind) → 1 ≤ looseness kind
-loose_pos k.plus = omega arith
-loose_pos k.minus = omega arith
-loose_pos k.star = omega arith
-loose_pos k.double_slash = omega arith
-loose_pos k.closing = omega arith
-loose_pos k.end = omega arith
-loose_pos (k.int z) = omega arith
-loose_pos (k.text t) = omega arith
-loose_pos k.opening = omega arith
+loose_pos plain.plus = omega arith
+loose_pos plain.minus = omega arith
+loose_pos plain.star = omega arith
+loose_pos plain.double_slash = omega arith
+loose_pos plain.closing = omega arith
+loose_pos plain.end = omega arith
+loose_pos (plain.int z) = omega arith
+loose_pos (plain.text t) = omega arith
+loose_pos plain.opening = omega arith
 
 -- a token that no expression goes on with
 refused_after : (kind : Kind) (l : ℕ) (x : Expr) (h : ℕ) (rs : List Frame) → 4 < looseness kind → after kind l x h rs ≡ None
-refused_after (k.int z) l x h rs lt = refl
-refused_after (k.text t) l x h rs lt = refl
-refused_after k.opening l x h rs lt = refl
-refused_after k.plus l x h rs lt = absurd (omega arith)
-refused_after k.minus l x h rs lt = absurd (omega arith)
-refused_after k.star l x h rs lt = absurd (omega arith)
-refused_after k.double_slash l x h rs lt = absurd (omega arith)
-refused_after k.closing l x h rs lt = absurd (omega arith)
-refused_after k.end l x h rs lt = absurd (omega arith)
+refused_after (plain.int z) l x h rs lt = refl
+refused_after (plain.text t) l x h rs lt = refl
+refused_after plain.opening l x h rs lt = refl
+refused_after plain.plus l x h rs lt = absurd (omega arith)
+refused_after plain.minus l x h rs lt = absurd (omega arith)
+refused_after plain.star l x h rs lt = absurd (omega arith)
+refused_after plain.double_slash l x h rs lt = absurd (omega arith)
+refused_after plain.closing l x h rs lt = absurd (omega arith)
+refused_after plain.end l x h rs lt = absurd (omega arith)
 
 goes_after : (kind : Kind) (l : ℕ) (s : Source) (bs : List Begun) → IsWhole s → 4 ≤ level s → AllBegun bs
     → Goes (λ ts. before bs (spell s ts)) (total (frames bs) (height s)) kind l (after kind l (held s) (height s) (frames bs))
@@ -207,15 +207,15 @@ goes_after kind l s bs w four a =
 -- ---- a token where an expression begins, and every token
 
 begins : (kind : Kind) (l h : ℕ) (bs : List Begun) → AllBegun bs → Goes (before bs) h kind l (begin kind l (frames bs))
-begins (k.int z) l h bs a = gives (before bs) (int l z) bs (k.int z) l h tt (omega arith) a (λ ts. refl)
-begins (k.text s) l h bs a = gives (before bs) (text l s) bs (k.text s) l h tt (omega arith) a (λ ts. refl)
-begins k.minus l h bs a = wants (before bs) (b_unary negation l ∷ bs) k.minus l h (gap_max bs, a) (λ ts. refl)
-begins k.opening l h bs a = wants (before bs) (b_group l ∷ bs) k.opening l h (tt, a) (λ ts. refl)
-begins k.plus l h bs a = tt
-begins k.star l h bs a = tt
-begins k.double_slash l h bs a = tt
-begins k.closing l h bs a = tt
-begins k.end l h bs a = tt
+begins (plain.int z) l h bs a = gives (before bs) (int l z) bs (plain.int z) l h tt (omega arith) a (λ ts. refl)
+begins (plain.text s) l h bs a = gives (before bs) (text l s) bs (plain.text s) l h tt (omega arith) a (λ ts. refl)
+begins plain.minus l h bs a = wants (before bs) (b_unary negation l ∷ bs) plain.minus l h (gap_max bs, a) (λ ts. refl)
+begins plain.opening l h bs a = wants (before bs) (b_group l ∷ bs) plain.opening l h (tt, a) (λ ts. refl)
+begins plain.plus l h bs a = tt
+begins plain.star l h bs a = tt
+begins plain.double_slash l h bs a = tt
+begins plain.closing l h bs a = tt
+begins plain.end l h bs a = tt
 
 pub goes : (kind : Kind) (l : ℕ) (now : Now) (bs : List Begun) → NowWhole now bs → Goes (spelled now bs) (state_height (top_of now) (frames bs)) kind l (step (token kind l) (top_of now) (frames bs))
 goes kind l n_want bs w = begins kind l _ bs w

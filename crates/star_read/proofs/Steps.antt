@@ -7,26 +7,26 @@ use Rattle.star_spec.specs.Tokens.{Token}
 use Rattle.star_spec.specs.Grammar.{Source, int, text, unary, binary, group, height}
 use Rattle.star_tree.specs.declared.expr.Expr.{Expr}
 use Rattle.star_read.specs.declared.frame.Frame.{Frame}
-use Rattle.star_read.specs.declared.frame.Frame.TheVariants as f
+use Rattle.star_read.specs.declared.frame.Frame.TheVariants as rule
 use Rattle.star_read.specs.declared.frame.Top.{Top}
-use Rattle.star_read.specs.declared.frame.Top.TheVariants as t
+use Rattle.star_read.specs.declared.frame.Top.TheVariants as state
 use Rattle.star_read.specs.Machine.{raised, total, state_height, tightness, looseness, reduced, settle, act, act_settled, step, go_on, read}
 
 -- ---- heights
 
 pub raised_mono : (r : Frame) (a b : ℕ) → a ≤ b → raised r a ≤ raised r b
-raised_mono (f.Unary op l) a b h = omega arith
-raised_mono (f.Binary op l x hx) a b h = omega arith
-raised_mono f.Group a b h = omega arith
+raised_mono (rule.Unary op l) a b h = omega arith
+raised_mono (rule.Binary op l x hx) a b h = omega arith
+raised_mono rule.Group a b h = omega arith
 
 pub total_mono : (rs : List Frame) (a b : ℕ) → a ≤ b → total rs a ≤ total rs b
 total_mono [] a b h = h
 total_mono (r ∷ rs) a b h = total_mono rs (raised r a) (raised r b) (raised_mono r a b h)
 
 raised_above : (r : Frame) (h : ℕ) → h ≤ raised r h
-raised_above (f.Unary op l) h = omega arith
-raised_above (f.Binary op l x hx) h = omega arith
-raised_above f.Group h = omega arith
+raised_above (rule.Unary op l) h = omega arith
+raised_above (rule.Binary op l x hx) h = omega arith
+raised_above rule.Group h = omega arith
 
 pub total_above : (rs : List Frame) (h : ℕ) → h ≤ total rs h
 total_above [] h = omega arith
@@ -74,7 +74,7 @@ Begins_up p q (k ∷ ks) le b = omega arith
 
 -- a rule that a token closes
 pub closes : (limit : ℕ) (ks : List Token) (r : Frame) (rs : List Frame) (x : Expr) (h : ℕ)
-    → Begins (tightness r) ks → read limit ks (t.Have x h) (r ∷ rs) ≡ read limit ks (t.Have (reduced r x) (raised r h)) rs
+    → Begins (tightness r) ks → read limit ks (state.Have x h) (r ∷ rs) ≡ read limit ks (state.Have (reduced r x) (raised r h)) rs
 unfolding read
 closes limit [] r rs x h le = absurd le
 closes limit (k ∷ ks) r rs x h le =
@@ -92,6 +92,6 @@ stays p (r ∷ rs) x h lt = cond-false _ _ _ (lt-leb p (tightness r) lt)
 -- a token that closes no rule
 pub acted : (limit : ℕ) (k : Token) (ks : List Token) (x : Expr) (h : ℕ) (rs : List Frame) (top' : Top) (rs' : List Frame)
     → Stays (looseness k.kind) rs → act k.kind k.line x h rs ≡ Some (top', rs') → state_height top' rs' ≤ limit
-    → read limit (k ∷ ks) (t.Have x h) rs ≡ read limit ks top' rs'
+    → read limit (k ∷ ks) (state.Have x h) rs ≡ read limit ks top' rs'
 acted limit k ks x h rs top' rs' st e low =
-    took limit k ks (t.Have x h) rs top' rs' (ap (act_settled k.kind k.line) (stays (looseness k.kind) rs x h st) ∙ e) low
+    took limit k ks (state.Have x h) rs top' rs' (ap (act_settled k.kind k.line) (stays (looseness k.kind) rs x h st) ∙ e) low

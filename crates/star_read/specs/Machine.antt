@@ -8,11 +8,11 @@ use Rattle.star_tree.specs.declared.expr.UnOp.TheVariants as unary
 use Rattle.star_tree.specs.declared.expr.BinOp.{BinOp}
 use Rattle.star_tree.specs.declared.expr.BinOp.TheVariants as binary
 use Rattle.star_tree.specs.declared.expr.Expr.{Expr}
-use Rattle.star_tree.specs.declared.expr.Expr.TheVariants as e
+use Rattle.star_tree.specs.declared.expr.Expr.TheVariants as expr
 use Rattle.star_read.specs.declared.frame.Frame.{Frame}
-use Rattle.star_read.specs.declared.frame.Frame.TheVariants as f
+use Rattle.star_read.specs.declared.frame.Frame.TheVariants as rule
 use Rattle.star_read.specs.declared.frame.Top.{Top}
-use Rattle.star_read.specs.declared.frame.Top.TheVariants as t
+use Rattle.star_read.specs.declared.frame.Top.TheVariants as state
 
 -- what comes next, and the open rules, innermost first
 abbrev pub State : Type 0
@@ -22,9 +22,9 @@ State = Top × List Frame
 
 -- the height of a rule around a part of this height
 abbrev pub raised : Frame → ℕ → ℕ
-raised (f.Unary op l) h = suc h
-raised (f.Binary op l a ha) h = suc (max ha h)
-raised f.Group h = suc h
+raised (rule.Unary op l) h = suc h
+raised (rule.Binary op l a ha) h = suc (max ha h)
+raised rule.Group h = suc h
 
 -- the height of the whole where a part of this height stands in these rules
 abbrev pub total : List Frame → ℕ → ℕ
@@ -33,9 +33,9 @@ total (r ∷ rs) h = total rs (raised r h)
 
 -- the least height of a whole that begins so
 abbrev pub state_height : Top → List Frame → ℕ
-state_height t.Want rs = total rs 1
-state_height (t.Have a h) rs = total rs h
-state_height (t.Done a) rs = 0
+state_height state.Want rs = total rs 1
+state_height (state.Have a h) rs = total rs h
+state_height (state.Done a) rs = 0
 
 -- ---- how tightly rules and tokens hold
 
@@ -47,9 +47,9 @@ op_level binary.FloorDivide = product_level
 
 -- a token closes each innermost rule that holds at least so tightly
 abbrev pub tightness : Frame → ℕ
-tightness (f.Unary op l) = unary_level
-tightness (f.Binary op l a ha) = op_level op
-tightness f.Group = 0
+tightness (rule.Unary op l) = unary_level
+tightness (rule.Binary op l a ha) = op_level op
+tightness rule.Group = 0
 
 abbrev pub looseness : Kind → ℕ
 looseness plus = sum_level
@@ -64,9 +64,9 @@ looseness opening = suc operand_level
 
 -- a rule with its last part
 abbrev pub reduced : Frame → Expr → Expr
-reduced (f.Unary op l) x = e.Unary l op x
-reduced (f.Binary op l a ha) x = e.Binary l op a x
-reduced f.Group x = x
+reduced (rule.Unary op l) x = expr.Unary l op x
+reduced (rule.Binary op l a ha) x = expr.Binary l op a x
+reduced rule.Group x = x
 
 pub record Settled : Type 0 where
   pub tree : Expr
@@ -82,20 +82,20 @@ settle p (r ∷ rs) x h =
 -- ---- a token after an expression
 
 abbrev pub want : List Frame → Option State
-want rs = Some (t.Want, rs)
+want rs = Some (state.Want, rs)
 
 abbrev pub have : Expr → ℕ → List Frame → Option State
-have x h rs = Some (t.Have x h, rs)
+have x h rs = Some (state.Have x h, rs)
 
 abbrev pub on_operator : BinOp → ℕ → Expr → ℕ → List Frame → Option State
-on_operator op l x h rs = want (f.Binary op l x h ∷ rs)
+on_operator op l x h rs = want (rule.Binary op l x h ∷ rs)
 
 abbrev pub on_closing : Expr → ℕ → List Frame → Option State
-on_closing x h (f.Group ∷ rs) = have x (suc h) rs
+on_closing x h (rule.Group ∷ rs) = have x (suc h) rs
 on_closing x h _ = None
 
 abbrev pub on_end : Expr → List Frame → Option State
-on_end x [] = Some (t.Done x, [])
+on_end x [] = Some (state.Done x, [])
 on_end x (r ∷ rs) = None
 
 abbrev pub act : Kind → ℕ → Expr → ℕ → List Frame → Option State
@@ -118,10 +118,10 @@ after kind l x h rs = act_settled kind l (settle (looseness kind) rs x h)
 -- ---- a token where an expression begins
 
 abbrev pub begin : Kind → ℕ → List Frame → Option State
-begin (int z) l rs = have (e.Int l z) 1 rs
-begin (text s) l rs = have (e.Text l s) 1 rs
-begin minus l rs = want (f.Unary unary.Minus l ∷ rs)
-begin opening l rs = want (f.Group ∷ rs)
+begin (int z) l rs = have (expr.Int l z) 1 rs
+begin (text s) l rs = have (expr.Text l s) 1 rs
+begin minus l rs = want (rule.Unary unary.Minus l ∷ rs)
+begin opening l rs = want (rule.Group ∷ rs)
 begin plus l rs = None
 begin star l rs = None
 begin double_slash l rs = None
@@ -131,9 +131,9 @@ begin end l rs = None
 -- ---- one token, and all
 
 abbrev pub step : Token → Top → List Frame → Option State
-step k t.Want rs = begin k.kind k.line rs
-step k (t.Have x h) rs = after k.kind k.line x h rs
-step k (t.Done x) rs = None
+step k state.Want rs = begin k.kind k.line rs
+step k (state.Have x h) rs = after k.kind k.line x h rs
+step k (state.Done x) rs = None
 
 pub data Verdict : Type 0 where
   Whole : Expr → Verdict
@@ -143,9 +143,9 @@ pub data Verdict : Type 0 where
   Deep : List Token → Verdict
 
 abbrev pub finished : Top → Verdict
-finished (t.Done x) = Whole x
-finished t.Want = Unfinished
-finished (t.Have x h) = Unfinished
+finished (state.Done x) = Whole x
+finished state.Want = Unfinished
+finished (state.Have x h) = Unfinished
 
 abbrev pub go_on : ℕ → List Token → (Top → List Frame → Verdict) → Option State → Verdict
 go_on limit ts go None = Form ts

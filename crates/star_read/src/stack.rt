@@ -37,12 +37,12 @@ pub struct Stack {
 impl Model for Stack {
     ghost use Rattle.std.specs.Prelude.{List, reverse};
     ghost use Rattle.std.specs.Coded.{codes};
-    ghost use Rattle.star_read.specs.contracts.frame.Frame as f;
+    ghost use Rattle.star_read.specs.contracts.frame.Frame as frame;
     ghost use Rattle.star_read.specs.declared.frame.Frame.{Frame};
 
     ghost Value = { List Frame };
 
-    ghost coded = { Prim.hlevel (codes, f.the_row.coded) };
+    ghost coded = { Prim.hlevel (codes, frame.the_row.coded) };
 
     ghost view = { λ s. reverse s.rules.items };
 }

@@ -3,7 +3,7 @@ use Rattle.std.specs.Prelude.{◌≡◌, ℤ, ℕ, suc, ◌<◌, ◌≤◌, max,
 use Rattle.ytt_base.specs.Outcomes.{place_at}
 use Rattle.star_spec.specs.Code as code
 use Rattle.star_spec.specs.Code.{Expr, UnaryOperator, negation, BinaryOperator, addition, subtraction, multiplication, floor_division}
-use Rattle.star_spec.specs.Tokens as k
+use Rattle.star_spec.specs.Tokens as kind
 use Rattle.star_spec.specs.Tokens.{Kind, Token, token}
 
 -- An expression as it is written: brackets are in it, and the line of each token.
@@ -15,21 +15,21 @@ pub data Source : Type 0 where
   group : (opening_line closing_line : ℕ) → Source → Source
 
 abbrev pub unary_kind : UnaryOperator → Kind
-unary_kind negation = k.minus
+unary_kind negation = kind.minus
 
 abbrev pub binary_kind : BinaryOperator → Kind
-binary_kind addition = k.plus
-binary_kind subtraction = k.minus
-binary_kind multiplication = k.star
-binary_kind floor_division = k.double_slash
+binary_kind addition = kind.plus
+binary_kind subtraction = kind.minus
+binary_kind multiplication = kind.star
+binary_kind floor_division = kind.double_slash
 
 -- the tokens of a source, and then these
 abbrev pub spell : Source → List Token → List Token
-spell (int l z) ts = token (k.int z) l ∷ ts
-spell (text l t) ts = token (k.text t) l ∷ ts
+spell (int l z) ts = token (kind.int z) l ∷ ts
+spell (text l t) ts = token (kind.text t) l ∷ ts
 spell (unary op l a) ts = token (unary_kind op) l ∷ spell a ts
 spell (binary op l a b) ts = spell a (token (binary_kind op) l ∷ spell b ts)
-spell (group l r a) ts = token k.opening l ∷ spell a (token k.closing r ∷ ts)
+spell (group l r a) ts = token kind.opening l ∷ spell a (token kind.closing r ∷ ts)
 
 -- its tree in a file of this number, which has no brackets
 abbrev pub tree : (file : ℕ) → Source → Expr
@@ -85,7 +85,7 @@ IsWhole (group l r a) = IsWhole a
 
 -- the tokens of a source and the text's end
 abbrev pub whole_text : Source → (end_line : ℕ) → List Token
-whole_text s line = spell s (token k.end line ∷ [])
+whole_text s line = spell s (token kind.end line ∷ [])
 
 -- the tokens spell this expression of a file, which is at most so high
 pub record Parses (limit file : ℕ) (ts : List Token) (e : Expr) : Type 0 where

@@ -1,5 +1,5 @@
 -- Instructions that are put behind others.
-use Rattle.std.proofs.Common.{◌≡◌, ℕ, ◌+◌, ◌<◌, List, [], ◌∷◌, ◌++◌, length, drop, get_or, refl, sym, ap, ◌∙◌, add-one, append_assoc, Result, Ok, Err, OnOk}
+use Rattle.std.proofs.Common.{◌≡◌, ℕ, ◌+◌, ◌<◌, List, [], ◌∷◌, ◌++◌, length, drop, get_or, refl, sym, ap, ◌∙◌, add-one, append_assoc, append-nil, Result, Ok, Err, OnOk}
 use Rattle.ytt_base.specs.declared.text.Memory.{Memory}
 use Rattle.std.proofs.Math.Seq.{drop-cons}
 use Rattle.star_spec.specs.Program.{Instruction, part}
@@ -46,3 +46,7 @@ emits_next file a b c xs j x rest all one lt e first h k is =
 pub on_ok_same : (r : Result (Unit {0}) Memory) (file : ℕ) (a b : List Instr) (f g : List Instruction → List Instruction) → OnOk r (Emits file a b f) → g ≡ f → OnOk r (Emits file a b g)
 on_ok_same (Ok u) file a b f g h e = emits_same file a b f g h e
 on_ok_same (Err m) file a b f g h e = tt
+
+-- what was put behind no instruction is all that there is
+pub emits_all : (file : ℕ) (old new : List Instr) (f : List Instruction → List Instruction) → old ≡ [] → Emits file old new f → instructions_of file new ≡ f []
+emits_all file old new f e h = sym (append-nil (instructions_of file new)) ∙ h [] ∙ ap (λ l. instructions_of file l ++ f []) e

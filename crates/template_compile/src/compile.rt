@@ -1,8 +1,11 @@
 // Items as instructions.
 ghost use Rattle.std.specs.Prelude.{◌≡◌, IfOk, OnOk};
+ghost use Rattle.star_spec.specs.Program.{document_item};
 ghost use Rattle.star_tree.specs.View.{item_kind_of, program_of};
 ghost use Rattle.template_compile.specs.Emits.{Emits};
 ghost use Rattle.template_spec.specs.Compiled.{compiled, content_code, item_code, items_code};
+ghost use Rattle.template_spec.specs.Meaning.{RunsAsBuilt};
+ghost use Rattle.template_spec.specs.WellNested.{Straight, WellNested};
 ghost use Rattle.template_tree.specs.View.{content_of, in_content, items_as, items_of, node_of};
 
 use crate::parts::{holds, put, put_key, put_notes};
@@ -13,10 +16,14 @@ use template_tree::{TContent, TItem, TItems, TNode, Template};
 use ytt_base::fault::Place;
 use ytt_base::text::Memory;
 
-/// The program of a template.
+/// The program of a template, in the file of the template's number: a part of a node for each start, note,
+/// key, value and end, in the order of the text. It runs as the template is built. Where pairs alone have
+/// keys, it is well nested. `Memory` comes where there was no room.
 pub fn compile_flat(alloc: Global, template: &Template) -> Result<Program, Memory>
     ensures code { IfOk result (λ p. program_of p ≡ compiled (items_of template.now.file template.now.items)) }
     ensures file { IfOk result (λ p. p.file ≡ template.now.file) }
+    ensures meaning { IfOk result (λ p. RunsAsBuilt (program_of p) (items_of template.now.file template.now.items)) }
+    ensures well_nested { IfOk result (λ p. Straight document_item (items_of template.now.file template.now.items) → WellNested (program_of p)) }
 {
     let mut code = Items::new(alloc);
     put_items(

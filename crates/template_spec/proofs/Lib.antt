@@ -4,6 +4,7 @@ pub mod Functions
 pub mod Leaving
 pub mod NamesAgree
 pub mod Nested
+pub mod Nesting
 pub mod PlacingStands
 pub mod Runs
 pub mod Theorem

@@ -13,7 +13,7 @@ use Rattle.template_spec.specs.Build.{builds, built}
 use Rattle.star_spec.specs.Blocks.{no_ops, blocks}
 use Rattle.template_spec.specs.Run.{runs}
 use Rattle.star_spec.specs.Calls.{Host, call_in, user_call, Code, of_def, parameters_of, names_of, enter_code, function_at}
-use Rattle.template_spec.specs.Meaning.{result_of, level_of, enter_items, enter_ops, bottom, bottom_flow, template_table, program_table, template_calls, program_calls, run_blocks, Run, frozen_since, in_scope, names_in, Agrees, FilesAgree}
+use Rattle.template_spec.specs.Meaning.{result_of, level_of, enter_items, enter_ops, bottom, bottom_flow, template_table, program_table, template_calls, program_calls, run_blocks, Run, frozen_since, in_scope, names_in, Agrees, FilesAgree, RunsAsBuilt}
 use Rattle.template_spec.specs.Names.{items_names, ops_names}
 use Rattle.template_spec.specs.Placed.{free, Placed}
 use Rattle.template_spec.proofs.Follows.{then_ext, mapped}
@@ -67,3 +67,7 @@ module _ {H : Type 0} (language : Language H) where
   files_agree host files placed t h d s =
       (λ i. in_scope (names_agree t i) (Run language (program_calls language host (λ f. compiled (files f)) d) (compiled t)) s)
       ∙ then_ext (with_boxes (items_names t) [] s) _ _ (λ env r. (λ i. then_do (agrees host files placed t h d env r i) (frozen_since (length s.store))))
+
+-- a placed template's program runs as its items are built
+pub runs_as_built : (t : Items) → Placed free t → RunsAsBuilt (compiled t) t
+runs_as_built t h language host files placed d s = files_agree language host files placed t h d s

@@ -8,3 +8,4 @@ pub mod Placing
 pub mod Run
 pub mod Take
 pub mod Template
+pub mod WellNested

@@ -168,6 +168,12 @@ FilesAgree {H = H} language host files =
     ((f : ℕ) → Placed free (files f)) → (t : Items) → Placed free t → (d : ℕ) (s : State H) →
     RunFile language host (λ f. compiled (files f)) d (compiled t) s ≡ BuildFile language host files d t s
 
+-- a program runs as items are built, beside whatever templates the other files have
+abbrev pub RunsAsBuilt : List Instruction → Items → Type 0
+RunsAsBuilt program t =
+    (language : Language (Unit {0})) (host : Host (Unit {0})) (files : ℕ → Items) → ((f : ℕ) → Placed free (files f)) → (d : ℕ) (s : State (Unit {0})) →
+    RunFile language host (λ f. compiled (files f)) d program s ≡ BuildFile language host files d t s
+
 -- ---- documents
 
 abbrev pub unless_null : Bool → Trees → Trees → Trees

@@ -1,4 +1,4 @@
-pub mod Causes
+pub mod Lines
 pub mod Names
-pub mod ReadBack
+pub mod Numbers
 pub mod Refusals

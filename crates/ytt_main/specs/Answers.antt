@@ -15,11 +15,3 @@ Answers due (answer.Fault line) = due ≡ fault line
 Answers due (answer.Usage line) = due ≡ usage line
 Answers due (answer.ReadFailed line) = Unit {0}
 Answers due answer.Memory = Unit {0}
-
--- Usage has its wrong word, and a failed read its path and a count that rose. Beside want of memory each other answer leaves the count.
-abbrev pub AnswerCounts : Asked → ℕ → ℕ → Answer → Type 0
-AnswerCounts asked before now (answer.Documents trees) = now ≡ before
-AnswerCounts asked before now (answer.Fault line) = now ≡ before
-AnswerCounts asked before now (answer.Usage line) = (now ≡ before) × ((n : ℕ) × (asked ≡ wrong n) × (line ≡ usage_line n))
-AnswerCounts asked before now (answer.ReadFailed line) = Rose before now × ((path : List ℕ) × (asked ≡ render path) × (line ≡ read_failed_line path))
-AnswerCounts asked before now answer.Memory = Unit {0}

@@ -24,6 +24,11 @@ Counts path before now (Err (stop.Fault f)) = now ≡ before
 Counts path before now (Err (stop.ReadFailed at)) = Rose before now × (at ≡ path)
 Counts path before now (Err stop.Memory) = Unit {0}
 
+-- the files didn't fail
+abbrev pub IsNoFailure : Result (List Tree) RenderStop → Type 0
+IsNoFailure (Err (stop.ReadFailed path)) = ⊥
+IsNoFailure _ = Unit {0}
+
 -- a refusal by this fault, unless there was no room
 abbrev pub Refuses : Fault → RenderStop → Type 0
 Refuses f (stop.Fault g) = g ≡ f

@@ -4,7 +4,8 @@ ghost use Rattle.ytt_base.specs.FaultText.{fault_line};
 ghost use Rattle.ytt_spec.specs.Due.{due, due_for, read_failed_line, usage_line};
 ghost use Rattle.ytt_spec.specs.Meaning.{last_part, meaning};
 ghost use Rattle.ytt_spec.specs.Words.{asked, render, wrong};
-ghost use Rattle.ytt_main.specs.Answers.{AnswerCounts, Answers};
+ghost use Rattle.ytt_main.specs.Answers.{Answers};
+ghost use Rattle.ytt_main.specs.Found.{Found};
 
 use crate::render::{RenderStop, last_part, render};
 use crate::words::read_words;
@@ -49,7 +50,7 @@ fn fault_line(alloc: Global, path: &str, fault: &Fault) -> Result<Text, Memory>
 
 fn answer_render<F: Files>(alloc: Global, path: &str, files: &mut F) -> Answer
     ensures told { IfSome (F.tree files.old) (λ tree. Answers (due_for path.now (meaning path.now (tree path.now))) result) }
-    ensures cause { AnswerCounts (render path.now) (F.faults files.old) (F.faults files.new) result }
+    ensures found { Found (render path.now) (F.tree files.old) (F.faults files.old) (F.faults files.new) result }
 {
     match render(alloc, path, files) {
         Ok(trees) => Answer::Documents(trees),
@@ -68,10 +69,10 @@ fn answer_render<F: Files>(alloc: Global, path: &str, files: &mut F) -> Answer
 /// The answer to the words.
 pub fn answer_words<F: Files>(alloc: Global, words: &[String], files: &mut F) -> Answer
     ensures told { IfSome (F.tree files.old) (λ tree. Answers (due (map string_bytes words.now) tree) result) }
-    ensures cause { AnswerCounts (asked (map string_bytes words.now)) (F.faults files.old) (F.faults files.new) result }
+    ensures found { Found (asked (map string_bytes words.now)) (F.tree files.old) (F.faults files.old) (F.faults files.new) result }
 {
     match read_words(words) {
-        Ok(path) => answer_render(alloc, path.as_str(), files),
+        Ok(request) => answer_render(alloc, request.path.as_str(), files),
         Err(word) => match usage_text(alloc, word) {
             Ok(line) => Answer::Usage(line),
             Err(_) => Answer::Memory,

@@ -1,7 +1,10 @@
 // What a request means over the files that are handed in.
-ghost use Rattle.std.specs.Prelude.{◌≡◌, IfSome, true};
+ghost use Rattle.std.specs.Prelude.{◌≡◌, ◌^◌, ◌<◌, IfOk, IfSome, length, true};
+ghost use Rattle.ytt_base.specs.View.{trees_of};
+ghost use Rattle.yaml_spec.specs.Flat.{read_trees};
+ghost use Rattle.yaml_spec.specs.ReadsBack.{AreFlat};
 ghost use Rattle.ytt_spec.specs.Meaning.{has_ending, is_template, last_part, meaning, not_built, path_fault};
-ghost use Rattle.ytt_main.specs.Rendering.{Counts, IsNoFolder, IsReadFailure, Means, Refuses};
+ghost use Rattle.ytt_main.specs.Rendering.{Counts, IsNoFailure, IsNoFolder, IsReadFailure, Means, Refuses};
 
 use std::alloc::Global;
 use yaml_read::read_plain;
@@ -75,6 +78,7 @@ fn read_failed(alloc: Global, path: &str) -> RenderStop
 /// The documents of the one file at the path, or the first fault.
 pub fn render<F: Files>(alloc: Global, path: &str, files: &mut F) -> Result<Trees, RenderStop>
     ensures told { IfSome (F.tree files.old) (λ tree. Means (meaning path.now (tree path.now)) result) }
+    ensures flat { IfOk result (λ trees. AreFlat (trees_of trees)) }
     ensures keeps { F.tree files.new ≡ F.tree files.old }
     ensures cause { Counts path.now (F.faults files.old) (F.faults files.new) result }
 {
@@ -95,6 +99,7 @@ pub fn render<F: Files>(alloc: Global, path: &str, files: &mut F) -> Result<Tree
 fn read_file<F: Files>(alloc: Global, path: &str, files: &mut F) -> Result<Trees, RenderStop>
     requires { is_template (last_part path.now) ≡ true }
     ensures told { IfSome (F.tree files.old) (λ tree. IsNoFolder (tree path.now) → Means (meaning path.now (tree path.now)) result) }
+    ensures flat { IfOk result (λ trees. AreFlat (trees_of trees)) }
     ensures keeps { F.tree files.new ≡ F.tree files.old }
     ensures cause { Counts path.now (F.faults files.old) (F.faults files.new) result }
 {
@@ -103,10 +108,20 @@ fn read_file<F: Files>(alloc: Global, path: &str, files: &mut F) -> Result<Trees
         Err(FilesStop::Memory) => Err(RenderStop::Memory),
         Ok(Got::Missing) => Err(path_fault(alloc, FaultKind::FileMissing, path)),
         Ok(Got::TooLarge) => Err(path_fault(alloc, FaultKind::FileTooLarge, path)),
-        Ok(Got::Bytes(bytes)) => match read_plain(alloc, bytes.as_slice(), 1) {
-            Ok(trees) => Ok(trees),
-            Err(Stop::Fault(fault)) => Err(RenderStop::Fault(fault)),
-            Err(Stop::Memory) => Err(RenderStop::Memory),
-        },
+        Ok(Got::Bytes(bytes)) => read_documents(alloc, bytes.as_slice()),
+    }
+}
+
+/// The documents of a text, or its first fault.
+fn read_documents(alloc: Global, bytes: &[u8]) -> Result<Trees, RenderStop>
+    requires { length bytes.now < 2 ^ 32 }
+    ensures documents { Means (read_trees 1 bytes.now) result }
+    ensures flat { IfOk result (λ trees. AreFlat (trees_of trees)) }
+    ensures none_failed { IsNoFailure result }
+{
+    match read_plain(alloc, bytes, 1) {
+        Ok(trees) => Ok(trees),
+        Err(Stop::Fault(fault)) => Err(RenderStop::Fault(fault)),
+        Err(Stop::Memory) => Err(RenderStop::Memory),
     }
 }

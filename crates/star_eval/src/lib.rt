@@ -1,0 +1,7 @@
+//! What programs do.
+#![tactic(auto)]
+
+mod numbers;
+mod steps;
+mod texts;
+mod value;

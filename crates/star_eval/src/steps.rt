@@ -1,0 +1,32 @@
+// Steps, and refusals.
+ghost use Rattle.std.specs.Prelude.{◌≡◌};
+ghost use Rattle.ytt_base.specs.declared.fault.Stop.TheVariants as stop;
+ghost use Rattle.ytt_base.specs.Outcomes.{fault_at};
+ghost use Rattle.star_spec.specs.Outcomes.{give, paid_by};
+ghost use Rattle.star_eval.specs.Meets.{Meets, with_steps};
+
+use std::alloc::Global;
+use ytt_base::fault::{Fault, FaultKind, Place, Stop};
+use ytt_base::text::Text;
+
+/// The refusal of this kind, without a detail.
+pub(crate) fn refusal(alloc: Global, kind: FaultKind, place: Place) -> Stop
+    ensures { result ≡ stop.Fault (fault_at kind place) }
+{
+    Stop::Fault(Fault {
+        kind,
+        place,
+        detail: Text::new(alloc),
+    })
+}
+
+/// Takes so many steps at a place, or refuses with `Steps` where fewer are left.
+pub(crate) fn pay(alloc: Global, place: Place, cost: u128, steps: &mut u64) -> Result<(), Stop>
+    ensures { Meets (λ u. u) result steps.new (paid_by cost place (give tt) (with_steps steps.old)) }
+{
+    if u128::from(*steps) < cost {
+        return Err(refusal(alloc, FaultKind::Steps, place));
+    }
+    *steps -= cost as u64;
+    Ok(())
+}

@@ -1,0 +1,58 @@
+// Texts that are joined and repeated.
+ghost use Rattle.std.specs.Prelude.{◌≡◌, ◌++◌, IfOk, string_bytes};
+ghost use Rattle.star_spec.specs.Values.{text_value};
+ghost use Rattle.star_spec.specs.Operators.{repeat_text, repeated, sum_row};
+ghost use Rattle.star_spec.specs.Numbers.{at_least_zero};
+ghost use Rattle.star_eval.specs.Meets.{Meets, with_steps};
+ghost use Rattle.star_eval.specs.View.{value_of};
+
+use crate::steps::{pay, refusal};
+use crate::value::Value;
+use std::alloc::Global;
+use ytt_base::fault::{FaultKind, Place, Stop};
+use ytt_base::text::{Memory, Text};
+
+fn joined(alloc: Global, left: &str, right: &str) -> Result<Text, Memory>
+    ensures { IfOk result (λ t. t ≡ left.now ++ right.now) }
+{
+    let mut string = String::from_str(alloc, left)?;
+    string.push_str(right)?;
+    Ok(Text::of_string(string))
+}
+
+/// One text behind the other. It takes a sixteenth of the bytes of both and of the result as steps.
+pub(crate) fn join(alloc: Global, place: Place, left: &Text, right: &Text, steps: &mut u64) -> Result<Value, Stop>
+    ensures { Meets value_of result steps.new (sum_row place (text_value left.now) (text_value right.now) (with_steps steps.old)) }
+{
+    let bytes = 2 * (left.as_str().len() as u128 + right.as_str().len() as u128);
+    pay(alloc, place, bytes / 16, steps)?;
+    Ok(Value::Text(joined(alloc, left.as_str(), right.as_str())?))
+}
+
+fn many(alloc: Global, text: &str, times: u128) -> Result<Text, Memory>
+    ensures { IfOk result (λ t. t ≡ repeated times text.now) }
+{
+    let mut all = String::new(alloc);
+    if text.is_empty() {
+        return Ok(Text::of_string(all));
+    }
+    for _ in 0..times {
+        all.push_str(text)?;
+    }
+    Ok(Text::of_string(all))
+}
+
+/// The text so many times, and none below 1. It takes a sixteenth of the bytes of the text and of the
+/// result as steps.
+pub(crate) fn repeat(alloc: Global, place: Place, text: &Text, times: i128, steps: &mut u64) -> Result<Value, Stop>
+    ensures { Meets value_of result steps.new (repeat_text place text.now (at_least_zero times) (with_steps steps.old)) }
+{
+    let times = if times < 0 { 0 } else { times as u128 };
+    match (text.as_str().len() as u128).checked_mul(1 + times) {
+        None => Err(refusal(alloc, FaultKind::Steps, place)),
+        Some(bytes) => {
+            pay(alloc, place, bytes / 16, steps)?;
+            Ok(Value::Text(many(alloc, text.as_str(), times)?))
+        }
+    }
+}

@@ -1,0 +1,17 @@
+-- What is known of the line that is due on `err`.
+use Rattle.std.proofs.Common.{ℕ, List, Option, inr}
+use Rattle.ytt_outside.specs.Standing.{Standing}
+use Rattle.ytt_spec.proofs.WrongWords.{wrong_words}
+use Rattle.ytt_spec.specs.Words.{asked}
+use Rattle.ytt_main.specs.Endings.{HasFailed, HasWritten, IsUntouched, IsUsage, IsWriteFault, Sink}
+use Rattle.ytt_main.specs.Found.{IsReadLine, IsUsageLine}
+
+-- the number in the usage line is that of the first wrong word
+pub usage_ending : (words : List (List ℕ)) (before now : ℕ) (out err : Sink) (line : List ℕ) → IsUsageLine (asked words) before now line → HasWritten err line → IsUntouched out
+    → IsUsage words before now out err
+usage_ending words before now out err line found written silent =
+    record { line = line; found = found; first_wrong = wrong_words words found.number found.asked_is; written = written; silent = silent }
+
+pub read_line_failed : (words : List (List ℕ)) (files : Option (List ℕ → Standing)) (before now : ℕ) (out err : Sink) (line : List ℕ) → IsReadLine (asked words) before now line → HasFailed err line
+    → IsUntouched out → IsWriteFault words files before now out err
+read_line_failed words files before now out err line found failed silent = inr (record { line = line; found = inr (inr found); failed = failed; silent = silent })
