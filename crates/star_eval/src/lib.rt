@@ -1,7 +1,9 @@
 //! What programs do.
 #![tactic(auto)]
 
+mod eval;
 mod numbers;
+mod operate;
 mod steps;
 mod texts;
 mod value;
