@@ -4,3 +4,4 @@ pub mod Floor
 pub mod Meeting
 pub mod Passing
 pub mod Shortage
+pub mod Views
