@@ -55,6 +55,7 @@ content_taken call n p j (value_from e) env h = yields_then IsPlainValue IsTaken
 content_taken call n p j (pairs is) env h = elim h [ ]
 content_taken call n p j (elements is) env h = elim h [ ]
 
+-- what is built so far, whichever way the act ended
 abbrev IsGrown : Flow Children → Type 0
 IsGrown f = AreGrown [] (built f)
 
@@ -73,6 +74,7 @@ item_built {H} call n (node p j no_notes (written_key (string w)) c) env cs h k 
     (λ t g. yields_then (AreGrown []) IsGrown (add t) go (taken_added cs p j w t h.0 k g) (λ all f s. f)))
 item_built call n _ env cs h k = elim h [ ]
 
+-- what follows an act keeps the form
 gone_on : {H : Type 0} (act : Act H Children) (f : Flow Children) → IsGrown f → ((cs : Children) → AreGrown [] cs → Yields IsGrown (act cs)) → Yields IsGrown (go_on act f)
 gone_on act (on cs) h k = k cs h
 gone_on act (out w cs) h k = λ s. h
@@ -143,6 +145,7 @@ template_built call _ env h = elim h [ ]
 
 -- ---- what a text and a path mean
 
+-- the boxes of a scope and their freezing change no child
 scoped : {H : Type 0} (P : Children → Type 0) (names : List Name) (meaning : Env → Computation H Children) → ((env : Env) → Yields P (meaning env)) → Yields P (in_scope names meaning)
 scoped P names meaning h = λ s.
     yields_then (λ env. Unit {0}) P (with_boxes names []) (λ env. meaning env >>= frozen_since (length s.store)) (yields_any (with_boxes names []))

@@ -26,6 +26,7 @@ use Rattle.ytt_spec.proofs.PlainCode.{IsPlainExpr, plain_expr}
 
 -- ---- what is read
 
+-- a key is a plain word
 abbrev IsWord : Scalar → Type 0
 IsWord (string w) = is_plain_word w ≡ true
 IsWord _ = ⊥
@@ -48,6 +49,7 @@ abbrev AreSomeNoted : noted.Items → Type 0
 AreSomeNoted noted.no_items = ⊥
 AreSomeNoted (noted.item n c is) = AreNotedPairs (noted.item n c is)
 
+-- no item, or one map that has such a pair
 abbrev AreNotedDocuments : noted.Items → Type 0
 AreNotedDocuments noted.no_items = Unit {0}
 AreNotedDocuments (noted.item n (noted_map is) noted.no_items) = AreSomeNoted is
@@ -86,6 +88,7 @@ entry_read place l =
 new_entry : (place : Place) (earlier : List Scalar) (e : Scalar × Beside) → IsEntryRead e → Holds IsEntryRead (unrepeated place earlier e)
 new_entry place earlier e h = holds_either IsEntryRead (has_key e.0 earlier) _ (Ok e) (λ k. tt) (λ k. h)
 
+-- the pairs from one line on, by those of the lines behind it
 line_read : (file : ℕ) (earlier : List Scalar) (n : ℕ) (l : List ℕ) (ls : List (List ℕ)) → ((more : List Scalar) → Holds AreNotedPairs (noted_pairs_in file more (n + 1) ls)) → Holds AreSomeNoted (noted_pairs_in file earlier n (l ∷ ls))
 line_read file earlier n l ls rest =
     let place = place_at file n in
@@ -110,11 +113,12 @@ read_in : (file : ℕ) (ls : List (List ℕ)) → Holds AreRead (noted_in file l
 read_in file [] = tt
 read_in file (l ∷ ls) = holds_behind AreSomeNoted AreRead (noted_pairs_in file [] 1 (l ∷ ls)) one_noted_map (line_read file [] 1 l ls (pairs_read file 2 ls)) (λ is h. h)
 
-pub documents_read : (file : ℕ) (bytes : List ℕ) → Holds AreRead (noted_documents file bytes)
+documents_read : (file : ℕ) (bytes : List ℕ) → Holds AreRead (noted_documents file bytes)
 documents_read file bytes = read_in file (lines bytes)
 
 -- ---- what is placed
 
+-- a value, or code that gives one
 abbrev pub IsFlatContent : Content → Type 0
 IsFlatContent (written_value x) = IsValue (scalar x)
 IsFlatContent (value_from e) = IsPlainExpr e
@@ -139,6 +143,7 @@ IsFlatTemplate no_items = Unit {0}
 IsFlatTemplate (an_item (node p kind no_notes no_key (pairs is)) no_items) = AreSomeFlat is
 IsFlatTemplate _ = ⊥
 
+-- what code reads as is plain
 plain_outcome : (place : Place) (t : List ℕ) (o : Outcome Expr) → Reads place t o → Holds IsPlainExpr o
 plain_outcome place t (Ok e) h = plain_expr place t e h
 plain_outcome place t (Err f) h = tt
@@ -212,6 +217,6 @@ module _ (r : Reader) (reads : IsReader r) where
   placed_flat : (file : ℕ) (d : Documents) → AreRead d → Holds IsFlatTemplate (placed r file d)
   placed_flat file d h = holds_behind IsFlatTemplate IsFlatTemplate (placed_documents r file d.items) (without_comments file d.after) (documents_placed file d.items h) (without_more file d.after)
 
--- the template of a text
+-- the template of a text is of this form
 pub flat_template : (r : Reader) → IsReader r → (file : ℕ) (bytes : List ℕ) → Holds IsFlatTemplate (noted_documents file bytes >>= placed r file)
 flat_template r reads file bytes = holds_behind AreRead IsFlatTemplate (noted_documents file bytes) (placed r file) (documents_read file bytes) (λ d h. placed_flat r reads file d h)

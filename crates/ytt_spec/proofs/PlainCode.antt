@@ -43,11 +43,12 @@ last_first false false false h = h
 run_byte : (b : ℕ) → is_ascii_alphanumeric b ≡ true → is_letter_or_digit b ≡ true
 run_byte b h = last_first (nat_le 48 b && nat_le b 57) (nat_le 65 b && nat_le b 90) (nat_le 97 b && nat_le b 122) h
 
--- the same, where a byte is tested
+-- a letter or a digit before such a front belongs to it, and another byte ends it
 run_begins : (b : ℕ) (bs : List ℕ) (q : Bool) → is_ascii_alphanumeric b ≡ q → list_all is_letter_or_digit (take (run_size bs) bs) ≡ true → list_all is_letter_or_digit (take (run_size (b ∷ bs)) (b ∷ bs)) ≡ true
 run_begins b bs true e h = let one : 1 + run_size bs ≡ suc (run_size bs) = omega arith in rw (e, one, run_byte b e) h
 run_begins b bs false e h = rw e refl
 
+-- the letters and digits at the front of a text
 run_passes : (t : List ℕ) → list_all is_letter_or_digit (take (run_size t) t) ≡ true
 run_passes [] = refl
 run_passes (b ∷ bs) = run_begins b bs (is_ascii_alphanumeric b) refl (run_passes bs)
@@ -93,6 +94,7 @@ plain_tokens zero line (b ∷ bs) =
 
 -- ---- expressions
 
+-- each literal is an integer of 128 bits or a text of letters and digits, and no name stands in it
 abbrev pub IsPlainExpr : Expr → Type 0
 IsPlainExpr (code.int p z) = FitsSigned w128 z
 IsPlainExpr (code.text p t) = list_all is_letter_or_digit t ≡ true
@@ -100,6 +102,7 @@ IsPlainExpr (code.name p x) = ⊥
 IsPlainExpr (code.unary p o a) = IsPlainExpr a
 IsPlainExpr (code.binary p o a b) = IsPlainExpr a × IsPlainExpr b
 
+-- an expression is plain where the tokens that spell it are
 spelled : (file : ℕ) (s : Source) (ts : List Token) → ArePlainTokens (spell s ts) → IsPlainExpr (tree file s) × ArePlainTokens ts
 spelled file (int l z) ts h = h
 spelled file (text l t) ts h = h
@@ -109,7 +112,7 @@ spelled file (binary op l a b) ts h =
     let right = spelled file b ts left.1.1 in ((left.0, right.0), right.1)
 spelled file (group l r a) ts h = let inner = spelled file a (token.token token.closing r ∷ ts) h.1 in (inner.0, inner.1.1)
 
--- an expression that a text is
+-- an expression that a text is, is plain
 pub plain_expr : (place : Place) (t : List ℕ) (e : Expr) → IsExpr place t e → IsPlainExpr e
 plain_expr place t e h =
     let p = h.parsed in

@@ -17,6 +17,7 @@ use Rattle.star_spec.specs.Values.{Value, int_value, text_value, Env}
 use Rattle.ytt_spec.proofs.Holding.{Yields, yields_paid, yields_then}
 use Rattle.ytt_spec.proofs.PlainCode.{IsPlainExpr}
 
+-- an integer of 128 bits, or a text of letters and digits
 abbrev pub IsPlainValue : Value → Type 0
 IsPlainValue (int_value z) = FitsSigned w128 z
 IsPlainValue (text_value t) = list_all is_letter_or_digit t ≡ true
@@ -82,6 +83,7 @@ two_operands p floor_division a b h k = quotient p a b
 
 -- ---- expressions
 
+-- a plain expression gives such a value, whatever the calls and the scope
 pub plain_value : {H : Type 0} (call : Call H) (e : Expr) (env : Env) → IsPlainExpr e → Yields IsPlainValue (eval call e env)
 plain_value call (int p z) env h = yields_paid IsPlainValue 1 p (give (int_value z)) (λ s. h)
 plain_value call (text p t) env h = yields_paid IsPlainValue 1 p (give (text_value t)) (λ s. h)
