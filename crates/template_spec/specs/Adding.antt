@@ -6,7 +6,7 @@ use Rattle.ytt_base.specs.Trees.{Scalar, same_key}
 use Rattle.star_spec.specs.Program.{ItemKind}
 use Rattle.star_spec.specs.Values.{Child, child, Children, no_children, a_child, BuiltNotes, no_built, a_built, Taken, taken, many}
 use Rattle.star_spec.specs.Outcomes.{Computation, give, fail_with, ◌>>=◌}
-use Rattle.yaml_spec.specs.Text.{key_text}
+use Rattle.yaml_spec.specs.FirstText.{key_text}
 
 abbrev pub keys_equal : Option Scalar → Option Scalar → Bool
 keys_equal (Some a) (Some b) = same_key a b

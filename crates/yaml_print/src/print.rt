@@ -5,8 +5,8 @@ ghost use Rattle.ytt_outside.specs.Sink.{SinkCounts, Writes};
 ghost use Rattle.yaml_print.specs.Documents.{more_text};
 ghost use Rattle.yaml_print.specs.Pending.{pending};
 ghost use Rattle.yaml_print.specs.Puts.{Puts};
-ghost use Rattle.yaml_spec.specs.ReadsBack.{AreFlat, ReadsAlone};
-ghost use Rattle.yaml_spec.specs.Text.{Text, document_text};
+ghost use Rattle.yaml_spec.specs.FirstReadsBack.{AreFlat, ReadsAlone};
+ghost use Rattle.yaml_spec.specs.FirstText.{Text, document_text};
 
 use crate::blocks::write_node;
 use crate::indent::Indent;

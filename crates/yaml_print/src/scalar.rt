@@ -6,7 +6,7 @@ ghost use Rattle.ytt_outside.specs.Sink.{SinkCounts};
 ghost use Rattle.yaml_print.specs.LineText.{line_text};
 ghost use Rattle.yaml_print.specs.Pending.{pending};
 ghost use Rattle.yaml_print.specs.Puts.{Puts};
-ghost use Rattle.yaml_spec.specs.Text.{fits_plain, key_text, line_end, string_text};
+ghost use Rattle.yaml_spec.specs.FirstText.{fits_plain, key_text, line_end, string_text};
 
 use crate::pending::Pending;
 use crate::quoted::write_quoted;

@@ -8,7 +8,7 @@ use Rattle.ytt_base.specs.Outcomes.{Outcome, Gives, ◌>>=◌, place_at}
 use Rattle.ytt_base.specs.Trees.{Scalar}
 use Rattle.yaml_spec.specs.Flat.{entry_at, unrepeated}
 use Rattle.yaml_spec.specs.FlatNoted.{Beside, before_items, beside_at, noted_documents, noted_in, noted_pairs_in, one_noted_map, pair_note}
-use Rattle.yaml_spec.specs.Lines.{lines, start_line}
+use Rattle.yaml_spec.specs.FirstLines.{lines, start_line}
 use Rattle.yaml_spec.specs.Noted.{Note, Content, Items, no_items, item}
 use Rattle.yaml_read.specs.declared.noted.NotedItem.{NotedItem}
 use Rattle.yaml_read.specs.Keys.{in_front, keys_in}

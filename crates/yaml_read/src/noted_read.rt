@@ -2,7 +2,7 @@
 ghost use Rattle.std.specs.Prelude.{◌≡◌, ◌<◌, ◌^◌, [], ◌∷◌, ◌++◌, IfOk, OnOk, length};
 ghost use Rattle.ytt_base.specs.Outcomes.{Gives};
 ghost use Rattle.yaml_spec.specs.FlatNoted.{document_note, in_documents, noted_documents, noted_pairs_in};
-ghost use Rattle.yaml_spec.specs.Lines.{lines};
+ghost use Rattle.yaml_spec.specs.FirstLines.{lines};
 ghost use Rattle.yaml_spec.specs.Noted.{item, no_items, noted_map};
 ghost use Rattle.yaml_read.specs.View.{documents_of, items_of};
 

@@ -4,8 +4,8 @@ ghost use Rattle.ytt_base.specs.Outcomes.{Gives};
 ghost use Rattle.ytt_base.specs.Trees.{map, no_trees, tree};
 ghost use Rattle.ytt_base.specs.View.{pairs_of, trees_of};
 ghost use Rattle.yaml_spec.specs.Flat.{pairs_in, read_trees, value_at};
-ghost use Rattle.yaml_spec.specs.Lines.{lines};
-ghost use Rattle.yaml_spec.specs.ReadsBack.{AreFlat};
+ghost use Rattle.yaml_spec.specs.FirstLines.{lines};
+ghost use Rattle.yaml_spec.specs.FirstReadsBack.{AreFlat};
 
 use crate::entry::read_entry;
 use crate::lines::split_line;

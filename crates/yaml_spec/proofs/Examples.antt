@@ -8,10 +8,10 @@ use Rattle.ytt_base.specs.declared.fault.FaultKind.TheVariants as kind
 use Rattle.ytt_base.specs.Trees.{null, boolean, integer, string, Tree, scalar, list, map, Trees, no_trees, tree, no_pairs, pair}
 use Rattle.yaml_spec.specs.Flat.{any_value, documents_in, read_trees, not_built}
 use Rattle.yaml_spec.specs.FlatNoted.{document_note, in_documents, noted_documents}
-use Rattle.yaml_spec.specs.Lines.{lines}
+use Rattle.yaml_spec.specs.FirstLines.{lines}
 use Rattle.yaml_spec.specs.Noted.{Comment, Note, noted_scalar, noted_map, no_items, item}
 use Rattle.yaml_spec.specs.Scalars.{form, plain, null_form, octal_form, bad_octal_form, integer_form, prefixed_form, float_form, word_form, string_form}
-use Rattle.yaml_spec.specs.Text.{Text}
+use Rattle.yaml_spec.specs.FirstText.{Text}
 
 abbrev text : List ℕ → Tree
 text s = scalar (string s)

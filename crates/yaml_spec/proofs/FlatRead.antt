@@ -7,8 +7,8 @@ use Rattle.ytt_base.specs.Trees.{Scalar, integer, string, Tree, scalar, map, Tre
 use Rattle.ytt_base.specs.declared.fault.Place.{Place}
 use Rattle.yaml_spec.specs.Bytes.{is_letter_or_digit, first}
 use Rattle.yaml_spec.specs.Flat.{Entry, before_pairs, documents_in, entry_at, is_colon, is_entry, is_integer, is_plain_word, is_point_number, is_quoted_run, key_part, middle, no_value, one_map, pairs_in, read_trees, unrepeated, value_at, value_part, with_key}
-use Rattle.yaml_spec.specs.Lines.{lines}
-use Rattle.yaml_spec.specs.ReadsBack.{AreFlat, AreFlatPairs, IsValue}
+use Rattle.yaml_spec.specs.FirstLines.{lines}
+use Rattle.yaml_spec.specs.FirstReadsBack.{AreFlat, AreFlatPairs, IsValue}
 use Rattle.yaml_spec.proofs.Numerals.{both, integer_fits}
 use Rattle.yaml_spec.proofs.RunsBack.{word_run}
 

@@ -6,7 +6,7 @@ use Rattle.ytt_base.specs.Trees.{Scalar, string, Tree, Trees, Pairs, has_key}
 use Rattle.ytt_base.specs.declared.fault.Place.{Place}
 use Rattle.yaml_spec.specs.Flat.{Entry, before_pairs, documents_in, entry_at, is_entry, key_part, value_part, not_built, one_map, pairs_in, read_trees, unrepeated, value_at, with_key}
 use Rattle.yaml_spec.specs.FlatNoted.{Beside, before_items, beside_at, is_plain_line, is_plain_text, noted_documents, noted_in, noted_pairs_in, one_noted_map, value_beside}
-use Rattle.yaml_spec.specs.Lines.{lines}
+use Rattle.yaml_spec.specs.FirstLines.{lines}
 use Rattle.yaml_spec.specs.Noted.{noted_scalar, Items, Documents, bare_pairs, bare_trees, is_code}
 use Rattle.std.proofs.lemmas.Bool.{not-true}
 use Rattle.yaml_spec.proofs.Numerals.{both}

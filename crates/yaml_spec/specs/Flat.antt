@@ -8,7 +8,7 @@ use Rattle.ytt_base.specs.declared.fault.Place.{Place}
 use Rattle.ytt_base.specs.Outcomes.{Outcome, ◌>>=◌, fault_at, place_at}
 use Rattle.ytt_base.specs.Trees.{Scalar, integer, string, Tree, scalar, map, Trees, no_trees, tree, Pairs, no_pairs, pair, has_key}
 use Rattle.yaml_spec.specs.Bytes.{space, quote, dash, dot, colon, is_digit, is_letter, is_letter_or_digit, is_reserved, first}
-use Rattle.yaml_spec.specs.Lines.{lines}
+use Rattle.yaml_spec.specs.FirstLines.{lines}
 use Rattle.yaml_spec.specs.Scalars.{form, plain, is_integer_form, is_string_form}
 
 -- a letter, then letters and digits, and no reserved word

@@ -6,7 +6,7 @@ use Rattle.ytt_base.specs.declared.fault.Place.{Place}
 use Rattle.ytt_base.specs.Outcomes.{Outcome, ◌>>=◌, place_at}
 use Rattle.ytt_base.specs.Trees.{Scalar, null, Tree, scalar}
 use Rattle.yaml_spec.specs.Flat.{entry_at, unrepeated, value_at, value_part}
-use Rattle.yaml_spec.specs.Lines.{lines}
+use Rattle.yaml_spec.specs.FirstLines.{lines}
 use Rattle.yaml_spec.specs.Noted.{Comment, Note, Content, noted_scalar, noted_map, Items, no_items, item, Documents, is_code}
 
 -- what stands beside a key: what its item holds, and the comment behind that

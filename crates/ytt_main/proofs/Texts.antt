@@ -7,7 +7,7 @@ use Rattle.ytt_base.specs.declared.fault.Stop.{Stop}
 use Rattle.ytt_base.specs.declared.tree.Tree.{Tree}
 use Rattle.yaml_spec.specs.Flat.{read_trees}
 use Rattle.yaml_spec.specs.FlatNoted.{is_plain_text, noted_documents}
-use Rattle.yaml_spec.specs.ReadsBack.{AreFlat}
+use Rattle.yaml_spec.specs.FirstReadsBack.{AreFlat}
 use Rattle.star_spec.specs.Reading.{IsReader, Reader}
 use Rattle.template_spec.specs.Placing.{placed}
 use Rattle.star_read.proofs.Laws.{a_reader_exists}

@@ -7,7 +7,7 @@ use Rattle.ytt_base.specs.View.{trees_of}
 use Rattle.ytt_base.specs.declared.fault.Fault.{Fault}
 use Rattle.ytt_outside.specs.Counts.{Rose}
 use Rattle.ytt_outside.specs.Standing.{Standing}
-use Rattle.yaml_spec.specs.ReadsBack.{AreFlat}
+use Rattle.yaml_spec.specs.FirstReadsBack.{AreFlat}
 use Rattle.ytt_spec.specs.Due.{read_failed_line, usage_line}
 use Rattle.ytt_spec.specs.Meaning.{Means, last_part}
 use Rattle.ytt_spec.specs.Words.{Asked, render, wrong}

@@ -3,7 +3,7 @@ ghost use Rattle.std.specs.Prelude.{◌≡◌, ◌^◌, ◌<◌, IfOk, IfSome, l
 ghost use Rattle.ytt_base.specs.Outcomes.{Gives, and_then};
 ghost use Rattle.ytt_base.specs.View.{trees_of};
 ghost use Rattle.yaml_spec.specs.FlatNoted.{noted_documents};
-ghost use Rattle.yaml_spec.specs.ReadsBack.{AreFlat};
+ghost use Rattle.yaml_spec.specs.FirstReadsBack.{AreFlat};
 ghost use Rattle.star_spec.specs.Reading.{IsReader, Reader};
 ghost use Rattle.template_spec.specs.Placing.{placed};
 ghost use Rattle.ytt_spec.specs.Meaning.{Means, TextMeans, built, has_ending, is_template, last_part, not_built, path_fault, text_meaning};

@@ -6,7 +6,7 @@ use Rattle.ytt_base.specs.Outcomes.{Outcome}
 use Rattle.ytt_base.specs.Trees.{string, Tree, scalar, map, Trees, no_trees, tree, Pairs, no_pairs, pair}
 use Rattle.yaml_spec.specs.Flat.{is_plain_word, read_trees}
 use Rattle.yaml_spec.specs.FlatNoted.{is_plain_text, noted_documents}
-use Rattle.yaml_spec.specs.ReadsBack.{AreFlat, AreFlatPairs, IsValue}
+use Rattle.yaml_spec.specs.FirstReadsBack.{AreFlat, AreFlatPairs, IsValue}
 use Rattle.yaml_spec.proofs.FlatRead.{read_flat}
 use Rattle.star_spec.specs.Acts.{Act, Flow, go_on, on, out, skip}
 use Rattle.star_spec.specs.Calls.{no_natives}

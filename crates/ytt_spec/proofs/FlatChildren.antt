@@ -6,7 +6,7 @@ use Rattle.std.proofs.lemmas.Slice.Eq.{bytes_eq-Decides}
 use Rattle.ytt_base.specs.declared.fault.Place.{Place}
 use Rattle.ytt_base.specs.Trees.{Scalar, null, boolean, integer, string, Tree, Pairs, no_pairs, pair, has_key, same_key}
 use Rattle.yaml_spec.specs.Flat.{is_plain_word}
-use Rattle.yaml_spec.specs.ReadsBack.{AreFlatPairs, IsValue}
+use Rattle.yaml_spec.specs.FirstReadsBack.{AreFlatPairs, IsValue}
 use Rattle.star_spec.specs.Outcomes.{Computation, give, ◌>>=◌}
 use Rattle.star_spec.specs.Program.{ItemKind}
 use Rattle.star_spec.specs.Values.{child, Children, no_children, a_child, no_built, one}

@@ -9,10 +9,10 @@ use Rattle.ytt_base.specs.Trees.{Scalar, null, boolean, integer, string, scalar,
 use Rattle.yaml_spec.specs.Bytes.{is_letter_or_digit, first}
 use Rattle.yaml_spec.specs.Flat.{entry_at, is_colon, is_entry, is_integer, is_plain_word, is_point_number, is_quoted_run, key_part, middle, no_value, unrepeated, value_at, value_part, with_key}
 use Rattle.yaml_spec.specs.FlatNoted.{Beside, before_items, beside_at, code_beside, noted_documents, noted_in, noted_pairs_in, one_noted_map, value_beside}
-use Rattle.yaml_spec.specs.Lines.{lines}
+use Rattle.yaml_spec.specs.FirstLines.{lines}
 use Rattle.yaml_spec.specs.Noted as noted
 use Rattle.yaml_spec.specs.Noted.{Comment, Note, Documents, noted_scalar, noted_list, noted_map, is_code, code_in}
-use Rattle.yaml_spec.specs.ReadsBack.{IsValue}
+use Rattle.yaml_spec.specs.FirstReadsBack.{IsValue}
 use Rattle.yaml_spec.proofs.Numerals.{both, integer_fits}
 use Rattle.yaml_spec.proofs.RunsBack.{word_run}
 use Rattle.star_spec.specs.Code.{Expr}
