@@ -19,7 +19,7 @@ bytes_eq-sym [] (y ∷ b) = refl
 bytes_eq-sym (x ∷ a) [] = refl
 bytes_eq-sym (x ∷ a) (y ∷ b) = rw (eqb-sym x y, bytes_eq-sym a b) refl
 
-same_key-sym : (a b : Scalar) → same_key a b ≡ same_key b a
+pub same_key-sym : (a b : Scalar) → same_key a b ≡ same_key b a
 same_key-sym null null = refl
 same_key-sym (boolean true) (boolean true) = refl
 same_key-sym (boolean true) (boolean false) = refl
@@ -44,7 +44,7 @@ same_key-sym (string a) (boolean b) = refl
 same_key-sym (string a) (integer b) = refl
 
 -- none of these keys is among those
-AllNew : List Scalar → List Scalar → Type 0
+unfoldable pub AllNew : List Scalar → List Scalar → Type 0
 AllNew ks [] = Unit {0}
 AllNew ks (l ∷ ls) = (has_key l ks ≡ false) × AllNew ks ls
 

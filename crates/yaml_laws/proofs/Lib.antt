@@ -4,7 +4,12 @@ pub mod Depth
 pub mod DistinctBack
 pub mod Examples
 pub mod GoodBack
+pub mod GoodParts
+pub mod GoodScalars
 pub mod HeadsBack
+pub mod Held
+pub mod HeldDocuments
+pub mod HeldRows
 pub mod ItemsBack
 pub mod KeysBack
 pub mod LiteralsBack
@@ -12,10 +17,13 @@ pub mod MarkersBack
 pub mod Pass
 pub mod PlainBack
 pub mod QuotesBack
+pub mod QuotesUtf8
 pub mod ReadsBack
 pub mod RowsBack
 pub mod Shallow
 pub mod Stack
 pub mod TextBack
 pub mod TextLines
+pub mod TextParts
 pub mod ValuesBack
+pub mod Yields

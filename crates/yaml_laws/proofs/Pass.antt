@@ -14,30 +14,7 @@ use Rattle.yaml_spec.specs.Entries.{is_dash_mark, starts_with_dash, misplaced, b
 use Rattle.yaml_laws.proofs.Depth.{grows_row}
 use Rattle.yaml_laws.specs.Machine.{Frame, Hole, wanting, filled, Begun, Opened, begin_content, begin_entry, begin_at, opens, step, run, Passed, own_comment, pass}
 use Rattle.yaml_laws.proofs.Stack.{bind_assoc, run-content_of}
-
--- ---- what holds of an outcome
-
-abbrev Yields : {A : Type 0} → (A → Type 0) → Outcome A → Type 0
-Yields {A} P o = (x : A) → o ≡ Ok x → P x
-
-or_given : {A : Type 0} → A → Outcome A → A
-or_given d (Ok x) = x
-or_given d (Err e) = d
-
-ok_same : {A : Type 0} (x y : A) → ◌≡◌ {A = Outcome A} (Ok x) (Ok y) → x ≡ y
-unfolding or_given
-ok_same {A} x y e = ap (or_given {A = A} x) e
-
-yields_ok : {A : Type 0} (P : A → Type 0) (x : A) → P x → Yields P (Ok x)
-yields_ok P x p y e = subst P (ok_same x y e) p
-
-yields_bind : {A B : Type 0} (Q : A → Type 0) (P : B → Type 0) (o : Outcome A) (f : A → Outcome B) → Yields Q o → ((x : A) → Q x → Yields P (f x)) → Yields P (o >>= f)
-yields_bind Q P (Ok a) f h k y e = k a (h a refl) y e
-yields_bind Q P (Err d) f h k y e = cc
-
-yields_if : {A : Type 0} (P : A → Type 0) (b : Bool) (o p : Outcome A) → Yields P o → Yields P p → Yields P (elim b as (λ _. Outcome A) [ true ↦ o | false ↦ p ])
-yields_if P true o p h k = h
-yields_if P false o p h k = k
+use Rattle.yaml_laws.proofs.Yields.{Yields, yields_ok, yields_bind, yields_if}
 
 -- ---- a row that the stack takes is a row that is read to its end
 

@@ -70,7 +70,7 @@ space_as_is : (white x : List ℕ) → double normal white (32 ∷ x) ≡ double
 unfolding double
 space_as_is white x = refl
 
-high : (b : ℕ) → 128 ≤ b → (white x : List ℕ) → double normal white (b ∷ x) ≡ prepend (white ++ b ∷ []) (double normal [] x)
+pub high : (b : ℕ) → 128 ≤ b → (white x : List ℕ) → double normal white (b ∷ x) ≡ prepend (white ++ b ∷ []) (double normal [] x)
 high b h white x =
     byte_as_is b (ne_eqb b 34 (omega arith)) (ne_eqb b 92 (omega arith)) (rw (ne_eqb b 32 (omega arith), ne_eqb b 9 (omega arith)) refl) white x
 

@@ -1,11 +1,9 @@
 -- What is read nests at most 100 collections, and no document of it is null.
 use Rattle.ytt_base.specs.declared.fault.Place.{Place}
-use Rattle.std.proofs.Common.{◌≡◌, ℕ, zero, suc, ◌≤◌, Bool, true, false, not, ◌&&◌, ◌||◌, ◌==◌, List, [], ◌∷◌, ◌++◌, Option, Some, None, Ok, Err, refl, ap, subst, arith, if◌then◌else◌}
+use Rattle.std.proofs.Common.{◌≡◌, ℕ, zero, suc, ◌≤◌, Bool, true, false, not, ◌&&◌, ◌||◌, ◌==◌, List, [], ◌∷◌, ◌++◌, Option, Some, None, Ok, Err, refl, arith, if◌then◌else◌}
 use Rattle.std.specs.Prelude.{nat_lt, length}
 use Rattle.yaml_spec.specs.Bytes.{percent, hash, bar, greater, comma, left_bracket, right_bracket, left_brace, right_brace, first, is_empty, skip_white}
-use Rattle.ytt_base.specs.declared.fault.FaultKind.{FaultKind}
-use Rattle.ytt_base.specs.Outcomes.{Outcome, ◌>>=◌, place_at}
-use Rattle.yaml_spec.specs.Refusals.{refused}
+use Rattle.ytt_base.specs.Outcomes.{Outcome, place_at}
 use Rattle.ytt_base.specs.Trees.{Trees, no_trees, tree, depth, trees_depth, pairs_depth, max_depth, is_null, Writable}
 use Rattle.yaml_spec.specs.Quotes.{Cursor, after, Quote, starts_quote}
 use Rattle.yaml_spec.specs.Noted.{Comment, Note, Content, noted_list, noted_map, Items, Documents, bare_tree, bare_trees, bare_pairs, drop_null, is_note}
@@ -20,37 +18,7 @@ use Rattle.yaml_spec.specs.Noted.{twice_below, key_of}
 use Rattle.yaml_spec.specs.Text.{key_text}
 use Rattle.yaml_spec.specs.Read.{Segment, first_content, document_content, marker_row, is_start, segments, comments_of, explicit, ended as read_ended, documents, implicit, Read, distinct, read_trees}
 use Rattle.yaml_spec.specs.Entries.{Entry, is_dash_mark, starts_with_dash, cut_block, over, behind_head, Found, content_of, entry_content, entry, entry_at, entries, Doc}
-
--- ---- what holds of an outcome
-
-abbrev Yields : {A : Type 0} → (A → Type 0) → Outcome A → Type 0
-Yields {A} P o = (x : A) → o ≡ Ok x → P x
-
-or_given : {A : Type 0} → A → Outcome A → A
-or_given d (Ok x) = x
-or_given d (Err e) = d
-
-ok_same : {A : Type 0} (x y : A) → ◌≡◌ {A = Outcome A} (Ok x) (Ok y) → x ≡ y
-unfolding or_given
-ok_same {A} x y e = ap (or_given {A = A} x) e
-
-yields_ok : {A : Type 0} (P : A → Type 0) (x : A) → P x → Yields P (Ok x)
-yields_ok P x p y e = subst P (ok_same x y e) p
-
-yields_err : {A : Type 0} (P : A → Type 0) (k : FaultKind) (p : Place) → Yields P (refused k p)
-yields_err P k n x e = cc
-
-yields_bind : {A B : Type 0} (Q : A → Type 0) (P : B → Type 0) (o : Outcome A) (f : A → Outcome B) → Yields Q o → ((x : A) → Q x → Yields P (f x)) → Yields P (o >>= f)
-yields_bind Q P (Ok a) f h k y e = k a (h a refl) y e
-yields_bind Q P (Err d) f h k y e = cc
-
-yields_then : {A B : Type 0} (P : B → Type 0) (o : Outcome A) (f : A → Outcome B) → ((x : A) → Yields P (f x)) → Yields P (o >>= f)
-yields_then P (Ok a) f k y e = k a y e
-yields_then P (Err d) f k y e = cc
-
-yields_if : {A : Type 0} (P : A → Type 0) (b : Bool) (o p : Outcome A) → Yields P o → Yields P p → Yields P (elim b as (λ _. Outcome A) [ true ↦ o | false ↦ p ])
-yields_if P true o p h k = h
-yields_if P false o p h k = k
+use Rattle.yaml_laws.proofs.Yields.{Yields, yields_ok, yields_err, yields_bind, yields_then, yields_if, yields_cond}
 
 -- ---- in brackets
 
@@ -120,10 +88,6 @@ shallow_flow (suc left) open_place cs c =
 
 abbrev ValueIn : ℕ → Value → Type 0
 ValueIn left v = depth (bare_tree v.content) ≤ left
-
-yields_cond : {A : Type 0} (P : A → Type 0) (b : Bool) (o p : Outcome A) → Yields P o → Yields P p → Yields P (if b then o else p)
-yields_cond P true o p h k = h
-yields_cond P false o p h k = k
 
 shallow_noted : (left : ℕ) (is_owned : Bool) (c : Content) (loose : List Comment) (p : Place) (last : ℕ) (text : List ℕ) → depth (bare_tree c) ≤ left → Yields (ValueIn left) (noted is_owned c loose p last text)
 unfolding noted

@@ -23,9 +23,12 @@ pub fn reads_one()
     ensures one_text { (some others : Trees) → AreTrees some → Writable some → AreTrees others → Writable others → Text some ≡ Text others → some ≡ others }
 {}
 
-/// What is read has a text: none of the documents is null, and none nests more than 100 collections.
+/// What is read is what the program holds, with UTF-8, 128 bits and no key twice in a map; it has a text, since none of
+/// the documents is null and none nests more than 100 collections; and that text reads back as it alone.
 pub fn reads_writable()
-    ensures { (file : ℕ) (bytes : List ℕ) (documents : Trees) → read_trees file bytes ≡ Ok documents → Writable documents }
+    ensures held { (file : ℕ) (bytes : List ℕ) (documents : Trees) → read_trees file bytes ≡ Ok documents → AreTrees documents }
+    ensures writable { (file : ℕ) (bytes : List ℕ) (documents : Trees) → read_trees file bytes ≡ Ok documents → Writable documents }
+    ensures back { (file : ℕ) (bytes : List ℕ) (documents : Trees) → read_trees file bytes ≡ Ok documents → ReadsAlone (Text documents) documents }
 {}
 
 /// One pass over a document's lines, with a stack of open blocks, finds what cutting them top down finds: the content

@@ -21,15 +21,19 @@ pub record Header : Type 0 where
   pub chomp : Chomp
   pub rest : List ℕ
 
+-- a digit from 1 to 9
 abbrev pub is_indent_digit : ℕ → Bool
 is_indent_digit b = is_between 49 57 b
 
+-- `-` or `+`
 abbrev pub is_chomp : ℕ → Bool
 is_chomp b = b == dash || b == plus
 
+-- clip where the byte is no chomping indicator
 abbrev pub chomp_of : ℕ → Chomp
 chomp_of b = if b == dash then strip else if b == plus then keep else clip
 
+-- 0 where the byte is no indentation indicator
 abbrev pub digit_of : ℕ → ℕ
 digit_of b = if is_indent_digit b then b - 48 else 0
 
@@ -114,6 +118,7 @@ literal [] = []
 literal (t ∷ []) = t
 literal (t ∷ u ∷ ts) = t ++ (line_feed ∷ literal (u ∷ ts))
 
+-- white space begins the line
 abbrev pub starts_white : List ℕ → Bool
 starts_white t = is_white (first t)
 

@@ -10,10 +10,12 @@ use Rattle.yaml_spec.specs.Plain.{start_fault, typed}
 use Rattle.yaml_spec.specs.Noted.{Comment, Note, Content, noted_scalar, noted_list, noted_map, Items, no_items, item}
 use Rattle.yaml_spec.specs.Rows.{Mark, dash_mark, key_mark, Head, Row, has_value, row_value}
 
+-- the entry is an element of a list
 abbrev pub is_dash_mark : Mark → Bool
 is_dash_mark dash_mark = true
 is_dash_mark (key_mark k) = false
 
+-- the row begins an element of a list
 abbrev pub starts_with_dash : Row → Bool
 starts_with_dash r = elim r.heads [ [] ↦ false | h ∷ hs ↦ is_dash_mark h.mark ]
 
@@ -27,6 +29,7 @@ misplaced r k = refused (if has_tab r then kind.YamlTab else k) r.place
 
 -- ---- cutting
 
+-- the row that begins an entry, and the rows below it up to the next
 pub record Entry : Type 0 where
   pub row : Row
   pub body : List Row
@@ -57,6 +60,7 @@ over x (r ∷ rs) = misplaced r kind.YamlForm
 abbrev pub row_comment : Row → Option Comment
 row_comment r = if is_empty r.text then None else Some (record { line = r.place.line; own_line = false; text = r.text })
 
+-- the note of an item that begins in a row
 abbrev pub note_of : Row → Option Scalar → Option Comment → Note
 note_of r k trailing = record { line = r.place.line; key = k; before = r.before; trailing = trailing; flow = false }
 

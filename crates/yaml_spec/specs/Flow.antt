@@ -44,6 +44,7 @@ gap open_place fresh p text (l ∷ ls) =
       | token ↦ Ok ([], record { place = p; text = skip_white text; below = l ∷ ls })
     ]
 
+-- the comments before the next token behind a place, and its place
 abbrev pub next_token : Place → Cursor → Outcome (List Comment × Cursor)
 next_token open_place c = gap open_place false c.place c.text c.below
 
@@ -55,6 +56,7 @@ Node = Content × List Comment × Cursor
 abbrev pub Members : Type 0
 Members = Items × List Comment × Cursor
 
+-- `[` or `{` begins the text
 abbrev pub starts_collection : List ℕ → Bool
 starts_collection t = first t == left_bracket || first t == left_brace
 
@@ -67,9 +69,11 @@ abbrev pub is_single_pair : Cursor → Cursor → Bool
 is_single_pair here there =
     here.place.line == there.place.line && is_key_end (starts_quote here.text || starts_collection here.text) (skip_white there.text)
 
+-- the note of an element that begins on this line
 abbrev pub element_note : ℕ → List Comment → Note
 element_note n comments = record { line = n; key = None; before = comments; trailing = None; flow = true }
 
+-- the note of a pair whose key begins on this line
 abbrev pub pair_note : ℕ → Scalar → List Comment → Note
 pair_note n k comments = record { line = n; key = Some k; before = comments; trailing = None; flow = true }
 
@@ -77,6 +81,7 @@ pair_note n k comments = record { line = n; key = Some k; before = comments; tra
 abbrev pub with_item : Note → Content → Members → Members
 with_item n c m = (item n c m.0, m.1, m.2)
 
+-- no item, where the closing bracket stands here
 abbrev pub no_more : List Comment → Cursor → Members
 no_more comments c = (no_items, comments, after 1 c)
 

@@ -43,10 +43,12 @@ lines_of file bytes = numbered (place_at file 1) (cut (skip_mark bytes))
 abbrev pub is_printable : ℕ → Bool
 is_printable c = is_between 0x20 0x7E c || c == 0x85 || is_between 0xA0 0xD7FF c || is_between 0xE000 0xFFFD c || is_between 0x10000 0x10FFFF c
 
+-- each character is printable or a tab
 abbrev pub all_printable : List ℕ → Bool
 all_printable [] = true
 all_printable (c ∷ cs) = (c == tab || is_printable c) && all_printable cs
 
+-- the same of the characters of a text
 abbrev pub has_good_chars : List ℕ → Bool
 has_good_chars t = all_printable (chars t)
 

@@ -60,6 +60,7 @@ drop_null (tree t ts) = elim (is_null t) [ true ↦ drop_null ts | false ↦ tre
 
 -- ---- a key that stands twice
 
+-- the first note that there is
 abbrev pub or_else : Option Note → Option Note → Option Note
 or_else (Some n) o = Some n
 or_else None o = o

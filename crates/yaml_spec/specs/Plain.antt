@@ -56,6 +56,7 @@ part in_flow t = trim_end (span in_flow true t)
 abbrev pub behind : Bool → List ℕ → List ℕ
 behind in_flow t = drop (length (part in_flow t)) t
 
+-- the last byte is `:`
 abbrev pub ends_with_colon : List ℕ → Bool
 ends_with_colon [] = false
 ends_with_colon (b ∷ []) = b == colon

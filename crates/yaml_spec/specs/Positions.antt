@@ -32,6 +32,7 @@ pub record Quoted : Type 0 where
   pub line : ℕ
   pub column : ℕ
 
+-- a string with the position of the place behind it
 abbrev pub read_up_to : List Line → List ℕ → Cursor → Quoted
 read_up_to ls s c = record { text = s; line = line_of ls c; column = column_of ls c }
 

@@ -14,6 +14,7 @@ pub record Cursor : Type 0 where
   pub text : List ℕ
   pub below : List Line
 
+-- the place so many bytes further on the line
 abbrev pub after : ℕ → Cursor → Cursor
 after n c = record c { text = drop n c.text }
 
@@ -23,9 +24,11 @@ pub data Scan : Type 0 where
   closed : List ℕ → List ℕ → Scan
   wrong : Scan
 
+-- the part with a text before it
 abbrev pub before_part : List ℕ → Part → Part
 before_part t p = record p { text = t ++ p.text }
 
+-- what a line holds, where a text was read before it
 abbrev pub prepend : List ℕ → Scan → Scan
 prepend t (open_end p) = open_end (before_part t p)
 prepend t (closed u rest) = closed (t ++ u) rest
@@ -69,6 +72,7 @@ escape_digits b = if b == 120 then Some 2 else if b == 117 then Some 4 else if b
 abbrev pub is_scalar_value : ℕ → Bool
 is_scalar_value c = nat_le c 0xD7FF || is_between 0xE000 0x10FFFF c
 
+-- in double quotes (7.3.1); in each mode with white space, or the text so far, that is not yet given out
 unfoldable pub double : Mode → List ℕ → List ℕ → Scan
 double normal white [] = line_ends [] false
 double escape white [] = line_ends white true
@@ -126,5 +130,6 @@ Quote open_place c =
 abbrev pub quote_on_line : List ℕ → Option (List ℕ × List ℕ)
 quote_on_line t = elim (scan (first t == quote) (drop 1 t)) [ closed u rest ↦ Some (u, rest) | _ ↦ None ]
 
+-- a single or double quote begins the text
 abbrev pub starts_quote : List ℕ → Bool
 starts_quote t = first t == quote || first t == apostrophe

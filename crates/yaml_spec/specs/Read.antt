@@ -13,12 +13,15 @@ use Rattle.yaml_spec.specs.Text.{key_text}
 
 -- ---- markers (9.1.2, 9.1.3)
 
+-- a marker and a gap
 abbrev pub begins_with : List ℕ → List ℕ → Bool
 begins_with marker t = bytes_eq (take 3 t) marker && is_gap (drop 3 t)
 
+-- the line is `---`, which begins a document
 abbrev pub is_start : Line → Bool
 is_start l = begins_with (codes "---") l.text
 
+-- the line is `...`, which ends one
 abbrev pub is_stop : Line → Bool
 is_stop l = begins_with (codes "...") l.text
 
@@ -28,6 +31,7 @@ pub record Segment : Type 0 where
   pub lines : List Line
   pub stop : ℕ
 
+-- the line of the first marker, or 0
 abbrev pub first_marker : List Segment → ℕ
 first_marker [] = 0
 first_marker (s ∷ ss) = s.marker.place.line
@@ -52,6 +56,7 @@ first_content (l ∷ ls) =
 abbrev pub document_content : List Row → Outcome Found
 document_content rs = content_of max_depth (Doc max_depth) rs
 
+-- the note of a document, which has no key
 abbrev pub document_note : ℕ → List Comment → Option Comment → Note
 document_note n before trailing = record { line = n; key = None; before = before; trailing = trailing; flow = false }
 

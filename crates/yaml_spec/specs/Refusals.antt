@@ -4,6 +4,7 @@ use Rattle.ytt_base.specs.declared.fault.FaultKind.{FaultKind}
 use Rattle.ytt_base.specs.declared.fault.Place.{Place}
 use Rattle.ytt_base.specs.Outcomes.{Outcome, fault_at, place_at}
 
+-- nothing but a fault of this kind at this place
 abbrev pub refused : {A : Type 0} → FaultKind → Place → Outcome A
 refused kind place = Err (fault_at kind place)
 

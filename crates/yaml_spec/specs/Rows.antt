@@ -45,13 +45,16 @@ pub record Row : Type 0 where
 abbrev pub behind_colon : List ℕ → Option (List ℕ)
 behind_colon text = let t = skip_white text in if first t == colon && is_gap (drop 1 t) then Some (drop 1 t) else None
 
+-- a key, or why it is none, and the text behind its colon, if a key stands there
 abbrev pub Key_text : Type 0
 Key_text = Option (Result Scalar FaultKind × List ℕ)
 
+-- a key with the text behind its colon, where it has one
 abbrev pub key_with : Result Scalar FaultKind → Option (List ℕ) → Key_text
 key_with k None = None
 key_with k (Some t) = Some (k, t)
 
+-- a key in quotes that close on its line
 abbrev pub quoted_key : Option (List ℕ × List ℕ) → Key_text
 quoted_key None = None
 quoted_key (Some q) = key_with (Ok (string q.0)) (behind_colon q.1)
@@ -74,6 +77,7 @@ key_at t =
 abbrev pub has_tab_before : List ℕ → Bool
 has_tab_before t = nat_lt (indent t) (passed t (skip_white t))
 
+-- `-` and a gap
 abbrev pub is_dash : List ℕ → Bool
 is_dash t = first t == dash && is_gap (drop 1 t)
 
@@ -94,6 +98,7 @@ heads_of (suc n) column has_tab t =
 
 -- ---- rows
 
+-- more than nothing or a comment stands behind the heads
 abbrev pub has_value : Row → Bool
 has_value r = not (is_empty r.text || first r.text == hash)
 

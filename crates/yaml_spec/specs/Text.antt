@@ -6,9 +6,11 @@ use Rattle.yaml_spec.specs.Lines.{is_printable}
 use Rattle.ytt_base.specs.Trees.{Scalar, null, boolean, integer, string, Tree, scalar, list, map, Trees, no_trees, tree, Pairs, no_pairs, pair}
 use Rattle.yaml_spec.specs.Scalars.{form, is_string_form}
 
+-- so many spaces
 abbrev pub spaces : ℕ → List ℕ
 spaces n = replicate n space
 
+-- the break at the end of a line
 abbrev pub line_end : List ℕ
 line_end = line_feed ∷ []
 
@@ -22,6 +24,7 @@ is_hidden c = is_one_of (0x85 ∷ 0xA0 ∷ 0x2028 ∷ 0x2029 ∷ 0xFEFF ∷ []) 
 abbrev pub is_shown : ℕ → Bool
 is_shown c = is_printable c && not (is_hidden c)
 
+-- each character passes the test
 abbrev pub all_chars : (ℕ → Bool) → List ℕ → Bool
 all_chars test [] = true
 all_chars test (c ∷ cs) = test c && all_chars test cs
@@ -38,6 +41,7 @@ has_pair a b [] = false
 has_pair a b (x ∷ []) = false
 has_pair a b (x ∷ y ∷ t) = (x == a && y == b) || has_pair a b (y ∷ t)
 
+-- the last byte; 0 where there is none
 abbrev pub last : List ℕ → ℕ
 last [] = 0
 last (x ∷ []) = x
@@ -55,6 +59,7 @@ abbrev pub start_piece : ℕ → List (List ℕ) → List (List ℕ)
 start_piece b [] = (b ∷ []) ∷ []
 start_piece b (l ∷ ls) = (b ∷ l) ∷ ls
 
+-- the lines of a string, also the empty one behind a break at its end
 abbrev pub pieces : List ℕ → List (List ℕ)
 pieces [] = [] ∷ []
 pieces (b ∷ bs) = elim (b == line_feed) [ true ↦ [] ∷ pieces bs | false ↦ start_piece b (pieces bs) ]
@@ -64,9 +69,11 @@ abbrev pub are_trimmed : List (List ℕ) → Bool
 are_trimmed [] = true
 are_trimmed (l ∷ ls) = not (is_white (first l)) && not (is_white (last l)) && are_trimmed ls
 
+-- a line break occurs
 abbrev pub has_break : List ℕ → Bool
 has_break s = is_one_of s line_feed
 
+-- a character that a literal may hold
 abbrev pub is_literal_char : ℕ → Bool
 is_literal_char c = c == line_feed || c == tab || is_shown c
 
@@ -90,6 +97,7 @@ literal_header (suc (suc n)) = codes "|+"
 abbrev pub literal_line : ℕ → List ℕ → List ℕ
 literal_line n l = (if is_empty l then [] else spaces n ++ l) ++ line_end
 
+-- the lines of the scalar; an empty last one has no break
 abbrev pub literal_lines : ℕ → List (List ℕ) → List ℕ
 literal_lines n [] = []
 literal_lines n (l ∷ []) = if is_empty l then [] else literal_line n l
@@ -99,9 +107,11 @@ literal_lines n (l ∷ m ∷ ls) = literal_line n l ++ literal_lines n (m ∷ ls
 abbrev pub literal_text : ℕ → List ℕ → List ℕ
 literal_text n s = literal_header (final_breaks (pieces s)) ++ (line_end ++ literal_lines n (pieces s))
 
+-- a digit of base 16, in capitals
 abbrev pub hex_digit : ℕ → ℕ
 hex_digit n = if nat_lt n 10 then 48 + n else 55 + n
 
+-- two such digits
 abbrev pub hex2 : ℕ → List ℕ
 hex2 c = hex_digit ((c / 16) % 16) ∷ hex_digit (c % 16) ∷ []
 
@@ -114,10 +124,12 @@ quoted_char c =
     else if is_one_of (0x2028 ∷ 0x2029 ∷ 0xFEFF ∷ 0xFFFE ∷ 0xFFFF ∷ []) c then codes "\\u" ++ (hex2 (c / 256) ++ hex2 c)
     else encode_utf8 c
 
+-- characters in double quotes
 abbrev pub quoted_chars : List ℕ → List ℕ
 quoted_chars [] = []
 quoted_chars (c ∷ cs) = quoted_char c ++ quoted_chars cs
 
+-- in double quotes, on one line (7.3.1)
 abbrev pub quoted_text : List ℕ → List ℕ
 quoted_text s = quote ∷ (quoted_chars (chars s) ++ quote ∷ [])
 
