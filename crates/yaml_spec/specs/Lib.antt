@@ -9,6 +9,7 @@ pub mod FlatNoted
 pub mod Flow
 pub mod Folding
 pub mod Lines
+pub mod LineView
 pub mod Noted
 pub mod Plain
 pub mod Positions
