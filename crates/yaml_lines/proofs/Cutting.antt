@@ -12,15 +12,16 @@ use Rattle.ytt_base.specs.declared.fault.Stop.TheVariants as stop
 use Rattle.ytt_base.specs.declared.line.Line as held
 use Rattle.ytt_base.specs.Outcomes.{Gives, Outcome, fault_at, place_at}
 use Rattle.yaml_spec.specs.Lines.{Line, Lines, checked, cut, first_failing, has_good_chars, lines_of, numbered, skip_mark}
-use Rattle.yaml_spec.specs.LineView.{HaveIndents, HasIndent, seen_line, seen_lines}
+use Rattle.yaml_spec.specs.Held.{plain_line, plain_lines}
+use Rattle.yaml_spec.specs.Indents.{HaveIndents, HasIndent}
 use Rattle.yaml_spec.specs.Refusals.{refused}
 use Rattle.yaml_lines.specs.Utf8.{utf8_line, utf8_lines}
 use Rattle.yaml_lines.proofs.Breaks.{cut-empty}
 
 -- these lines are cut off before this one, and each is UTF-8
 pub record IsCutting (file : ℕ) (bytes : List ℕ) (lines : List held.Line) (number : ℕ) (rest : List ℕ) : Type 0 where
-  pub split : lines_of file bytes ≡ seen_lines lines ++ numbered (place_at file number) (cut rest)
-  pub utf8 : first_failing is_utf8 (seen_lines lines) ≡ None
+  pub split : lines_of file bytes ≡ plain_lines lines ++ numbered (place_at file number) (cut rest)
+  pub utf8 : first_failing is_utf8 (plain_lines lines) ≡ None
   pub indents : HaveIndents lines
   pub from_one : 1 ≤ number
   pub counted : number + length rest ≤ length bytes + 1
@@ -41,9 +42,9 @@ pub ruleset utf8_tests = (utf8_line-taken, utf8_line-refused)
 
 -- ---- lines one behind another
 
-seen_lines-snoc : (ls : List held.Line) (l : held.Line) → seen_lines (ls ++ l ∷ []) ≡ seen_lines ls ++ seen_line l ∷ []
-seen_lines-snoc [] l = refl
-seen_lines-snoc (k ∷ ls) l = ap (λ ms. seen_line k ∷ ms) (seen_lines-snoc ls l)
+plain_lines-snoc : (ls : List held.Line) (l : held.Line) → plain_lines (ls ++ l ∷ []) ≡ plain_lines ls ++ plain_line l ∷ []
+plain_lines-snoc [] l = refl
+plain_lines-snoc (k ∷ ls) l = ap (λ ms. plain_line k ∷ ms) (plain_lines-snoc ls l)
 
 abbrev or_failing : Bool → Line → Option Place → Option Place
 or_failing passes l rest = elim passes [ true ↦ rest | false ↦ Some l.place ]
@@ -84,11 +85,11 @@ refusal_is true place bs f h = cc
 refusal_is false place bs f h = (refl, cc)
 
 pub stopped : (file : ℕ) (bytes : List ℕ) (lines : List held.Line) (number : ℕ) (rest text others : List ℕ) (s : Stop) → IsCutting file bytes lines number rest
-    → cut rest ≡ text ∷ cut others → Gives seen_line (Err s) (utf8_line (place_at file number) text) → Gives seen_lines (Err s) (utf8_lines (lines_of file bytes))
+    → cut rest ≡ text ∷ cut others → Gives plain_line (Err s) (utf8_line (place_at file number) text) → Gives plain_lines (Err s) (utf8_lines (lines_of file bytes))
 stopped file bytes lines number rest text others (stop.Fault f) k e h =
     let r = refusal_is (is_utf8 text) (place_at file number) text f h in
     let p : first_failing is_utf8 (lines_of file bytes) ≡ Some (place_at file number) =
-        rw (k.split, e) (joined is_utf8 (seen_lines lines) _ _ k.utf8 (at_failing (record { place = place_at file number; text = text }) _ r.0)) in
+    rw (k.split, e) (joined is_utf8 (plain_lines lines) _ _ k.utf8 (at_failing (record { place = place_at file number; text = text }) _ r.0)) in
     utf8_lines-by (lines_of file bytes) _ p ∙ ap Err r.1
 stopped file bytes lines number rest text others stop.Memory k e h = tt
 
@@ -101,31 +102,31 @@ utf8-snoc : (ls : List Line) (l : Line) → first_failing is_utf8 ls ≡ None �
 utf8-snoc ls l h e = joined is_utf8 ls (l ∷ []) None h (ap (λ b. or_failing b l None) e)
 
 pub taken : (file : ℕ) (bytes : List ℕ) (lines after : List held.Line) (number : ℕ) (rest text others : List ℕ) (l : held.Line) → IsCutting file bytes lines number rest
-    → cut rest ≡ text ∷ cut others → utf8_line (place_at file number) text ≡ Ok (seen_line l) → HasIndent l → length others < length rest → after ≡ lines ++ l ∷ []
+    → cut rest ≡ text ∷ cut others → utf8_line (place_at file number) text ≡ Ok (plain_line l) → HasIndent l → length others < length rest → after ≡ lines ++ l ∷ []
     → IsCutting file bytes after (number + 1) others
 taken file bytes lines after number rest text others l k e h i lt a =
-    let r = taken_is (is_utf8 text) (place_at file number) text (seen_line l) h in
+    let r = taken_is (is_utf8 text) (place_at file number) text (plain_line l) h in
     let t : text ≡ l.text = ap (λ (m : Line). m.text) r.1 in
     record {
-      split = rw (a, seen_lines-snoc lines l, append_assoc) (k.split ∙ rw e (ap (λ (m : Line). seen_lines lines ++ m ∷ numbered (place_at file (number + 1)) (cut others)) r.1));
-      utf8 = rw (a, seen_lines-snoc lines l) (utf8-snoc (seen_lines lines) (seen_line l) k.utf8 (rw (← t) r.0));
+      split = rw (a, plain_lines-snoc lines l, append_assoc) (k.split ∙ rw e (ap (λ (m : Line). plain_lines lines ++ m ∷ numbered (place_at file (number + 1)) (cut others)) r.1));
+      utf8 = rw (a, plain_lines-snoc lines l) (utf8-snoc (plain_lines lines) (plain_line l) k.utf8 (rw (← t) r.0));
       indents = rw a (All-push HasIndent lines l k.indents i);
       from_one = omega arith;
       counted = omega (arith, k.counted);
     }
 
 pub ended : (file : ℕ) (bytes : List ℕ) (lines : List held.Line) (number : ℕ) (rest : List ℕ) → IsCutting file bytes lines number rest → length rest ≡ 0
-    → utf8_lines (lines_of file bytes) ≡ Ok (seen_lines lines)
+    → utf8_lines (lines_of file bytes) ≡ Ok (plain_lines lines)
 ended file bytes lines number rest k h =
-    let s : lines_of file bytes ≡ seen_lines lines = k.split ∙ rw (cut-empty rest h) (append-nil (seen_lines lines)) in
-    ap utf8_lines s ∙ utf8_lines-by (seen_lines lines) None k.utf8
+    let s : lines_of file bytes ≡ plain_lines lines = k.split ∙ rw (cut-empty rest h) (append-nil (plain_lines lines)) in
+    ap utf8_lines s ∙ utf8_lines-by (plain_lines lines) None k.utf8
 
 -- ---- the characters
 
 abbrev checked_by : Option Place → Option Place → List Line → Outcome (List Line)
 checked_by wrong bad ls = elim wrong [
-    | Some p ↦ refused kind.NotUtf8 p
-    | None ↦ elim bad [ Some p ↦ refused kind.BadChar p | None ↦ Ok ls ]
+  | Some p ↦ refused kind.NotUtf8 p
+  | None ↦ elim bad [ Some p ↦ refused kind.BadChar p | None ↦ Ok ls ]
 ]
 
 Lines-by : (file : ℕ) (bytes : List ℕ) → Lines file bytes ≡ checked_by (first_failing is_utf8 (lines_of file bytes)) (first_failing has_good_chars (lines_of file bytes)) (lines_of file bytes)
@@ -136,7 +137,7 @@ refused_as : (o bad : Option Place) (ls : List Line) (f : Fault) → utf8_by o l
 refused_as (Some p) bad ls f h = h
 refused_as None bad ls f h = cc
 
-pub lines-refused : (file : ℕ) (bytes : List ℕ) (s : Stop) → Gives seen_lines (Err s) (utf8_lines (lines_of file bytes)) → Gives seen_lines (Err s) (Lines file bytes)
+pub lines-refused : (file : ℕ) (bytes : List ℕ) (s : Stop) → Gives plain_lines (Err s) (utf8_lines (lines_of file bytes)) → Gives plain_lines (Err s) (Lines file bytes)
 lines-refused file bytes (stop.Fault f) h =
     Lines-by file bytes ∙ refused_as _ _ (lines_of file bytes) f (sym (utf8_lines-by (lines_of file bytes) _ refl) ∙ h)
 lines-refused file bytes stop.Memory h = tt

@@ -22,13 +22,7 @@ fn without_return(line: &[u8]) -> &[u8]
 {
     match line.split_last() {
         None => line,
-        Some((last, rest)) => {
-            if *last == b'\r' {
-                rest
-            } else {
-                line
-            }
-        }
+        Some((last, rest)) => { if *last == b'\r' { rest } else { line } }
     }
 }
 

@@ -3,7 +3,8 @@ ghost use Rattle.std.specs.Prelude.{◌≡◌, ◌<◌, ◌^◌, [], ◌∷◌, 
 ghost use Rattle.ytt_base.specs.declared.fault.FaultKind.TheVariants as kind;
 ghost use Rattle.ytt_base.specs.Outcomes.{Gives, fault_at};
 ghost use Rattle.yaml_spec.specs.Lines.{Lines, first_failing, has_good_chars, lines_of};
-ghost use Rattle.yaml_spec.specs.LineView.{HasIndent, HaveIndents, seen_line, seen_lines};
+ghost use Rattle.yaml_spec.specs.Held.{plain_line, plain_lines};
+ghost use Rattle.yaml_spec.specs.Indents.{HasIndent, HaveIndents};
 ghost use Rattle.yaml_lines.specs.Utf8.{utf8_line, utf8_lines};
 
 use crate::characters::{has_good_chars, indent};
@@ -29,7 +30,7 @@ fn fault(alloc: Global, kind: FaultKind, place: Place) -> Fault
 #[tactic(auto, using(crate::proofs::Cutting::utf8_tests))]
 fn read_line(alloc: Global, bytes: &[u8], place: Place) -> Result<Line, Stop>
     requires { length bytes.now < 2 ^ 32 }
-    ensures line { Gives seen_line result (utf8_line place bytes.now) }
+    ensures line { Gives plain_line result (utf8_line place bytes.now) }
     ensures indent { IfOk result (λ l. HasIndent l) }
 {
     match str::from_utf8(bytes) {
@@ -53,7 +54,7 @@ fn push_line(lines: &mut Lines, line: Line) -> Result<(), Memory>
 #[tactic(auto, using(crate::proofs::Cutting::cutting))]
 fn utf8_lines(alloc: Global, bytes: &[u8], file: u32) -> Result<Lines, Stop>
     requires { length bytes.now < 2 ^ 32 }
-    ensures lines { Gives seen_lines result (utf8_lines (lines_of file bytes.now)) }
+    ensures lines { Gives plain_lines result (utf8_lines (lines_of file bytes.now)) }
     ensures indents { IfOk result (λ ls. HaveIndents ls) }
 {
     let mut lines: Lines = Items::new(alloc);
@@ -75,7 +76,7 @@ fn utf8_lines(alloc: Global, bytes: &[u8], file: u32) -> Result<Lines, Stop>
 
 /// The place of the first line with a character that may not stand.
 fn first_bad(lines: &Lines) -> Option<Place>
-    ensures { result ≡ first_failing has_good_chars (seen_lines lines.now) }
+    ensures { result ≡ first_failing has_good_chars (plain_lines lines.now) }
 {
     for line in lines.as_slice() {
         if !has_good_chars(line.text.as_str()) {
@@ -98,7 +99,7 @@ fn first_bad(lines: &Lines) -> Option<Place>
 #[tactic(auto, using(crate::proofs::Cutting::checking))]
 pub fn cut_lines(alloc: Global, bytes: &[u8], file: u32) -> Result<Lines, Stop>
     requires { length bytes.now < 2 ^ 32 }
-    ensures lines { Gives seen_lines result (Lines file bytes.now) }
+    ensures lines { Gives plain_lines result (Lines file bytes.now) }
     ensures indents { IfOk result (λ ls. HaveIndents ls) }
 {
     let lines = utf8_lines(alloc, bytes, file)?;

@@ -7,9 +7,10 @@ pub mod FirstText
 pub mod Flat
 pub mod FlatNoted
 pub mod Flow
+pub mod Held
 pub mod Folding
+pub mod Indents
 pub mod Lines
-pub mod LineView
 pub mod Noted
 pub mod Plain
 pub mod Positions
