@@ -1,2 +1,2 @@
 pub mod ByteTests
-pub mod Forms
+pub mod FormTests
