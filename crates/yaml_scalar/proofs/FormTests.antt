@@ -5,7 +5,7 @@ use Rattle.yaml_spec.specs.Bytes.{all_bytes, is_word, null_words, true_words, fa
 use Rattle.yaml_spec.specs.Scalars.{Form, null_form, bool_form, octal_form, bad_octal_form, integer_form, prefixed_form, float_form, word_form, string_form, form, unsigned, some_of, has_leading_zero, has_prefix, is_float}
 use Rattle.yaml_scalar.proofs.ByteTests.{all_bytes-list_all}
 
-abbrev by_tests : (n t f z e d o x l y : Bool) → Form
+abbrev pub by_tests : (n t f z e d o x l y : Bool) → Form
 by_tests n t f z e d o x l y =
     if n then null_form else if t then bool_form true else if f then bool_form false
     else if z && e then octal_form else if z then bad_octal_form else if d then integer_form
@@ -13,28 +13,28 @@ by_tests n t f z e d o x l y =
     else if y then word_form else string_form
 
 module _ (s : List ℕ) where
-  abbrev null : Bool
+  abbrev pub null : Bool
   null = is_word null_words s
 
-  abbrev truth : Bool
+  abbrev pub truth : Bool
   truth = is_word true_words s
 
-  abbrev falsehood : Bool
+  abbrev pub falsehood : Bool
   falsehood = is_word false_words s
 
-  abbrev zero : Bool
+  abbrev pub zero : Bool
   zero = has_leading_zero (unsigned s)
 
-  abbrev digits : Bool
+  abbrev pub digits : Bool
   digits = some_of is_digit (unsigned s)
 
-  abbrev octal : Bool
+  abbrev pub octal : Bool
   octal = has_prefix (codes "0o") is_octal_digit s
 
-  abbrev hex : Bool
+  abbrev pub hex : Bool
   hex = has_prefix (codes "0x") is_hex_digit s
 
-  form-tests : form s ≡ by_tests null truth falsehood zero (list_all is_octal_digit (unsigned s)) digits octal hex (is_float s) (is_word yes_words s)
+  pub form-tests : form s ≡ by_tests null truth falsehood zero (list_all is_octal_digit (unsigned s)) digits octal hex (is_float s) (is_word yes_words s)
   unfolding form
   form-tests = rw (← all_bytes-list_all is_octal_digit (unsigned s)) refl
 

@@ -5,9 +5,11 @@ mod bytes;
 mod form;
 mod kind;
 mod number;
+mod plain;
 mod words;
 
 pub use bytes::{all_digits, all_letters_or_digits};
 pub use form::is_string;
 pub use kind::{ScalarKind, plain_kind};
+pub use plain::type_plain;
 pub use words::{is_plain_word, is_reserved};
