@@ -3,9 +3,11 @@ ghost use Rattle.std.specs.Prelude.{◌≡◌, ◌<◌, ◌^◌, ◌==◌, ◌||
 ghost use Rattle.yaml_spec.specs.Bytes.{indent, tab};
 ghost use Rattle.yaml_spec.specs.Lines.{has_good_chars, is_printable};
 
-fn is_printable(code: u32) -> bool
-    ensures { result ≡ is_printable code }
+/// Whether the character is printable (YAML 1.2.2, 5.1, rule 1, without the tab and the breaks).
+pub fn is_printable(c: char) -> bool
+    ensures { result ≡ is_printable c }
 {
+    let code = c as u32;
     (code >= 0x20 && code <= 0x7E)
         || code == 0x85
         || (code >= 0xA0 && code <= 0xD7FF)
@@ -16,7 +18,7 @@ fn is_printable(code: u32) -> bool
 fn may_stand(c: char) -> bool
     ensures { result ≡ (c == tab || is_printable c) }
 {
-    c == '\t' || is_printable(c as u32)
+    c == '\t' || is_printable(c)
 }
 
 /// Whether each character is printable or a tab (YAML 1.2.2, 5.1).

@@ -5,4 +5,5 @@ mod characters;
 mod ends;
 mod lines;
 
+pub use characters::is_printable;
 pub use lines::cut_lines;

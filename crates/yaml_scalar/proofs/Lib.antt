@@ -2,3 +2,5 @@ pub mod ByteTests
 pub mod FormTests
 pub mod Integers
 pub mod PlainValues
+pub mod QuotedChars
+pub mod StyleTests
