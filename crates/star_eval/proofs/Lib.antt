@@ -1,1 +1,9 @@
 pub mod Copies
+pub mod Expressions
+pub mod Floor
+pub mod Meeting
+pub mod Noting
+pub mod Passing
+pub mod Shortage
+pub mod ValuesInTurn
+pub mod Views

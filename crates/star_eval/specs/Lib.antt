@@ -1,2 +1,4 @@
+pub mod Acts
+pub mod Following
 pub mod Meets
 pub mod View

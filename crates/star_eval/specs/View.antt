@@ -1,9 +1,81 @@
--- The plain data that values stand for.
+-- The plain data that values, built items and open nodes stand for.
+use Rattle.std.specs.Prelude.{ℕ, suc, List, [], ◌∷◌, map as each, Option, Some, None}
+use Rattle.ytt_base.specs.declared.tree.Key.{Key}
+use Rattle.ytt_base.specs.Trees.{Scalar}
+use Rattle.ytt_base.specs.View.{key_of, tree_of}
 use Rattle.star_spec.specs.Values as plain
-use Rattle.star_spec.specs.Values.{int_value, text_value}
+use Rattle.star_spec.specs.Values.{int_value, text_value, no_values, a_value, no_fields, arguments, child, no_children, a_child, no_built, a_built, one, map_of, list_of, taken}
+use Rattle.star_tree.specs.View.{item_kind_of, holds_of}
+use Rattle.template_spec.specs.Run.{Node}
 use Rattle.star_eval.specs.declared.value.Value.{Value}
 use Rattle.star_eval.specs.declared.value.Value.TheVariants as value
+use Rattle.star_eval.specs.declared.built.BuiltNote.{BuiltNote}
+use Rattle.star_eval.specs.declared.built.BuiltItem.{BuiltItem, fold-BuiltItem}
+use Rattle.star_eval.specs.declared.built.BuiltValue.{BuiltValue, fold-BuiltValue}
+use Rattle.star_eval.specs.declared.built.BuiltValue.TheOpen.{BuiltItem-F, BuiltValue-F}
+use Rattle.star_eval.specs.declared.node.OpenNode.{OpenNode}
 
 abbrev pub value_of : Value → plain.Value
 value_of (value.Int z) = int_value z
 value_of (value.Text t) = text_value t
+
+abbrev pub values_of : List Value → plain.Values
+values_of [] = no_values
+values_of (v ∷ vs) = a_value (value_of v) (values_of vs)
+
+abbrev pub built_notes_of : List BuiltNote → plain.BuiltNotes
+built_notes_of [] = no_built
+built_notes_of (n ∷ ns) = a_built n.name (arguments (values_of n.args) no_fields) (built_notes_of ns)
+
+abbrev pub in_scalar_key : Option Key → Option Scalar
+in_scalar_key None = None
+in_scalar_key (Some k) = Some (key_of k)
+
+abbrev pub in_children : List plain.Child → plain.Children
+in_children [] = no_children
+in_children (c ∷ cs) = a_child c (in_children cs)
+
+-- ---- one level, where each item and each value inside is seen already
+
+abbrev pub value_step : BuiltValue-F plain.Body plain.Child → plain.Body
+value_step (BuiltValue-F.One t) = one (tree_of t)
+value_step (BuiltValue-F.Map is) = map_of (in_children is)
+value_step (BuiltValue-F.List is) = list_of (in_children is)
+
+abbrev pub item_step : BuiltItem-F plain.Body plain.Child → plain.Child
+item_step i = child i.place (item_kind_of i.kind) (built_notes_of i.notes) (in_scalar_key i.key) i.value
+
+-- ---- all levels
+
+abbrev pub body_of : BuiltValue → plain.Body
+body_of = fold-BuiltValue plain.Body plain.Child value_step item_step
+
+abbrev pub child_of : BuiltItem → plain.Child
+child_of = fold-BuiltItem plain.Body plain.Child value_step item_step
+
+abbrev pub children_of : List BuiltItem → plain.Children
+children_of is = in_children (each child_of is)
+
+-- ---- open nodes
+
+-- so many collections stand around its children
+abbrev pub node_at : (level : ℕ) → OpenNode → Node
+node_at level n = record {
+  place = n.place;
+  kind = item_kind_of n.kind;
+  holds = holds_of n.holds;
+  level = level;
+  notes = built_notes_of n.notes;
+  key = in_scalar_key n.key;
+  value = taken (one (tree_of n.value));
+  children = children_of n.children;
+}
+
+-- from the outermost one, at this level, on
+abbrev pub nodes_from : (level : ℕ) → List OpenNode → List Node → List Node
+nodes_from level [] inner = inner
+nodes_from level (n ∷ ns) outer = nodes_from (suc level) ns (node_at level n ∷ outer)
+
+-- the open nodes, the innermost one first
+abbrev pub nodes_of : List OpenNode → List Node
+nodes_of ns = nodes_from 0 ns []

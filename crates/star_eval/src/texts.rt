@@ -49,7 +49,11 @@ pub(crate) fn repeat(alloc: Global, place: Place, text: &Text, times: i128, step
 {
     let times = if times < 0 { 0 } else { times as u128 };
     match (text.as_str().len() as u128).checked_mul(1 + times) {
-        None => Err(refusal(alloc, FaultKind::Steps, place)),
+        // No budget has so many steps.
+        None => {
+            let _budget = *steps;
+            Err(refusal(alloc, FaultKind::Steps, place))
+        }
         Some(bytes) => {
             pay(alloc, place, bytes / 16, steps)?;
             Ok(Value::Text(many(alloc, text.as_str(), times)?))

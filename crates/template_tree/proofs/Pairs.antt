@@ -15,9 +15,9 @@ use Rattle.star_spec.specs.Program.{document_item, pair_item}
 use Rattle.star_spec.specs.Reading.{Reader}
 use Rattle.star_tree.specs.declared.expr.Expr.{Expr}
 use Rattle.star_tree.specs.View.{in_scalar, scalar_of}
-use Rattle.template_spec.specs.Placed.{Placed, PlacedContent, PlacedItem, free, in_node}
 use Rattle.template_spec.specs.Placing.{content_beside, map_in, own_place, placed_document, placed_pair, placed_pairs, scalar_in}
 use Rattle.template_spec.specs.Template.{Content, Items, no_key, no_notes, node, pairs, written_key, written_value}
+use Rattle.template_spec.specs.WellNested.{Straight, StraightContent, StraightItem}
 use Rattle.template_tree.specs.declared.tree.TContent as content
 use Rattle.template_tree.specs.declared.tree.TItem as item
 use Rattle.template_tree.specs.declared.tree.TItem.{TItem}
@@ -50,12 +50,12 @@ pub pair_is : (file : ℕ) (n : TNode) (place : Place) (k : Key) (value : Option
     → pair_of file (item.Node n) ≡ node place pair_item no_notes (written_key (key_of k)) (in_content file value (written_value (scalar_of t)))
 pair_is file n place k value t here key bare says holds = rw (pair_of-Node file n, here, key, bare, says, holds, content_of-Scalar file t) refl
 
-value_stands : (file : ℕ) (value : Option Expr) (s : Scalar) → PlacedContent (in_content file value (written_value s))
-value_stands file None s = tt
-value_stands file (Some e) s = tt
+value_straight : (file : ℕ) (value : Option Expr) (s : Scalar) → StraightContent (in_content file value (written_value s))
+value_straight file None s = tt
+value_straight file (Some e) s = tt
 
-pub pair_stands : (file : ℕ) (n : TNode) (s : Scalar) → content_of file n.content ≡ written_value s → PlacedItem in_node (pair_of file (item.Node n))
-pair_stands file n s e = rw (pair_of-Node file n, e) (value_stands file n.value s)
+pub pair_straight : (file : ℕ) (n : TNode) (k : Key) (s : Scalar) → n.key ≡ Some k → content_of file n.content ≡ written_value s → StraightItem pair_item (pair_of file (item.Node n))
+pair_straight file n k s key e = rw (pair_of-Node file n, key, e) (refl, tt, value_straight file n.value s)
 
 -- ---- documents
 
@@ -80,5 +80,5 @@ pub document_is : (file : ℕ) (n : TNode) (place : Place) (is : List TItem) →
     → document_of file (item.Node n) ≡ node place document_item no_notes no_key (pairs (pairs_of file is))
 document_is file n place is here key bare says holds = rw (document_of-Node file n, here, key, bare, says, holds, content_of-Map file is) refl
 
-pub document_stands : (file : ℕ) (n : TNode) (is : List TItem) → n.value ≡ None → n.content ≡ content.Map is → Placed in_node (pairs_of file is) → PlacedItem free (document_of file (item.Node n))
-document_stands file n is says holds h = rw (document_of-Node file n, says, holds, content_of-Map file is) h
+pub document_straight : (file : ℕ) (n : TNode) (is : List TItem) → n.key ≡ None → n.value ≡ None → n.content ≡ content.Map is → Straight pair_item (pairs_of file is) → StraightItem document_item (document_of file (item.Node n))
+document_straight file n is key says holds h = rw (document_of-Node file n, key, says, holds, content_of-Map file is) (refl, tt, h)

@@ -1,12 +1,15 @@
 // Placing documents.
-ghost use Rattle.std.specs.Prelude.{◌≡◌, IfOk, option_map};
+ghost use Rattle.std.specs.Prelude.{◌≡◌, IfOk, option_map, true};
 ghost use Rattle.ytt_base.specs.Outcomes.{Gives};
 ghost use Rattle.yaml_read.specs.View as held;
 ghost use Rattle.yaml_read.specs.View.{documents_of, note_of};
+ghost use Rattle.star_spec.specs.Program.{document_item};
 ghost use Rattle.star_spec.specs.Reading.{IsReader, Reader};
-ghost use Rattle.template_spec.specs.Placed.{Placed, PlacedItem, free};
+ghost use Rattle.template_spec.specs.Placed.{Placed, free};
 ghost use Rattle.template_spec.specs.Placing.{map_in, placed, placed_document, placed_documents};
+ghost use Rattle.template_spec.specs.WellNested.{Straight, StraightItem};
 ghost use Rattle.template_tree.specs.Parts.{document_of};
+ghost use Rattle.template_tree.specs.Scalars.{have_scalars, item_has_scalars};
 ghost use Rattle.template_tree.specs.View.{items_of, template_of};
 
 use crate::code::not_built;
@@ -32,7 +35,8 @@ fn map_in(content: Content) -> Option<NotedItems>
 /// NotBuilt at its line.
 fn place_document(alloc: Global, item: NotedItem, file: u32) -> Result<TItem, Stop>
     ensures template { (r : Reader) → IsReader r → Gives (document_of file) result (placed_document r file (note_of item) (held.content_of item.content)) }
-    ensures stands { IfOk result (λ i. PlacedItem free (document_of file i)) }
+    ensures straight { IfOk result (λ i. StraightItem document_item (document_of file i)) }
+    ensures scalars { IfOk result (λ i. item_has_scalars i ≡ true) }
 {
     let place = place_of(alloc, &item, file)?;
     if item.key.is_some() || item.trailing.is_some() {
@@ -54,7 +58,8 @@ fn place_document(alloc: Global, item: NotedItem, file: u32) -> Result<TItem, St
 #[tactic(auto, using(crate::proofs::Placing::placing))]
 fn place_documents(alloc: Global, items: NotedItems, file: u32) -> Result<TItems, Stop>
     ensures template { (r : Reader) → IsReader r → Gives (items_of file) result (placed_documents r file (held.items_of items)) }
-    ensures stands { IfOk result (λ is. Placed free (items_of file is)) }
+    ensures straight { IfOk result (λ is. Straight document_item (items_of file is)) }
+    ensures scalars { IfOk result (λ is. have_scalars is ≡ true) }
 {
     let mut left = turned(alloc, items)?;
     let mut documents: TItems = Items::new(alloc);
@@ -76,9 +81,15 @@ fn place_documents(alloc: Global, items: NotedItems, file: u32) -> Result<TItems
 /// is no expression at its pair, a comment that stands beside nothing at the comment itself, any
 /// other item at its own line. The first one in the order of the text decides. Want of memory is
 /// `Stop::Memory`.
+///
+/// Items of the template are documents that hold pairs alone, each pair has a key, and what is
+/// written in a pair is a scalar.
+#[tactic(auto, using(template_spec::proofs::PlacingStraight::straight_placed))]
 pub fn place_flat(alloc: Global, docs: NotedDocs, file: u32) -> Result<Template, Stop>
     ensures template { (r : Reader) → IsReader r → Gives template_of result (placed r file (documents_of docs)) }
+    ensures straight { IfOk result (λ t. Straight document_item (template_of t)) }
     ensures stands { IfOk result (λ t. Placed free (template_of t)) }
+    ensures scalars { IfOk result (λ t. have_scalars t.items ≡ true) }
     ensures file { IfOk result (λ t. t.file ≡ file) }
 {
     let items = place_documents(alloc, docs.items, file)?;

@@ -1,15 +1,17 @@
 // Placing the pairs of a map.
-ghost use Rattle.std.specs.Prelude.{◌≡◌, [], ◌∷◌, ◌++◌, IfOk, OnOk, option_map, reverse};
+ghost use Rattle.std.specs.Prelude.{◌≡◌, [], ◌∷◌, ◌++◌, IfOk, IfSome, OnOk, option_map, reverse, true};
 ghost use Rattle.ytt_base.specs.Outcomes.{Gives};
 ghost use Rattle.ytt_base.specs.View.{tree_of};
 ghost use Rattle.yaml_read.specs.View as held;
 ghost use Rattle.yaml_read.specs.View.{comment_of, note_of};
+ghost use Rattle.star_spec.specs.Program.{pair_item};
 ghost use Rattle.star_spec.specs.Reading.{IsReader, Reader};
 ghost use Rattle.star_tree.specs.View.{scalar_of};
-ghost use Rattle.template_spec.specs.Placed.{Placed, PlacedItem, in_node};
 ghost use Rattle.template_spec.specs.Placing.{content_beside, own_place, placed_pair, placed_pairs, scalar_in};
 ghost use Rattle.template_spec.specs.Template as plain;
+ghost use Rattle.template_spec.specs.WellNested.{Straight, StraightItem};
 ghost use Rattle.template_tree.specs.Parts.{content_with, is_scalar, pair_of, pairs_of, same_place};
+ghost use Rattle.template_tree.specs.Scalars.{have_scalars, item_has_scalars};
 
 use crate::code::{not_built, read_value};
 use crate::tree::{TContent, TItem, TItems, TNode};
@@ -68,7 +70,8 @@ fn is_scalar(tree: &Tree) -> bool
 
 /// The scalar that an item holds, or `None` for a list or a map.
 fn scalar_in(content: Content) -> Option<Tree>
-    ensures { option_map scalar_of result ≡ scalar_in (held.content_of content) }
+    ensures scalar { option_map scalar_of result ≡ scalar_in (held.content_of content) }
+    ensures only { IfSome result (λ t. is_scalar (tree_of t) ≡ true) }
 {
     match content {
         Content::Scalar(tree) => { if is_scalar(&tree) { Some(tree) } else { None } }
@@ -94,7 +97,8 @@ fn read_trailing(
 /// a comment beside it that is no code of an expression.
 fn place_pair(alloc: Global, item: NotedItem, file: u32) -> Result<TItem, Stop>
     ensures template { (r : Reader) → IsReader r → Gives (pair_of file) result (placed_pair r file (note_of item) (held.content_of item.content)) }
-    ensures stands { IfOk result (λ i. PlacedItem in_node (pair_of file i)) }
+    ensures straight { IfOk result (λ i. StraightItem pair_item (pair_of file i)) }
+    ensures scalars { IfOk result (λ i. item_has_scalars i ≡ true) }
 {
     let place = place_of(alloc, &item, file)?;
     let NotedItem {
@@ -122,7 +126,8 @@ fn place_pair(alloc: Global, item: NotedItem, file: u32) -> Result<TItem, Stop>
 /// The pairs of the items of a map, or the first refusal.
 pub fn place_pairs(alloc: Global, items: NotedItems, file: u32) -> Result<TItems, Stop>
     ensures template { (r : Reader) → IsReader r → Gives (pairs_of file) result (placed_pairs r file (held.items_of items)) }
-    ensures stands { IfOk result (λ is. Placed in_node (pairs_of file is)) }
+    ensures straight { IfOk result (λ is. Straight pair_item (pairs_of file is)) }
+    ensures scalars { IfOk result (λ is. have_scalars is ≡ true) }
 {
     let mut left = turned(alloc, items)?;
     let mut pairs: TItems = Items::new(alloc);

@@ -37,6 +37,13 @@ pub struct Ran {
     err: MemSink,
 }
 
+impl Ran {
+    /// Whether it is done, with nothing on `err`.
+    pub fn is_done(&self) -> bool {
+        self.status == Status::Done && self.err.bytes().is_empty()
+    }
+}
+
 fn owned(alloc: Global, words: &[&str]) -> Result<Vec<String>, Fail> {
     let mut all = Vec::new(alloc);
     for word in words {

@@ -205,7 +205,7 @@ pub value-quoted : (left : ℕ) (open_place : Place) (least owner : ℕ) (n : Pl
 unfolding value ended noted Quote fold_parts
 value-quoted left open_place least owner n cs s ls u = rw (parts-quoted open_place n s [] ls u, value) (rw (append-nil s) refl)
 
--- ---- a string on one line, in the style that table C gives it
+-- ---- a string on one line, in its own style
 
 pub value-string : (left : ℕ) (open_place : Place) (least owner : ℕ) (n : Place) (cs : List Comment) (s : List ℕ) (ls : List Line) → IsUtf8 s → Stops least ls →
     value left open_place least owner cs (record { place = n; text = string_text s; below = ls }) ≡ Ok (text_value s cs n.line)

@@ -7,7 +7,9 @@ pub mod FirstText
 pub mod Flat
 pub mod FlatNoted
 pub mod Flow
+pub mod Held
 pub mod Folding
+pub mod Indents
 pub mod Lines
 pub mod Noted
 pub mod Plain

@@ -8,10 +8,10 @@ use Rattle.ytt_spec.specs.Words.{Asked, render, wrong}
 use Rattle.ytt_main.specs.declared.answer.Answer.{Answer}
 use Rattle.ytt_main.specs.declared.answer.Answer.TheVariants as answer
 
--- the answer is what is due, unless the files failed or there was no room
-abbrev pub Answers : Due → Answer → Type 0
-Answers due (answer.Documents trees) = due ≡ done (Text (trees_of trees))
-Answers due (answer.Fault line) = due ≡ fault line
-Answers due (answer.Usage line) = due ≡ usage line
-Answers due (answer.ReadFailed line) = Unit {0}
-Answers due answer.Memory = Unit {0}
+-- The answer is something of which this holds, as that it is due, unless the files failed or there was no room.
+abbrev pub Answers : (Due → Type 0) → Answer → Type 0
+Answers IsAnswer (answer.Documents trees) = IsAnswer (done (Text (trees_of trees)))
+Answers IsAnswer (answer.Fault line) = IsAnswer (fault line)
+Answers IsAnswer (answer.Usage line) = IsAnswer (usage line)
+Answers IsAnswer (answer.ReadFailed line) = Unit {0}
+Answers IsAnswer answer.Memory = Unit {0}

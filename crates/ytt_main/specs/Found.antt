@@ -9,15 +9,16 @@ use Rattle.ytt_outside.specs.Counts.{Rose}
 use Rattle.ytt_outside.specs.Standing.{Standing}
 use Rattle.yaml_spec.specs.FirstReadsBack.{AreFlat}
 use Rattle.ytt_spec.specs.Due.{read_failed_line, usage_line}
-use Rattle.ytt_spec.specs.Meaning.{last_part, meaning}
+use Rattle.ytt_spec.specs.Meaning.{Means, last_part}
 use Rattle.ytt_spec.specs.Words.{Asked, render, wrong}
 use Rattle.ytt_main.specs.declared.answer.Answer.{Answer}
 use Rattle.ytt_main.specs.declared.answer.Answer.TheVariants as answer
 
--- The words ask for the path, this is what it means where the files tell, and no call of the files failed.
+-- The words ask for the path with a budget of steps, this is what it means where the files tell, and no call of the files failed.
 pub record IsMeant (asks : Asked) (files : Option (List ℕ → Standing)) (before now : ℕ) (path : List ℕ) (outcome : Outcome Trees) : Type 0 where
-  pub asked_is : asks ≡ render path
-  pub means : IfSome files (λ tree. meaning path (tree path) ≡ outcome)
+  pub steps : ℕ
+  pub asked_is : asks ≡ render path steps
+  pub means : IfSome files (λ tree. Means path steps (tree path) outcome)
   pub none_failed : now ≡ before
 
 -- the words ask for a path that means these documents
@@ -42,7 +43,8 @@ pub record IsUsageLine (asks : Asked) (before now : ℕ) (line : List ℕ) : Typ
 -- the words ask for a path, the files' count of failures rose, and this is the line with that path
 pub record IsReadLine (asks : Asked) (before now : ℕ) (line : List ℕ) : Type 0 where
   pub path : List ℕ
-  pub asked_is : asks ≡ render path
+  pub steps : ℕ
+  pub asked_is : asks ≡ render path steps
   pub rose : Rose before now
   pub line_is : line ≡ read_failed_line path
 

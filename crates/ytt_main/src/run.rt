@@ -1,6 +1,7 @@
 // The run of the program.
 ghost use Rattle.std.specs.Prelude.{◌≡◌, ◌≢◌, IfSome, map, string_bytes};
 ghost use Rattle.ytt_outside.specs.Counts.{NoneRose};
+ghost use Rattle.star_spec.specs.Reading.{IsReader, Reader};
 ghost use Rattle.ytt_spec.specs.Due.{due};
 ghost use Rattle.ytt_main.specs.Endings.{IsDone, IsFault, IsMemory, IsReadFault, IsUsage, IsWriteFault, sink};
 ghost use Rattle.ytt_main.specs.Headline.{IsWhole, Meets};
@@ -51,9 +52,9 @@ pub fn ytt_main<F: Files, O: Sink, E: Sink>(
     err: &mut E,
 ) -> Status
     // Where nothing failed and there was room, the status and all bytes are those that are due.
-    ensures headline { IfSome (F.tree files.old) (λ tree. NoneRose (F.faults files.old) (F.faults files.new) → NoneRose (O.faults out.old) (O.faults out.new)
+    ensures headline { (r : Reader) → IsReader r → IfSome (F.tree files.old) (λ tree. NoneRose (F.faults files.old) (F.faults files.new) → NoneRose (O.faults out.old) (O.faults out.new)
         → NoneRose (E.faults err.old) (E.faults err.new) → result ≢ Status.Memory
-        → Meets (due (map string_bytes words.now) tree) result (O.held out.old) (O.held out.new) (E.held err.old) (E.held err.new)) }
+        → Meets (due r (map string_bytes words.now) tree) result (O.held out.old) (O.held out.new) (E.held err.old) (E.held err.new)) }
     // Each ending has its cause and shows it, also where contents aren't told.
     ensures done { result ≡ Status.Done → IsDone (map string_bytes words.now) (F.tree files.old) (F.faults files.old) (F.faults files.new)
         (sink (O.held out.old) (O.held out.new) (O.faults out.old) (O.faults out.new)) (sink (E.held err.old) (E.held err.new) (E.faults err.old) (E.faults err.new)) }

@@ -1,11 +1,11 @@
 -- What is due: the status, and the bytes for `out` and for `err`.
-use Rattle.std.specs.Prelude.{ℕ, List, [], ◌∷◌, ◌++◌, codes, decimal, Ok, Err}
+use Rattle.std.specs.Prelude.{◌≡◌, ℕ, List, [], ◌∷◌, ◌++◌, codes, decimal, Ok, Err}
 use Rattle.ytt_base.specs.FaultText.{fault_line}
 use Rattle.ytt_base.specs.Outcomes.{Outcome}
 use Rattle.ytt_base.specs.Trees.{Trees}
 use Rattle.ytt_outside.specs.Standing.{Standing}
 use Rattle.yaml_spec.specs.FirstText.{Text}
-use Rattle.star_spec.specs.Reading.{Reader}
+use Rattle.star_spec.specs.Reading.{IsReader, Reader}
 use Rattle.ytt_spec.specs.Meaning.{meaning, last_part}
 use Rattle.ytt_spec.specs.Words.{Asked, render, wrong, asked}
 
@@ -39,3 +39,7 @@ due_asked r (render path steps) tree = due_for path (meaning r path steps (tree 
 -- what is due for these words over these files, where code is read so
 abbrev pub due : Reader → List (List ℕ) → (List ℕ → Standing) → Due
 due r words tree = due_asked r (asked words) tree
+
+-- this is due, whichever reader reads the code as it reads
+abbrev pub IsDue : List (List ℕ) → (List ℕ → Standing) → Due → Type 0
+IsDue words tree d = (r : Reader) → IsReader r → due r words tree ≡ d

@@ -1,5 +1,5 @@
 -- What a request means: documents, or a fault.
-use Rattle.std.specs.Prelude.{ℕ, nat_lt, nat_eq, ◌==◌, ◌||◌, ◌&&◌, not, Bool, List, [], ◌∷◌, length, codes, Ok, Err, if◌then◌else◌}
+use Rattle.std.specs.Prelude.{◌≡◌, ℕ, nat_lt, nat_eq, ◌==◌, ◌||◌, ◌&&◌, not, Bool, List, [], ◌∷◌, length, codes, Ok, Err, if◌then◌else◌}
 use Rattle.std.specs.List.{ends_with, list_any}
 use Rattle.ytt_base.specs.declared.fault.Fault.{Fault}
 use Rattle.ytt_base.specs.declared.fault.FaultKind.{FaultKind}
@@ -12,7 +12,7 @@ use Rattle.yaml_spec.specs.FlatNoted.{is_plain_text, noted_documents}
 use Rattle.star_spec.specs.Calls.{no_natives}
 use Rattle.star_spec.specs.Eval.{starlark}
 use Rattle.star_spec.specs.Outcomes.{State, Ending, done, bad}
-use Rattle.star_spec.specs.Reading.{Reader}
+use Rattle.star_spec.specs.Reading.{IsReader, Reader}
 use Rattle.star_spec.specs.Values.{Children}
 use Rattle.template_spec.specs.Meaning.{BuildFile, documents}
 use Rattle.template_spec.specs.Placing.{placed}
@@ -77,3 +77,11 @@ meaning r path steps (file bytes) =
     if not (is_template (last_part path)) then Err not_built
     else if nat_lt largest_file (length bytes) then Err (path_fault kind.FileTooLarge path)
     else text_meaning r steps bytes
+
+-- it means this outcome, whichever reader reads the code as it reads
+abbrev pub Means : (path : List ℕ) → (steps : ℕ) → Standing → Outcome Trees → Type 0
+Means path steps standing outcome = (r : Reader) → IsReader r → meaning r path steps standing ≡ outcome
+
+-- so does a text
+abbrev pub TextMeans : (steps : ℕ) → List ℕ → Outcome Trees → Type 0
+TextMeans steps bytes outcome = (r : Reader) → IsReader r → text_meaning r steps bytes ≡ outcome

@@ -1,0 +1,37 @@
+-- How computations end that go on from others.
+use Rattle.std.proofs.Common.{◌≡◌, ℕ, [], Result, Ok, Err, ◌-◌, nat_le, Bool, true, false, refl, sym, ap, subst, ◌∙◌, rules}
+use Rattle.ytt_base.specs.declared.fault.Place.{Place}
+use Rattle.ytt_base.specs.declared.fault.Stop.{Stop}
+use Rattle.ytt_base.specs.declared.fault.Stop.TheVariants as stop
+use Rattle.ytt_base.specs.Outcomes.{place_at}
+use Rattle.star_spec.specs.Outcomes.{State, Ending, done, bad, then_do, Computation, give, paid_if, paid_by, ◌>>=◌}
+use Rattle.star_eval.specs.Meets.{with_steps, Meets}
+
+-- a refusal is the end of all that would follow
+pub meets_stop : {A B C D : Type 0} (view : A → B) (onto : C → D) (e : Stop) (n : ℕ) (o : Ending (Unit {0}) B) (k : B → Computation (Unit {0}) D) (r : Result C Stop) → Meets view (Err e) n o → r ≡ Err e → Meets onto r n (then_do o k)
+meets_stop view onto (stop.Fault f) n o k r h e = subst (λ r. Meets onto r n (then_do o k)) (sym e) (ap (λ o. then_do o k) h)
+meets_stop view onto stop.Memory n o k r h e = subst (λ r. Meets onto r n (then_do o k)) (sym e) tt
+
+-- a value is what follows goes on from
+pub meets_then : {B C D : Type 0} (onto : C → D) (n m : ℕ) (o : Ending (Unit {0}) B) (b : B) (k : B → Computation (Unit {0}) D) (r : Result C Stop) → o ≡ done b (with_steps m) → Meets onto r n (k b (with_steps m)) → Meets onto r n (then_do o k)
+meets_then onto n m o b k r e h = subst (λ o. Meets onto r n (then_do o k)) (sym e) h
+
+-- the same ending
+pub meets_same : {A B : Type 0} (view : A → B) (r : Result A Stop) (n : ℕ) (o p : Ending (Unit {0}) B) → p ≡ o → Meets view r n o → Meets view r n p
+meets_same view r n o p e h = subst (Meets view r n) (sym e) h
+
+paid_if_first : {H A : Type 0} (b : Bool) (n : ℕ) (p : Place) (m : Computation H A) (s : State H) → paid_if b n p m s ≡ then_do (paid_if b n p (give (tt {0})) s) (λ u. m)
+paid_if_first true n p m s = refl
+paid_if_first false n p m s = refl
+
+-- steps are taken first
+pub paid_first : {H A : Type 0} (n : ℕ) (p : Place) (m : Computation H A) (s : State H) → paid_by n p m s ≡ then_do (paid_by n p (give (tt {0})) s) (λ u. m)
+paid_first n p m s = paid_if_first (nat_le n s.steps) n p m s
+
+pub then_assoc : {H A B C : Type 0} (r : Ending H A) (f : A → Computation H B) (g : B → Computation H C) → then_do (then_do r f) g ≡ then_do r (λ a s. then_do (f a s) g)
+then_assoc (done a s) f g = refl
+then_assoc (bad e s) f g = refl
+
+-- a value, and what follows from it
+pub done_then : {A B : Type 0} (o : Ending (Unit {0}) A) (a : A) (s : State (Unit {0})) (k : A → Computation (Unit {0}) B) (x : Ending (Unit {0}) B) → o ≡ done a s → k a s ≡ x → then_do o k ≡ x
+done_then o a s k x e h = ap (λ o. then_do o k) e ∙ h

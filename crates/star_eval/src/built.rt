@@ -1,0 +1,44 @@
+// What items are built into.
+
+use crate::value::Value;
+use sqlite_items::Items;
+use star_tree::ItemKind;
+use ytt_base::fault::Place;
+use ytt_base::text::Text;
+use ytt_base::tree::{Key, Tree};
+
+/// The values of arguments.
+pub(crate) type Values = Items<Value>;
+
+/// A note with its arguments evaluated.
+#[derive(Drop)]
+pub(crate) struct BuiltNote {
+    pub name: Text,
+    pub args: Values,
+}
+
+/// The notes of an item, in their order.
+pub(crate) type BuiltNotes = Items<BuiltNote>;
+
+/// A document, a pair or an element that was built.
+#[cycle(built)]
+#[derive(Drop)]
+pub(crate) struct BuiltItem {
+    pub place: Place,
+    pub kind: ItemKind,
+    pub notes: BuiltNotes,
+    pub key: Option<Key>,
+    pub value: BuiltValue,
+}
+
+/// What a built item holds: a tree, the pairs of a map, or the elements of a list.
+#[cycle(built)]
+#[derive(Drop)]
+pub(crate) enum BuiltValue {
+    One(Tree),
+    Map(Built),
+    List(Built),
+}
+
+/// Items that were built, in their order.
+pub(crate) type Built = Items<BuiltItem>;
