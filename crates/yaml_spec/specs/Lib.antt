@@ -12,6 +12,7 @@ pub mod Folding
 pub mod Indents
 pub mod Lines
 pub mod Noted
+pub mod Openers
 pub mod Plain
 pub mod Positions
 pub mod Quotes
