@@ -3,9 +3,11 @@
 
 mod blocks;
 mod indent;
+mod keys;
 mod pending;
 mod print;
 mod quoted;
 mod scalar;
 
+pub use keys::key_text;
 pub use print::print_to;

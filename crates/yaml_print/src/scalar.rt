@@ -38,7 +38,7 @@ fn write_int<O: Sink>(n: i128, out: &mut O, waiting: &mut Pending<'_>) -> Result
 
 /// Whether the string is written as it stands: ASCII letters and digits that are read as this
 /// string.
-fn fits_plain(text: &[u8]) -> bool
+pub fn fits_plain(text: &[u8]) -> bool
     ensures { result ≡ fits_plain text.now }
 {
     !text.is_empty() && all_letters_or_digits(text) && is_string(text)
