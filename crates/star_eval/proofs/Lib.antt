@@ -2,8 +2,10 @@ pub mod Copies
 pub mod Expressions
 pub mod Floor
 pub mod Meeting
+pub mod NodeEnds
 pub mod Noting
 pub mod Passing
+pub mod Placing
 pub mod Shortage
 pub mod ValuesInTurn
 pub mod Views

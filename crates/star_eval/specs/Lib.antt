@@ -1,4 +1,5 @@
 pub mod Acts
 pub mod Following
 pub mod Meets
+pub mod Positions
 pub mod View

@@ -1,8 +1,10 @@
 //! What programs do.
 #![tactic(auto)]
 
+mod add;
 mod arguments;
 mod built;
+mod end;
 mod eval;
 mod fill;
 mod list;
