@@ -7,5 +7,6 @@ pub mod Noting
 pub mod Passing
 pub mod Placing
 pub mod Shortage
+pub mod Stacks
 pub mod ValuesInTurn
 pub mod Views

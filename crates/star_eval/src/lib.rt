@@ -4,6 +4,7 @@
 mod add;
 mod arguments;
 mod built;
+mod documents;
 mod end;
 mod eval;
 mod fill;
@@ -11,6 +12,7 @@ mod list;
 mod node;
 mod numbers;
 mod operate;
+mod stack;
 mod steps;
 mod texts;
 mod value;
