@@ -6,7 +6,9 @@ pub mod NodeEnds
 pub mod Noting
 pub mod Passing
 pub mod Placing
+pub mod Running
 pub mod Shortage
 pub mod Stacks
+pub mod TreesInTurn
 pub mod ValuesInTurn
 pub mod Views

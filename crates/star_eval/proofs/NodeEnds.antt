@@ -1,5 +1,5 @@
 -- The end of a node, and the node under it.
-use Rattle.std.proofs.Common.{◌≡◌, ℕ, ◌+◌, List, [], ◌∷◌, Result, Ok, Err, refl, ap, ◌∙◌}
+use Rattle.std.proofs.Common.{◌≡◌, ℕ, ◌+◌, List, [], ◌∷◌, Result, Err, refl, ap, ◌∙◌}
 use Rattle.ytt_base.specs.declared.fault.Place.{Place}
 use Rattle.ytt_base.specs.declared.fault.Stop.{Stop}
 use Rattle.ytt_base.specs.View.{tree_of}
@@ -15,7 +15,7 @@ use Rattle.template_spec.specs.Build.{closed_with}
 use Rattle.template_spec.specs.Run.{Node, node_part}
 use Rattle.star_eval.specs.declared.built.BuiltItem.{BuiltItem}
 use Rattle.star_eval.specs.declared.node.OpenNode.{OpenNode}
-use Rattle.star_eval.specs.Meets.{Meets, with_steps}
+use Rattle.star_eval.specs.Meets.{Meets}
 use Rattle.star_eval.specs.View.{built_notes_of, child_of, children_of, in_scalar_key, node_at}
 use Rattle.star_eval.proofs.Meeting.{done_then, meets_same, meets_stop}
 

@@ -4,11 +4,11 @@ use Rattle.ytt_base.specs.declared.fault.Place.{Place}
 use Rattle.ytt_base.specs.Trees.{Scalar}
 use Rattle.star_spec.specs.Operators.{either}
 use Rattle.star_spec.specs.Outcomes.{State, done, then_do, give, ◌>>=◌}
-use Rattle.star_spec.specs.Values.{Child, child, Children, a_child, Body}
+use Rattle.star_spec.specs.Values.{Child, Children, a_child}
 use Rattle.template_spec.specs.Adding.{add_child, in_place_if, keys_equal, overrides}
 use Rattle.star_eval.specs.declared.built.BuiltItem.{BuiltItem}
 use Rattle.star_eval.specs.declared.built.BuiltNote.{BuiltNote}
-use Rattle.star_eval.specs.Positions.{further, here_or, position_of}
+use Rattle.star_eval.specs.Positions.{here_or, position_of}
 use Rattle.star_eval.specs.View.{built_notes_of, child_of, children_of, in_scalar_key}
 use Rattle.star_eval.proofs.ValuesInTurn.{dropped}
 use Rattle.star_eval.proofs.Views.{child_of-item}

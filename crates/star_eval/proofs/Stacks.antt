@@ -1,5 +1,5 @@
 -- The open nodes of a stack.
-use Rattle.std.proofs.Common.{◌≡◌, ℕ, zero, suc, ◌+◌, List, [], ◌∷◌, ◌++◌, length, length-append, refl, ap, ◌∙◌, add-one, arith}
+use Rattle.std.proofs.Common.{◌≡◌, ℕ, suc, ◌+◌, List, [], ◌∷◌, ◌++◌, length, length-append, refl, ap, ◌∙◌, add-one, arith}
 use Rattle.template_spec.specs.Run.{Node}
 use Rattle.star_eval.specs.declared.node.OpenNode.{OpenNode}
 use Rattle.star_eval.specs.View.{node_at, nodes_from, nodes_of}

@@ -1,7 +1,8 @@
 // The trees of what was built.
-ghost use Rattle.std.specs.Prelude.{◌≡◌, IfOk};
+ghost use Rattle.std.specs.Prelude.{◌≡◌, IfOk, OnOk};
 ghost use Rattle.ytt_base.specs.Trees.{is_null};
 ghost use Rattle.ytt_base.specs.View.{pairs_of, tree_of, trees_of};
+ghost use Rattle.star_eval.specs.Following.{with_document};
 ghost use Rattle.star_eval.specs.View.{body_of, children_of};
 ghost use Rattle.template_spec.specs.Meaning.{documents};
 ghost use Rattle.template_spec.specs.Take.{body_tree, children_pairs, children_trees};
@@ -44,9 +45,12 @@ fn pairs_of_items(alloc: Global, items: &Built) -> Result<Pairs, Memory>
 {
     let mut pairs = Items::new(alloc);
     for item in items.as_slice() {
-        if let Some(key) = &item.key {
-            let tree = tree_of_value(alloc, &item.value)?;
-            push(&mut pairs, (key.copy()?, tree))?;
+        match &item.key {
+            None => {}
+            Some(key) => {
+                let tree = tree_of_value(alloc, &item.value)?;
+                push(&mut pairs, (key.copy()?, tree))?;
+            }
         }
     }
     Ok(pairs)
@@ -65,6 +69,16 @@ fn is_null_tree(tree: &Tree) -> bool
     }
 }
 
+/// Puts a document behind the others, unless it is null.
+fn put_document(trees: &mut Trees, tree: Tree) -> Result<(), Memory>
+    ensures { OnOk result (trees.new ≡ with_document (is_null (tree_of tree)) trees.old tree) }
+{
+    if is_null_tree(&tree) {
+        return Ok(());
+    }
+    push(trees, tree)
+}
+
 /// The trees of documents, without the null ones.
 pub(crate) fn documents_of(alloc: Global, items: &Built) -> Result<Trees, Memory>
     ensures { IfOk result (λ ts. trees_of ts ≡ documents (children_of items.now)) }
@@ -72,9 +86,7 @@ pub(crate) fn documents_of(alloc: Global, items: &Built) -> Result<Trees, Memory
     let mut trees = Items::new(alloc);
     for item in items.as_slice() {
         let tree = tree_of_value(alloc, &item.value)?;
-        if !is_null_tree(&tree) {
-            push(&mut trees, tree)?;
-        }
+        put_document(&mut trees, tree)?;
     }
     Ok(trees)
 }

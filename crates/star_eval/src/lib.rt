@@ -12,7 +12,10 @@ mod list;
 mod node;
 mod numbers;
 mod operate;
+mod run;
 mod stack;
 mod steps;
 mod texts;
 mod value;
+
+pub use run::{FlatResult, run_flat};

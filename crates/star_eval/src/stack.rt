@@ -110,7 +110,9 @@ fn step_at(
     ensures { (call : Call (Unit {0})) → Meets (λ u. on (nodes_of stack.new)) result steps.new (node_part starlark call (part_of file op.now) [] (node_at (length stack.old) node ∷ nodes_of stack.old) (with_steps steps.old)) }
 {
     match op {
-        NodeOp::Start(place, kind, holds) => start(alloc, stack, node, *place, *kind, *holds, steps),
+        NodeOp::Start(place, kind, holds) => start(
+            alloc, stack, node, *place, *kind, *holds, steps,
+        ),
         NodeOp::Note(place, name, args) => {
             put_back(stack, noted(alloc, file, node, *place, name, args, steps))
         }

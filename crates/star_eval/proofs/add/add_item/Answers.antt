@@ -1,4 +1,4 @@
-use Rattle.std.proofs.Common.{◌≡◌, Bool, true, slice_set, ap, sym, ◌∙◌}
+use Rattle.std.proofs.Common.{slice_set, ap, sym, ◌∙◌}
 use Rattle.star_spec.specs.Outcomes.{done}
 use Rattle.template_spec.specs.Adding.{in_place_if}
 use Rattle.star_eval.specs.Meets.{with_steps}

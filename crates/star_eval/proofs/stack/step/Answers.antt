@@ -3,7 +3,6 @@ use Rattle.star_spec.specs.Acts.{on}
 use Rattle.star_spec.specs.Eval.{starlark}
 use Rattle.star_tree.specs.View.{part_of}
 use Rattle.template_spec.specs.Run.{Node, node_part}
-use Rattle.star_eval.specs.declared.node.OpenNode.{OpenNode}
 use Rattle.star_eval.specs.Meets.{Meets, with_steps}
 use Rattle.star_eval.specs.View.{nodes_of}
 use Rattle.star_eval.proofs.Stacks.{nodes-last}
