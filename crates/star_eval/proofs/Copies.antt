@@ -1,5 +1,5 @@
 -- A text that is repeated, one copy behind another.
-use Rattle.std.proofs.Common.{◌≡◌, ℕ, zero, suc, ◌+◌, List, [], ◌∷◌, ◌++◌, length, refl, sym, ap, ◌∙◌, add-one, append_assoc, append-nil, rules}
+use Rattle.std.proofs.Common.{◌≡◌, ℕ, zero, suc, ◌+◌, List, [], ◌∷◌, ◌++◌, refl, sym, ap, ◌∙◌, add-one, append_assoc, append-nil, rules}
 use Rattle.star_spec.specs.Operators.{copies, repeated}
 
 copies-last : (n : ℕ) (t : List ℕ) → copies n t ++ t ≡ t ++ copies n t

@@ -2,8 +2,13 @@ pub mod Copies
 pub mod Expressions
 pub mod Floor
 pub mod Meeting
+pub mod NodeEnds
 pub mod Noting
 pub mod Passing
+pub mod Placing
+pub mod Running
 pub mod Shortage
+pub mod Stacks
+pub mod TreesInTurn
 pub mod ValuesInTurn
 pub mod Views

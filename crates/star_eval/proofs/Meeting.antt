@@ -1,10 +1,9 @@
 -- How computations end that go on from others.
-use Rattle.std.proofs.Common.{◌≡◌, ℕ, [], Result, Ok, Err, ◌-◌, nat_le, Bool, true, false, refl, sym, ap, subst, ◌∙◌, rules}
+use Rattle.std.proofs.Common.{◌≡◌, ℕ, Result, Err, nat_le, Bool, true, false, refl, sym, ap, subst, ◌∙◌}
 use Rattle.ytt_base.specs.declared.fault.Place.{Place}
 use Rattle.ytt_base.specs.declared.fault.Stop.{Stop}
 use Rattle.ytt_base.specs.declared.fault.Stop.TheVariants as stop
-use Rattle.ytt_base.specs.Outcomes.{place_at}
-use Rattle.star_spec.specs.Outcomes.{State, Ending, done, bad, then_do, Computation, give, paid_if, paid_by, ◌>>=◌}
+use Rattle.star_spec.specs.Outcomes.{State, Ending, done, bad, then_do, Computation, give, paid_if, paid_by}
 use Rattle.star_eval.specs.Meets.{with_steps, Meets}
 
 -- a refusal is the end of all that would follow

@@ -1,5 +1,5 @@
 -- Repeats that are past every budget.
-use Rattle.std.proofs.Common.{◌≡◌, ℕ, ◌+◌, ◌*◌, ◌/◌, ◌^◌, ◌<◌, ◌≤◌, List, length, nat_le, Bool, true, false, refl, ap, subst, ◌∙◌, ℤ, pos, negsuc, FitsSigned, to_z, of_z, arith}
+use Rattle.std.proofs.Common.{◌≡◌, ℕ, ◌+◌, ◌*◌, ◌/◌, ◌^◌, ◌<◌, ◌≤◌, List, length, nat_le, true, false, refl, ap, subst, ◌∙◌, ℤ, pos, negsuc, FitsSigned, to_z, of_z, arith}
 use Rattle.std.specs.Int.{w128}
 use Rattle.std.specs.Int.RustNames.{int_lt as lt_z, unsigned_abs as nat_abs}
 use Rattle.std.proofs.lemmas.Int.{to_z-of_z}

@@ -1,11 +1,11 @@
 -- Arguments that are evaluated one after another.
-use Rattle.std.proofs.Common.{◌≡◌, ℕ, suc, ◌+◌, ◌<◌, ◌≤◌, List, [], ◌∷◌, ◌++◌, length, drop, get_or, Result, Err, refl, sym, ap, ◌∙◌, add-one}
+use Rattle.std.proofs.Common.{◌≡◌, ℕ, ◌+◌, ◌<◌, ◌≤◌, List, [], ◌∷◌, ◌++◌, length, drop, get_or, Result, Err, refl, sym, ap, ◌∙◌, add-one}
 use Rattle.std.proofs.Math.Seq.{drop-cons}
 use Rattle.std.proofs.Math.ListN.{drop_of_length-le}
 use Rattle.ytt_base.specs.declared.fault.Stop.{Stop}
 use Rattle.star_spec.specs.Eval.{eval, eval_all}
 use Rattle.star_spec.specs.Language.{Call}
-use Rattle.star_spec.specs.Outcomes.{State, Ending, done, bad, give, then_do}
+use Rattle.star_spec.specs.Outcomes.{Ending, done, bad, give, then_do}
 use Rattle.star_spec.specs.Values as plain
 use Rattle.star_spec.specs.Values.{no_values, a_value}
 use Rattle.star_tree.specs.declared.expr.Expr.{Expr}

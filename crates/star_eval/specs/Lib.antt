@@ -1,4 +1,6 @@
 pub mod Acts
 pub mod Following
 pub mod Meets
+pub mod Parts
+pub mod Positions
 pub mod View

@@ -15,7 +15,12 @@ use std::alloc::Global;
 use ytt_base::fault::Stop;
 
 /// The values of arguments, from left to right.
-pub(crate) fn eval_args(alloc: Global, file: u32, args: &Args, steps: &mut u64) -> Result<Values, Stop>
+pub(crate) fn eval_args(
+    alloc: Global,
+    file: u32,
+    args: &Args,
+    steps: &mut u64,
+) -> Result<Values, Stop>
     ensures { (call : Call (Unit {0})) → Meets values_of result steps.new (eval_all call (exprs_of file args.now) [] (with_steps steps.old)) }
 {
     let mut values = Items::new(alloc);

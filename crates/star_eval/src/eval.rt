@@ -16,7 +16,12 @@ use ytt_base::fault::{Place, Stop};
 
 /// The value of an expression of this file. Each node takes a step before it acts.
 #[cycle(eval)]
-pub(crate) fn eval_expr(alloc: Global, file: u32, expr: &Expr, steps: &mut u64) -> Result<Value, Stop>
+pub(crate) fn eval_expr(
+    alloc: Global,
+    file: u32,
+    expr: &Expr,
+    steps: &mut u64,
+) -> Result<Value, Stop>
     ensures { (call : Call (Unit {0})) → Meets value_of result steps.new (eval call (expr_of file expr.now) [] (with_steps steps.old)) }
 {
     let place = place_of(file, expr);
@@ -50,7 +55,14 @@ fn act(alloc: Global, file: u32, expr: &Expr, steps: &mut u64) -> Result<Value, 
         Expr::Binary(line, op, a, b) => {
             let left = eval_expr(alloc, file, a.get(), steps)?;
             let right = eval_expr(alloc, file, b.get(), steps)?;
-            operate(alloc, Place { file, line: *line }, *op, &left, &right, steps)
+            operate(
+                alloc,
+                Place { file, line: *line },
+                *op,
+                &left,
+                &right,
+                steps,
+            )
         }
     }
 }

@@ -13,7 +13,11 @@ use std::alloc::Global;
 use ytt_base::fault::{FaultKind, Place, Stop};
 
 /// A computed integer, or `IntOverflow` where it has more than 128 bits.
-pub(crate) fn int_or_overflow(alloc: Global, place: Place, number: Option<i128>) -> Result<Value, Stop>
+pub(crate) fn int_or_overflow(
+    alloc: Global,
+    place: Place,
+    number: Option<i128>,
+) -> Result<Value, Stop>
     ensures { (z : ℤ) → SomeIff number (FitsSigned w128 z) z → Tells value_of result (int_of place z) }
 {
     match number {

@@ -14,7 +14,12 @@ use std::alloc::Global;
 use ytt_base::fault::{FaultKind, Place, Stop};
 
 /// What an operator before its operand gives. It is for integers, else `ValueKind`.
-pub(crate) fn operate_on(alloc: Global, place: Place, op: UnOp, operand: &Value) -> Result<Value, Stop>
+pub(crate) fn operate_on(
+    alloc: Global,
+    place: Place,
+    op: UnOp,
+    operand: &Value,
+) -> Result<Value, Stop>
     ensures { Tells value_of result (unary_row place (unary_operator_of op) (value_of operand.now)) }
 {
     match op {
@@ -45,7 +50,13 @@ pub(crate) fn operate(
     }
 }
 
-fn add(alloc: Global, place: Place, left: &Value, right: &Value, steps: &mut u64) -> Result<Value, Stop>
+fn add(
+    alloc: Global,
+    place: Place,
+    left: &Value,
+    right: &Value,
+    steps: &mut u64,
+) -> Result<Value, Stop>
     ensures { Meets value_of result steps.new (sum_row place (value_of left.now) (value_of right.now) (with_steps steps.old)) }
 {
     match left {
@@ -72,7 +83,13 @@ fn subtract(alloc: Global, place: Place, left: &Value, right: &Value) -> Result<
     }
 }
 
-fn multiply(alloc: Global, place: Place, left: &Value, right: &Value, steps: &mut u64) -> Result<Value, Stop>
+fn multiply(
+    alloc: Global,
+    place: Place,
+    left: &Value,
+    right: &Value,
+    steps: &mut u64,
+) -> Result<Value, Stop>
     ensures { Meets value_of result steps.new (product_row place (value_of left.now) (value_of right.now) (with_steps steps.old)) }
 {
     match left {

@@ -21,7 +21,13 @@ fn joined(alloc: Global, left: &str, right: &str) -> Result<Text, Memory>
 }
 
 /// One text behind the other. It takes a sixteenth of the bytes of both and of the result as steps.
-pub(crate) fn join(alloc: Global, place: Place, left: &Text, right: &Text, steps: &mut u64) -> Result<Value, Stop>
+pub(crate) fn join(
+    alloc: Global,
+    place: Place,
+    left: &Text,
+    right: &Text,
+    steps: &mut u64,
+) -> Result<Value, Stop>
     ensures { Meets value_of result steps.new (sum_row place (text_value left.now) (text_value right.now) (with_steps steps.old)) }
 {
     let bytes = 2 * (left.as_str().len() as u128 + right.as_str().len() as u128);
@@ -44,7 +50,13 @@ fn many(alloc: Global, text: &str, times: u128) -> Result<Text, Memory>
 
 /// The text so many times, and none below 1. It takes a sixteenth of the bytes of the text and of the
 /// result as steps.
-pub(crate) fn repeat(alloc: Global, place: Place, text: &Text, times: i128, steps: &mut u64) -> Result<Value, Stop>
+pub(crate) fn repeat(
+    alloc: Global,
+    place: Place,
+    text: &Text,
+    times: i128,
+    steps: &mut u64,
+) -> Result<Value, Stop>
     ensures { Meets value_of result steps.new (repeat_text place text.now (at_least_zero times) (with_steps steps.old)) }
 {
     let times = if times < 0 { 0 } else { times as u128 };

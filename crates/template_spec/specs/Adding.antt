@@ -5,8 +5,9 @@ use Rattle.ytt_base.specs.declared.fault.Place.{Place}
 use Rattle.ytt_base.specs.Trees.{Scalar, same_key}
 use Rattle.star_spec.specs.Program.{ItemKind}
 use Rattle.star_spec.specs.Values.{Child, child, Children, no_children, a_child, BuiltNotes, no_built, a_built, Taken, taken, many}
+use Rattle.star_spec.specs.Operators.{either}
 use Rattle.star_spec.specs.Outcomes.{Computation, give, fail_with, ◌>>=◌}
-use Rattle.yaml_spec.specs.FirstText.{key_text}
+use Rattle.yaml_spec.specs.Text.{key_text}
 
 abbrev pub keys_equal : Option Scalar → Option Scalar → Bool
 keys_equal (Some a) (Some b) = same_key a b
@@ -30,10 +31,7 @@ in_place_if false p x cs = fail_with kind.KeyTwice p (key_shown x)
 abbrev pub add_child : {H : Type 0} → Children → Child → Computation H Children
 add_child no_children c = give (a_child c no_children)
 add_child (a_child (child q j ms y d) cs) (child p k ns x b) =
-    elim (keys_equal y x) [
-      | true ↦ in_place_if (overrides ns) p x (a_child (child p k ns x b) cs)
-      | false ↦ add_child cs (child p k ns x b) >>= λ all. give (a_child (child q j ms y d) all)
-    ]
+    either (keys_equal y x) (in_place_if (overrides ns) p x (a_child (child p k ns x b) cs)) (add_child cs (child p k ns x b) >>= λ all. give (a_child (child q j ms y d) all))
 
 abbrev pub add_all : {H : Type 0} → Children → Children → Computation H Children
 add_all cs no_children = give cs

@@ -1,3 +1,4 @@
+pub mod Built
 pub mod Chains
 pub mod Lines
 pub mod Names

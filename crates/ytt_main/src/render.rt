@@ -9,8 +9,11 @@ ghost use Rattle.template_spec.specs.Placing.{placed};
 ghost use Rattle.ytt_spec.specs.Meaning.{Means, TextMeans, built, has_ending, is_template, last_part, not_built, path_fault, text_meaning};
 ghost use Rattle.ytt_main.specs.Rendering.{Counts, IsNoFailure, IsNoFolder, IsReadFailure, Refuses, Renders};
 
+use star_eval::run_flat;
 use std::alloc::Global;
-use yaml_read::{has_code, read_plain};
+use template_compile::compile_flat;
+use template_tree::place_flat;
+use yaml_read::{has_code, read_noted, read_plain};
 use ytt_base::fault::{Fault, FaultKind, Place, Stop};
 use ytt_base::text::Text;
 use ytt_base::tree::Trees;
@@ -83,7 +86,11 @@ fn build(alloc: Global, bytes: &[u8], steps: u64) -> Result<Trees, Stop>
     requires { length bytes.now < 2 ^ 32 }
     ensures { (r : Reader) → IsReader r → Gives trees_of result (and_then (built steps) (and_then (placed r 1) (noted_documents 1 bytes.now))) }
 {
-    Err(Stop::Memory)
+    let documents = read_noted(alloc, bytes, 1)?;
+    let template = place_flat(alloc, documents, 1)?;
+    let program = compile_flat(alloc, &template)?;
+    let ran = run_flat(alloc, &program, steps)?;
+    Ok(ran.documents)
 }
 
 /// The documents of a text, or its first fault.

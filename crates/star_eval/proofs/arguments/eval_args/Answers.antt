@@ -1,4 +1,4 @@
-use Rattle.std.proofs.Common.{◌≡◌, Err, List, rules, ◌∙◌}
+use Rattle.std.proofs.Common.{◌≡◌, Err, rules}
 use Rattle.star_eval.proofs.ValuesInTurn.{args_all, args_next, args_stop}
 use Rattle.star_eval.proofs.arguments.eval_args.Goals as goal
 

@@ -1,8 +1,5 @@
-use Rattle.std.proofs.Common.{◌≡◌, Err, ap, ◌∙◌, rules}
-use Rattle.star_spec.specs.Outcomes.{paid}
-use Rattle.star_spec.specs.Eval.{eval}
-use Rattle.star_spec.specs.Operators.{binary_row, unary_row}
-use Rattle.star_tree.specs.View.{binary_operator_of, expr_of, unary_operator_of}
+use Rattle.std.proofs.Common.{◌≡◌, Err, ◌∙◌, rules}
+use Rattle.star_tree.specs.View.{expr_of}
 use Rattle.star_eval.specs.Acts.{acts, place_in}
 use Rattle.star_eval.specs.View.{value_of}
 use Rattle.star_eval.proofs.Expressions.{acts_binary, acts_unary, eval_acts}

@@ -1,4 +1,4 @@
-use Rattle.std.proofs.Common.{FitsSigned, pos, ◌<ℤ◌, ◌≤ℤ◌, rules, arith}
+use Rattle.std.proofs.Common.{FitsSigned, pos, ◌<ℤ◌, rules, arith}
 use Rattle.std.specs.Int.{w128}
 use Rattle.std.proofs.lemmas.Int.{ints}
 use Rattle.star_eval.proofs.Floor.{as_it_is, floor_same, floor_same_positive, leaves_nothing, leaves_something, less_by_one, passed}
@@ -22,7 +22,7 @@ returns-else-divisor-lt0 c =
     as_it_is a d c.in_ok-quotient.quotient fits (passed a d _ c.ranges.dividend c.ranges.divisor c.in_ok-quotient.ensures.1)
     (elim c.else-divisor-lt0.branch [
       | else-divisor-lt0-via-then-divisor-lt0+else-rem_euclid-ne0 w ↦
-        let range : FitsSigned w128 w.rem_euclid.result = search rules in
-        floor_same a d (grind (arith, ints, w.if-divisor-lt0.true)) (leaves_nothing a d w.rem_euclid.result c.ranges.dividend c.ranges.divisor range w.rem_euclid.ensures.value w.if-rem_euclid-ne0.false)
+          let range : FitsSigned w128 w.rem_euclid.result = search rules in
+          floor_same a d (grind (arith, ints, w.if-divisor-lt0.true)) (leaves_nothing a d w.rem_euclid.result c.ranges.dividend c.ranges.divisor range w.rem_euclid.ensures.value w.if-rem_euclid-ne0.false)
       | else-divisor-lt0-via-else-divisor-lt0 w ↦ floor_same_positive a d (grind (arith, ints, w.if-divisor-lt0.false))
     ])

@@ -1,4 +1,4 @@
-use Rattle.std.proofs.Common.{FitsSigned, ℕ, rules}
+use Rattle.std.proofs.Common.{FitsSigned, rules}
 use Rattle.std.specs.Int.{w128}
 use Rattle.star_spec.specs.Operators.{sum_row}
 use Rattle.star_spec.specs.Values.{int_value}

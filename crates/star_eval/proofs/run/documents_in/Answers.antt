@@ -1,0 +1,11 @@
+use Rattle.std.proofs.Common.{sym, subst, IfOk, ap, ◌∙◌, ◌≡◌, List}
+use Rattle.ytt_base.specs.View.{trees_of}
+use Rattle.template_spec.specs.Meaning.{bottom_children, documents}
+use Rattle.template_spec.specs.Run.{Node}
+use Rattle.star_eval.specs.View.{nodes_of}
+use Rattle.star_eval.proofs.Stacks.{nodes-last}
+use Rattle.star_eval.proofs.run.documents_in.Goals as goal
+
+pub returns : goal.returns
+returns c =
+    subst (λ (ns : List Node). IfOk c.documents_of.result (λ ts. trees_of ts ≡ documents (bottom_children ns))) (sym (ap nodes_of c.in-Some.ensures ∙ nodes-last c.pop.new.self c.in-Some.node)) c.documents_of.ensures

@@ -1,0 +1,124 @@
+// Parts of nodes, on the stack of open nodes.
+ghost use Rattle.std.specs.Prelude.{◌≡◌, ◌∷◌, [], ℕ, List, length};
+ghost use Rattle.ytt_base.specs.declared.fault.FaultKind.TheVariants as kind;
+ghost use Rattle.ytt_base.specs.declared.fault.Place.{Place};
+ghost use Rattle.ytt_base.specs.declared.fault.Stop.TheVariants as stop;
+ghost use Rattle.ytt_base.specs.Outcomes.{fault_at};
+ghost use Rattle.star_eval.specs.Meets.{Meets, with_steps};
+ghost use Rattle.star_eval.specs.View.{node_at, nodes_of};
+ghost use Rattle.star_spec.specs.Acts.{Flow, on};
+ghost use Rattle.star_spec.specs.Eval.{starlark};
+ghost use Rattle.star_spec.specs.Language.{Call};
+ghost use Rattle.star_spec.specs.Outcomes.{Ending, no_place};
+ghost use Rattle.star_spec.specs.Program.{node_end, node_start, node_value_from};
+ghost use Rattle.star_tree.specs.View.{expr_of, holds_of, item_kind_of, part_of};
+ghost use Rattle.template_spec.specs.Run.{Node, node_part};
+
+use crate::end::ended;
+use crate::fill::{computed, keyed, noted, valued};
+use crate::list::push;
+use crate::node::{OpenNode, Stack};
+use crate::steps::{pay, refusal};
+use star_tree::{Expr, Holds, ItemKind, NodeOp};
+use std::alloc::Global;
+use ytt_base::fault::{FaultKind, Place, Stop};
+
+/// The refusal of a program in no proper form.
+fn ill_formed(alloc: Global) -> Stop
+    ensures { result ≡ stop.Fault (fault_at kind.CodeForm no_place) }
+{
+    refusal(alloc, FaultKind::CodeForm, Place { file: 0, line: 0 })
+}
+
+/// Puts the node that a call gave on the stack.
+fn put_back(stack: &mut Stack, node: Result<OpenNode, Stop>) -> Result<(), Stop>
+    ensures { (left : ℕ) (ending : Ending (Unit {0}) (Flow (List Node))) → Meets (λ n. on (node_at (length stack.old) n ∷ nodes_of stack.old)) node left ending → Meets (λ u. on (nodes_of stack.new)) result left ending }
+{
+    push(stack, node?)?;
+    Ok(())
+}
+
+/// A node starts, which takes a step.
+fn start(
+    alloc: Global,
+    stack: &mut Stack,
+    node: OpenNode,
+    place: Place,
+    kind: ItemKind,
+    holds: Holds,
+    steps: &mut u64,
+) -> Result<(), Stop>
+    ensures { (call : Call (Unit {0})) → Meets (λ u. on (nodes_of stack.new)) result steps.new (node_part starlark call (node_start place (item_kind_of kind) (holds_of holds)) [] (node_at (length stack.old) node ∷ nodes_of stack.old) (with_steps steps.old)) }
+{
+    pay(alloc, place, 1, steps)?;
+    push(stack, node)?;
+    push(stack, OpenNode::new(alloc, place, kind, holds))?;
+    Ok(())
+}
+
+/// The value of an expression in a node, which isn't the outermost one.
+fn value_from(
+    alloc: Global,
+    file: u32,
+    stack: &mut Stack,
+    node: OpenNode,
+    expr: &Expr,
+    steps: &mut u64,
+) -> Result<(), Stop>
+    ensures { (call : Call (Unit {0})) (place : Place) → Meets (λ u. on (nodes_of stack.new)) result steps.new (node_part starlark call (node_value_from place (expr_of file expr.now)) [] (node_at (length stack.old) node ∷ nodes_of stack.old) (with_steps steps.old)) }
+{
+    if stack.is_empty() {
+        return Err(ill_formed(alloc));
+    }
+    put_back(stack, computed(alloc, file, node, expr, steps))
+}
+
+/// A node ends, and is added to the node under it.
+fn end(alloc: Global, stack: &mut Stack, node: OpenNode) -> Result<(), Stop>
+    ensures { (call : Call (Unit {0})) (place : Place) (left : ℕ) → Meets (λ u. on (nodes_of stack.new)) result left (node_part starlark call (node_end place) [] (node_at (length stack.old) node ∷ nodes_of stack.old) (with_steps left)) }
+{
+    match stack.pop() {
+        None => Err(ill_formed(alloc)),
+        Some(under) => put_back(stack, ended(alloc, node, under)),
+    }
+}
+
+/// One part of a node, in a file of this number.
+pub(crate) fn step(
+    alloc: Global,
+    file: u32,
+    stack: &mut Stack,
+    op: &NodeOp,
+    steps: &mut u64,
+) -> Result<(), Stop>
+    ensures { (call : Call (Unit {0})) → Meets (λ u. on (nodes_of stack.new)) result steps.new (node_part starlark call (part_of file op.now) [] (nodes_of stack.old) (with_steps steps.old)) }
+{
+    match stack.pop() {
+        None => Err(ill_formed(alloc)),
+        Some(node) => step_at(alloc, file, stack, node, op, steps),
+    }
+}
+
+fn step_at(
+    alloc: Global,
+    file: u32,
+    stack: &mut Stack,
+    node: OpenNode,
+    op: &NodeOp,
+    steps: &mut u64,
+) -> Result<(), Stop>
+    ensures { (call : Call (Unit {0})) → Meets (λ u. on (nodes_of stack.new)) result steps.new (node_part starlark call (part_of file op.now) [] (node_at (length stack.old) node ∷ nodes_of stack.old) (with_steps steps.old)) }
+{
+    match op {
+        NodeOp::Start(place, kind, holds) => start(
+            alloc, stack, node, *place, *kind, *holds, steps,
+        ),
+        NodeOp::Note(place, name, args) => {
+            put_back(stack, noted(alloc, file, node, *place, name, args, steps))
+        }
+        NodeOp::Key(_, key) => put_back(stack, keyed(node, key)),
+        NodeOp::Value(_, tree) => put_back(stack, valued(node, tree)),
+        NodeOp::ValueFrom(_, expr) => value_from(alloc, file, stack, node, expr, steps),
+        NodeOp::End(_) => end(alloc, stack, node),
+    }
+}
