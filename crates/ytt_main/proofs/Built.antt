@@ -22,8 +22,8 @@ gives_shown : (result : Result FlatResult Stop) (ending : Ending (Unit {0}) Chil
 gives_shown (Ok r) (done cs s) h = ap Ok h.0
 gives_shown (Err (stop.Fault f)) (bad e s) h = ap Err h
 gives_shown (Err stop.Memory) ending h = tt
-gives_shown (Ok r) (bad e s) ()
-gives_shown (Err (stop.Fault f)) (done cs s) ()
+gives_shown (Ok r) (bad e s) h = elim h [ ]
+gives_shown (Err (stop.Fault f)) (done cs s) h = elim h [ ]
 
 -- where its program runs as it is built, it is what the template builds
 pub gives_built : (steps : ℕ) (t : Items) (program : List Instruction) (result : Result FlatResult Stop) → Placed free t → RunsAsBuilt program t
