@@ -1,4 +1,4 @@
-//! Renders Carvel ytt templates: `gingercrag render -f PATH`.
+//! Renders Carvel ytt templates: `gingercrag [render] -f PATH [--steps N]`.
 #![tactic(auto)]
 
 mod words;

@@ -101,6 +101,7 @@ const RIGHT: &[&[&str]] = &[
 const FAULTS: &[(&str, &str, &str)] = &[
     ("b.yml", "a.yml", "FileMissing: b.yml"),
     ("b.txt", "a.yml", "FileMissing: b.txt"),
+    ("-f", "a.yml", "FileMissing: -f"),
     ("d/a.yml", "a.yml", "FileMissing: d/a.yml"),
     ("d", "d/a.yml", "NotBuilt"),
     ("a.txt", "a.txt", "NotBuilt"),

@@ -32,6 +32,10 @@ const PRINTED: &[(&str, &str)] = &[
         "a: \"12\"\nb: \"yes\"\nc: \"0x1f\"\n",
     ),
     ("a: #@ 0 // -5\nb: #@ 0 * -1\n", "a: 0\nb: 0\n"),
+    (
+        "a: #@ 13043817825332782212 * 13043817825332782212\n",
+        "a: 170141183460469231722567801800623612944\n",
+    ),
 ];
 
 /// A division, and what it gives: M is 2^127 - 1, and L is -2^127.
@@ -64,6 +68,20 @@ const REFUSED: &[(&str, &str)] = &[
     ("a: #@ \"x\" * \"x\"\n", "ValueKind at a.yml:1"),
     ("a: #@ \"x\" // 1\n", "ValueKind at a.yml:1"),
     ("a: #@ -\"x\"\n", "ValueKind at a.yml:1"),
+    ("a: #@ \"x\" // 0\n", "ValueKind at a.yml:1"),
+    ("a: #@ \"x\" + 1\n", "ValueKind at a.yml:1"),
+    ("a: #@ 0 // 0\n", "DivideZero at a.yml:1"),
+    ("a: #@ (1 // 0) + (1 + \"x\")\n", "DivideZero at a.yml:1"),
+    ("a: #@ (1 + \"x\") + (1 // 0)\n", "ValueKind at a.yml:1"),
+    (
+        "a: #@ -170141183460469231731687303715884105727 - 2\n",
+        "IntOverflow at a.yml:1",
+    ),
+    (
+        "a: #@ (-170141183460469231731687303715884105727 - 1) * -1\n",
+        "IntOverflow at a.yml:1",
+    ),
+    ("a: #@ \"x\" * 79999935\n", "Steps at a.yml:1"),
     (
         "a: #@ 170141183460469231731687303715884105727 + 1\n",
         "IntOverflow at a.yml:1",
@@ -116,6 +134,26 @@ const BUDGETS: &[(&str, u32, u32)] = &[
     ("a: #@ \"abcd\" + \"efgh\"\n", 6, 1),
     ("a: #@ \"abcdefgh\" + \"ijklmnop\"\n", 8, 1),
     ("a: #@ \"abcdefgh\" * 5\n", 10, 1),
+    ("a: #@ \"abcdefghijklmnop\" * 0\n", 6, 1),
+    ("a: #@ \"abcdefghijklmnop\" * -1\n", 7, 1),
+    ("a: \"abcdefghijklmnopqrstuvwxyz012345\"\nb: #@ 1\n", 4, 2),
+    ("abcdefghijklmnopq: #@ 1\n", 3, 1),
+];
+
+/// Code of `a`, a budget, and the fault: an operation takes its step before its operands, and refuses
+/// their kinds before it takes its other steps.
+const ORDERS: &[(&str, u32, &str)] = &[
+    ("-(1 // 0)", 5, "Steps"),
+    ("-(1 // 0)", 6, "DivideZero"),
+    ("\"abcdefghijklmnop\" - 1", 4, "Steps"),
+    ("\"abcdefghijklmnop\" - 1", 5, "ValueKind"),
+    (
+        "\"abcdefghijklmnop\" * \"abcdefghijklmnop\"",
+        5,
+        "ValueKind",
+    ),
+    ("1 // 0", 4, "Steps"),
+    ("1 // 0", 5, "DivideZero"),
 ];
 
 #[test]
@@ -149,12 +187,17 @@ fn quotients(rt: HostRuntime) -> Result<(), Fail> {
 }
 
 /// The division with its two letters written out.
-fn written(alloc: Global, division: &str, m: &str, l: &str) -> Result<String, AllocError> {
+fn written(
+    alloc: Global,
+    division: &str,
+    greatest: &str,
+    least: &str,
+) -> Result<String, AllocError> {
     let mut code = String::new(alloc);
     for c in division.chars() {
         match c {
-            'M' => code.push_str(m)?,
-            'L' => code.push_str(l)?,
+            'M' => code.push_str(greatest)?,
+            'L' => code.push_str(least)?,
             _ => code.push(c)?,
         }
     }
@@ -189,6 +232,20 @@ fn budgets(rt: HostRuntime) -> Result<(), Fail> {
         let words = ["-f", "a.yml", "--steps", short.as_str()];
         let ran = run(alloc, &words, "a.yml", text.as_bytes(), NOTHING)?;
         let err = format!(in alloc; "error: Steps at a.yml:{line}\n")?;
+        compare(&rt, &ran, Status::Fault, b"", err.as_str());
+    }
+    Ok(())
+}
+
+#[test]
+fn orders(rt: HostRuntime) -> Result<(), Fail> {
+    let alloc = rt.alloc();
+    for (code, steps, fault) in ORDERS {
+        let text = format!(in alloc; "a: #@ {code}\n")?;
+        let budget = format!(in alloc; "{steps}")?;
+        let words = ["-f", "a.yml", "--steps", budget.as_str()];
+        let ran = run(alloc, &words, "a.yml", text.as_bytes(), NOTHING)?;
+        let err = format!(in alloc; "error: {fault} at a.yml:1\n")?;
         compare(&rt, &ran, Status::Fault, b"", err.as_str());
     }
     Ok(())

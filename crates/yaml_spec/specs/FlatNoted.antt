@@ -60,10 +60,10 @@ noted_documents file bytes = noted_in file (lines bytes)
 
 -- ---- texts without code
 
--- no comment stands on the line
+-- no code stands on the line
 abbrev pub is_plain_line : List ℕ → Bool
 is_plain_line l = not (is_code (value_part l))
 
--- no comment stands in the text
+-- no code stands in the text
 abbrev pub is_plain_text : List ℕ → Bool
 is_plain_text bytes = list_all is_plain_line (lines bytes)

@@ -1,5 +1,5 @@
 -- What each ending of the top call leaves, and what it comes from.
-use Rattle.std.specs.Prelude.{◌≡◌, ◌⊎◌, ℕ, List, Option, codes}
+use Rattle.std.specs.Prelude.{◌≡◌, ◌⊎◌, ℕ, List, Option}
 use Rattle.ytt_base.specs.Trees.{Trees}
 use Rattle.ytt_outside.specs.Counts.{Rose}
 use Rattle.ytt_outside.specs.Sink.{Grows, GrowsByFront}

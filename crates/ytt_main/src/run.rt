@@ -42,8 +42,7 @@ pub enum Status {
 /// | WriteFault | where a sink failed | `error: write failed`, tried once, where it was `out` |
 /// | Memory | where there was no room | `error: out of memory`, tried once |
 ///
-/// All is read before the first byte goes to `out`. Where the status is neither Done nor WriteFault,
-/// `out` is unchanged.
+/// Where the status is neither Done nor WriteFault, `out` is unchanged.
 pub fn ytt_main<F: Files, O: Sink, E: Sink>(
     alloc: Global,
     words: &[String],
@@ -71,6 +70,7 @@ pub fn ytt_main<F: Files, O: Sink, E: Sink>(
 
     // So only documents are written to `out`, and no failure is passed over.
     ensures out_unchanged { result ≢ Status.Done → result ≢ Status.WriteFault → O.held out.new ≡ O.held out.old }
+    ensures out_count_unchanged { result ≢ Status.Done → result ≢ Status.WriteFault → O.faults out.new ≡ O.faults out.old }
     ensures files_whole { IsWhole result → F.faults files.new ≡ F.faults files.old }
     ensures out_whole { result ≡ Status.Done → O.faults out.new ≡ O.faults out.old }
 {

@@ -16,7 +16,9 @@ use ytt_base::text::Names;
 /// The files that the runtime gives. It tells nothing of them.
 ///
 /// Each `Err` of the machine counts as a failure, but for a path at which nothing stands, or no
-/// folder, and for want of memory. A name that isn't UTF-8 is such an `Err`.
+/// folder, or in `read` a folder, and in `read` and `list` for want of memory. A name that isn't
+/// UTF-8 is such an `Err`, and so is a source that isn't at its end after as many turns as the
+/// standard library makes.
 #[derive(Drop)]
 pub struct HostFiles<R> {
     rt: R,
@@ -45,7 +47,10 @@ impl<R> HostFiles<R> {
 
 fn is_missing(error: &io::Error) -> bool {
     let kind = error.kind();
-    kind == ErrorKind::NotFound || kind == ErrorKind::NotADirectory
+    matches!(
+        kind,
+        ErrorKind::NotFound | ErrorKind::NotADirectory | ErrorKind::IsADirectory
+    )
 }
 
 /// At most `limit` bytes from the start of the file.

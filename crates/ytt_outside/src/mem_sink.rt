@@ -2,7 +2,7 @@
 ghost use Rattle.std.specs.Prelude.{◌≡◌, ◌+◌, ◌≤◌, ◌++◌, [], IfOk, List, Some, is_err, length, vec_capacity, vec_len};
 ghost use Rattle.ytt_outside.specs.Counts.{raised};
 ghost use Rattle.ytt_outside.specs.Sink.{SinkCounts, Writes, count_after};
-ghost use Rattle.ytt_outside.specs.SinkSteps.{bytes_after, fails_at, goes_of, taken_at};
+ghost use Rattle.ytt_outside.specs.SinkSteps.{bytes_after, fails_at, appended_part, taken_at};
 
 use crate::sink::{Sink, SinkFailed};
 use sqlite_items::Items;
@@ -83,8 +83,8 @@ fn append(bytes: &mut Vec<u8>, more: &[u8])
     }
 }
 
-fn goes_of(taken: Option<u64>, piece: &[u8]) -> &[u8]
-    ensures { result.now ≡ goes_of taken piece.now }
+fn appended_part(taken: Option<u64>, piece: &[u8]) -> &[u8]
+    ensures { result.now ≡ appended_part taken piece.now }
 {
     match taken {
         None => piece,
@@ -113,11 +113,11 @@ impl Sink for MemSink {
             return Ok(());
         }
         let taken = taken_at(self.fails.as_slice(), self.calls);
-        let goes = goes_of(taken, piece);
+        let part = appended_part(taken, piece);
         let is_over = self.room < self.bytes.len() as u64
-            || self.room - (self.bytes.len() as u64) < goes.len() as u64;
+            || self.room - (self.bytes.len() as u64) < part.len() as u64;
         if !is_over {
-            append(&mut self.bytes, goes);
+            append(&mut self.bytes, part);
         }
         if is_over || taken.is_some() {
             self.faults = self.faults.saturating_add(1);
