@@ -4,10 +4,13 @@ pub mod Blocks
 pub mod Calls
 pub mod Code
 pub mod Eval
+pub mod Grammar
 pub mod Language
 pub mod Numbers
 pub mod Operators
 pub mod Outcomes
 pub mod Program
+pub mod Reading
 pub mod Store
+pub mod Tokens
 pub mod Values

@@ -4,7 +4,9 @@ use Rattle.ytt_base.specs.declared.fault.Fault.{Fault}
 use Rattle.ytt_base.specs.declared.fault.FaultKind.TheVariants as kind
 use Rattle.ytt_base.specs.Outcomes.{place_at, fault_at}
 use Rattle.ytt_base.specs.Trees.{Scalar, null, integer, string, scalar, map, Trees, no_trees, tree, no_pairs, pair}
+use Rattle.std.specs.Str.{chars}
 use Rattle.yaml_spec.specs.Scalars.{form}
+use Rattle.yaml_spec.specs.Text.{fits_plain}
 use Rattle.star_spec.specs.Code.{Expr, int, text, unary, binary, negation, addition, multiplication, floor_division}
 use Rattle.star_spec.specs.Program.{document_item, pair_item}
 use Rattle.star_spec.specs.Values.{Children}
@@ -131,7 +133,7 @@ text_steps : built_with 100 (one_pair (product (words (codes "0123456789abcdef")
 text_steps = refl
 
 refuses_second_key : built_with 100 (document (pairs (pair_at 2 (codes "a") (written_value null) (pair_at 3 (codes "a") (written_value null) no_items))) no_items) ≡ faults (record { kind = kind.KeyTwice; place = place_at 1 3; detail = codes "a" })
-unfolding form
+unfolding chars fits_plain form
 refuses_second_key = refl
 
 -- a null document is dropped; an empty map stays one

@@ -5,5 +5,7 @@ pub mod Leaving
 pub mod NamesAgree
 pub mod Nested
 pub mod Nesting
+pub mod PlacingExamples
+pub mod PlacingStraight
 pub mod Runs
 pub mod Theorem

@@ -4,6 +4,7 @@ pub mod Compiled
 pub mod Meaning
 pub mod Names
 pub mod Placed
+pub mod Placing
 pub mod Run
 pub mod Take
 pub mod Template

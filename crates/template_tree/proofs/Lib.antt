@@ -1,1 +1,5 @@
+pub mod Codes
+pub mod Pairs
+pub mod Placing
+pub mod Scalars
 pub mod Views

@@ -12,6 +12,7 @@ use Rattle.template_tree.specs.declared.tree.TNote.{TNote}
 use Rattle.template_tree.specs.declared.tree.TItem.{TItem, fold-TItem}
 use Rattle.template_tree.specs.declared.tree.TNode.{TNode, fold-TNode}
 use Rattle.template_tree.specs.declared.tree.TContent.{TContent, fold-TContent}
+use Rattle.template_tree.specs.declared.tree.Template.{Template}
 use Rattle.template_tree.specs.declared.tree.TContent.TheOpen.{TContent-F, TItem-F, TNode-F}
 
 abbrev pub notes_of : (file : ℕ) → List TNote → Notes
@@ -66,3 +67,6 @@ items_as kind file is = in_items kind (each (item_of file) is)
 -- the documents of a template
 abbrev pub items_of : (file : ℕ) → List TItem → Items
 items_of file is = items_as document_item file is
+
+abbrev pub template_of : Template → Items
+template_of t = items_of t.file t.items

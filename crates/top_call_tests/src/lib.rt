@@ -9,3 +9,5 @@ mod printing;
 mod rows;
 #[cfg(test)]
 mod runs;
+#[cfg(test)]
+mod templates;

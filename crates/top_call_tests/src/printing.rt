@@ -83,13 +83,21 @@ fn strings(rt: HostRuntime) -> Result<(), Fail> {
 #[test]
 fn strings_that_read_back(rt: HostRuntime) -> Result<(), Fail> {
     let alloc = rt.alloc();
-    for text in ["0644", "Null", "NO", "1e3", "yes", "", "web"] {
+    for (text, want) in [
+        ("0644", "a: \"0644\"\n"),
+        ("Null", "a: \"Null\"\n"),
+        ("NO", "a: \"NO\"\n"),
+        ("1e3", "a: \"1e3\"\n"),
+        ("yes", "a: \"yes\"\n"),
+        ("", "a: \"\"\n"),
+        ("web", "a: web\n"),
+    ] {
         let mut trees: Trees = Items::new(alloc);
         trees.push(map(alloc, Key::Str(Text::of(alloc, "a")?), string(alloc, text)?)?)?;
         let out = printed(alloc, &trees)?;
         let words = ["render", "-f", "a.yml"];
         let ran = run(alloc, &words, "a.yml", out.bytes(), NOTHING)?;
-        compare(&rt, &ran, Status::Done, out.bytes(), "");
+        compare(&rt, &ran, Status::Done, want.as_bytes(), "");
     }
     Ok(())
 }

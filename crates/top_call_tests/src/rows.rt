@@ -60,13 +60,41 @@ const REFUSED: &[(&str, &str)] = &[
 /// Words that are no request, and the number of the first at which none goes on.
 const WRONG: &[(&[&str], &str)] = &[
     (&[], "1"),
-    (&["-f", "a.yml"], "1"),
     (&["Render", "-f", "a.yml"], "1"),
+    (&["a.yml"], "1"),
+    (&["--", "-f", "a.yml"], "1"),
     (&["render"], "2"),
     (&["render", "a.yml"], "2"),
+    (&["render", "render", "-f", "a.yml"], "2"),
+    (&["-f"], "2"),
     (&["render", "-f"], "3"),
     (&["render", "-f", ""], "3"),
+    (&["-f", "a.yml", "-f", "a.yml"], "3"),
+    (&["-f", "a.yml", "render"], "3"),
+    (&["--steps", "5"], "3"),
     (&["render", "-f", "a.yml", "b"], "4"),
+    (&["-f", "a.yml", "--steps"], "4"),
+    (&["-f", "a.yml", "--steps", "0"], "4"),
+    (&["-f", "a.yml", "--steps", "20000001"], "4"),
+    (&["-f", "a.yml", "--steps", "000000001"], "4"),
+    (&["-f", "a.yml", "--steps", ""], "4"),
+    (&["-f", "a.yml", "--steps", "+5"], "4"),
+    (&["-f", "a.yml", "--steps", "5x"], "4"),
+    (&["--steps", "5", "--steps", "5", "-f", "a.yml"], "3"),
+    (
+        &["render", "--steps", "5", "-f", "a.yml", "--steps", "5"],
+        "6",
+    ),
+];
+
+/// Words that ask for the file `a.yml`.
+const RIGHT: &[&[&str]] = &[
+    &["render", "-f", "a.yml"],
+    &["-f", "a.yml"],
+    &["--steps", "1", "-f", "a.yml"],
+    &["render", "--steps", "00000001", "-f", "a.yml"],
+    &["-f", "a.yml", "--steps", "20000000"],
+    &["render", "-f", "a.yml", "--steps", "5000000"],
 ];
 
 /// Paths over a file `a: 1`, which stands at the second, and the fault that they mean.
@@ -107,6 +135,15 @@ fn words_that_are_no_request(rt: HostRuntime) -> Result<(), Fail> {
         let ran = run(rt.alloc(), words, "a.yml", b"a: 1\n", NOTHING)?;
         let err = format!(in rt.alloc(); "error: usage at word {number}\n")?;
         compare(&rt, &ran, Status::Usage, b"", err.as_str());
+    }
+    Ok(())
+}
+
+#[test]
+fn words_that_are_a_request(rt: HostRuntime) -> Result<(), Fail> {
+    for words in RIGHT {
+        let ran = run(rt.alloc(), words, "a.yml", b"a: 1\n", NOTHING)?;
+        compare(&rt, &ran, Status::Done, b"a: 1\n", "");
     }
     Ok(())
 }

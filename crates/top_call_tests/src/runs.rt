@@ -8,19 +8,25 @@ use ytt_main::{Status, ytt_main};
 use ytt_outside::mem_files::{MemFiles, Numbers};
 use ytt_outside::mem_sink::{FailPoint, FailPoints, MemSink};
 
-/// The numbers of the calls that are to fail, 0 for none. The call of `out` appends 3 bytes before it
-/// fails, that of `err` none.
+/// The numbers of the calls that are to fail, 0 for none, how many bytes the sinks take at such a
+/// call at most, and how many bytes they have room for.
 #[derive(Clone, Copy)]
 pub struct Failing {
     pub files: u64,
-    pub out: u64,
-    pub err: u64,
+    pub out: FailPoint,
+    pub err: FailPoint,
+    pub out_room: u64,
+    pub err_room: u64,
 }
+
+pub const NO_CALL: FailPoint = FailPoint { call: 0, taken: 0 };
 
 pub const NOTHING: Failing = Failing {
     files: 0,
-    out: 0,
-    err: 0,
+    out: NO_CALL,
+    err: NO_CALL,
+    out_room: 20000,
+    err_room: 2000,
 };
 
 /// What a run left.
@@ -29,6 +35,13 @@ pub struct Ran {
     status: Status,
     out: MemSink,
     err: MemSink,
+}
+
+impl Ran {
+    /// Whether it is done, with nothing on `err`.
+    pub fn is_done(&self) -> bool {
+        self.status == Status::Done && self.err.bytes().is_empty()
+    }
 }
 
 fn owned(alloc: Global, words: &[&str]) -> Result<Vec<String>, Fail> {
@@ -43,9 +56,9 @@ fn numbers(alloc: Global, call: u64) -> Result<Numbers, Fail> {
     Ok(Items::from_slice(alloc, [call].as_slice())?)
 }
 
-fn sink(alloc: Global, call: u64, taken: u64) -> Result<MemSink, Fail> {
-    let fails: FailPoints = Items::from_slice(alloc, [FailPoint { call, taken }].as_slice())?;
-    Ok(MemSink::new(alloc, fails, 20000)?)
+fn sink(alloc: Global, fails: FailPoint, room: u64) -> Result<MemSink, Fail> {
+    let fails: FailPoints = Items::from_slice(alloc, [fails].as_slice())?;
+    Ok(MemSink::new(alloc, fails, room)?)
 }
 
 fn files(alloc: Global, path: &str, bytes: &[u8], call: u64) -> Result<MemFiles, Fail> {
@@ -64,8 +77,8 @@ pub fn run(
 ) -> Result<Ran, Fail> {
     let words = owned(alloc, words)?;
     let mut files = files(alloc, path, bytes, failing.files)?;
-    let mut out = sink(alloc, failing.out, 3)?;
-    let mut err = sink(alloc, failing.err, 0)?;
+    let mut out = sink(alloc, failing.out, failing.out_room)?;
+    let mut err = sink(alloc, failing.err, failing.err_room)?;
     let status = ytt_main(alloc, words.as_slice(), &mut files, &mut out, &mut err);
     Ok(Ran { status, out, err })
 }

@@ -1,7 +1,7 @@
 -- The text of a character in double quotes, by the tests that its writer makes.
 use Rattle.std.proofs.Common.{◌≡◌, ℕ, ◌+◌, ◌<◌, ◌/◌, Bool, true, false, cond, List, [], ◌∷◌, ◌++◌, length, get_or, take, drop, codes, encode_utf8, ap, sym, ◌∙◌, append_assoc, append-nil, refl, eqb, ne_eqb}
 use Rattle.std.proofs.lemmas.List.{take-append-drop, take_more}
-use Rattle.yaml_spec.specs.Text.{hex2, quoted_char, quoted_chars}
+use Rattle.yaml_spec.specs.FirstText.{hex2, quoted_char, quoted_chars}
 use Rattle.yaml_print.specs.Numbered.{is_long_escaped, is_short_escaped, numbered_char}
 
 abbrev by_tests : ℕ → Bool → Bool → List ℕ

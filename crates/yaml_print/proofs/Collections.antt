@@ -7,7 +7,7 @@ use Rattle.ytt_base.specs.declared.tree.Tree.{Tree}
 use Rattle.ytt_base.specs.View.{key_of, pairs_of, tree_of, trees_of}
 use Rattle.ytt_base.proofs.Views.{tree_of-List, tree_of-Map}
 use Rattle.yaml_print.specs.LineText.{line_text}
-use Rattle.yaml_spec.specs.Text.{key_text, list_text, map_text, node_text, pair_text, spaces}
+use Rattle.yaml_spec.specs.FirstText.{key_text, list_text, map_text, node_text, pair_text, spaces}
 
 -- the elements of a list, and the pairs of a map, each from the start of a line
 abbrev pub elements : ℕ → List Tree → List ℕ

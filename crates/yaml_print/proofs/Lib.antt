@@ -4,5 +4,3 @@ pub mod Documents
 pub mod Indents
 pub mod Members
 pub mod Putting
-pub mod QuotedUtf
-pub mod ReadBack

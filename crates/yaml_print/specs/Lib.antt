@@ -4,4 +4,3 @@ pub mod LineText
 pub mod Numbered
 pub mod Pending
 pub mod Puts
-pub mod ReadBack

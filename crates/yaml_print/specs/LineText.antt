@@ -1,7 +1,7 @@
 -- The text of a tree that stands on one line.
 use Rattle.std.specs.Prelude.{ℕ, List, codes}
 use Rattle.ytt_base.specs.Trees.{Tree, scalar, list, map}
-use Rattle.yaml_spec.specs.Text.{scalar_text}
+use Rattle.yaml_spec.specs.FirstText.{scalar_text}
 
 -- a scalar, or an empty list or map, with the break at its end
 abbrev pub line_text : Tree → List ℕ

@@ -1,7 +1,7 @@
 -- A character in double quotes that has no escape of its own.
 use Rattle.std.specs.Prelude.{ℕ, Bool, ◌/◌, ◌||◌, nat_lt, if◌then◌else◌, List, [], ◌∷◌, ◌++◌, codes, encode_utf8}
 use Rattle.yaml_spec.specs.Bytes.{is_between, is_one_of}
-use Rattle.yaml_spec.specs.Text.{hex2}
+use Rattle.yaml_spec.specs.FirstText.{hex2}
 
 abbrev pub is_short_escaped : ℕ → Bool
 is_short_escaped c = nat_lt c 0x20 || is_between 0x7F 0xA0 c

@@ -7,7 +7,7 @@ ghost use Rattle.yaml_print.specs.LineText.{line_text};
 ghost use Rattle.yaml_print.specs.Pending.{pending};
 ghost use Rattle.yaml_print.specs.Puts.{Puts};
 ghost use Rattle.yaml_spec.specs.Bytes.{colon, space};
-ghost use Rattle.yaml_spec.specs.Text.{key_text, list_text, map_text, node_text, pair_text, spaces};
+ghost use Rattle.yaml_spec.specs.FirstText.{key_text, list_text, map_text, node_text, pair_text, spaces};
 
 use crate::indent::Indent;
 use crate::pending::Pending;

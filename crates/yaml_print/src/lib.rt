@@ -3,11 +3,9 @@
 
 mod blocks;
 mod indent;
-mod keys;
 mod pending;
 mod print;
 mod quoted;
 mod scalar;
 
-pub use keys::key_text;
 pub use print::print_to;

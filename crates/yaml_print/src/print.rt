@@ -1,13 +1,12 @@
 // Documents, one after another.
-ghost use Rattle.std.specs.Prelude.{◌≡◌, ◌++◌, [], IfOk, codes};
+ghost use Rattle.std.specs.Prelude.{◌≡◌, ◌++◌, [], codes};
 ghost use Rattle.ytt_base.specs.View.{tree_of, trees_of};
 ghost use Rattle.ytt_outside.specs.Sink.{SinkCounts, Writes};
 ghost use Rattle.yaml_print.specs.Documents.{more_text};
 ghost use Rattle.yaml_print.specs.Pending.{pending};
 ghost use Rattle.yaml_print.specs.Puts.{Puts};
-ghost use Rattle.yaml_print.specs.ReadBack.{GrowsReadable};
-ghost use Rattle.yaml_spec.specs.ReadsBack.{AreFlat};
-ghost use Rattle.yaml_spec.specs.Text.{Text, document_text};
+ghost use Rattle.yaml_spec.specs.FirstReadsBack.{AreFlat, ReadsAlone};
+ghost use Rattle.yaml_spec.specs.FirstText.{Text, document_text};
 
 use crate::blocks::write_node;
 use crate::indent::Indent;
@@ -79,15 +78,15 @@ fn write_documents<O: Sink>(
 ///
 /// Documents stand in their order, with a line `---` between two. What `buffer` held is
 /// overwritten: the text goes through it, and is written when it is full and at the end.
-/// `SinkFailed` comes only where the sink's count of failures rose. Flat documents read back from
-/// their text: a reader of this profile gets these documents from it, and no others.
+/// `SinkFailed` comes only where the sink's count of failures rose. The text of flat documents reads
+/// back: a reader of this profile gets these documents from it, and no others.
 pub fn print_to<O: Sink>(
     trees: &Trees,
     out: &mut O,
     buffer: &mut [u8; 4096],
 ) -> Result<(), SinkFailed>
     ensures bytes { Writes (O.held out.old) (O.held out.new) (Text (trees_of trees.now)) result }
-    ensures reads_back { AreFlat (trees_of trees.now) → IfOk result (λ done. GrowsReadable (O.held out.old) (O.held out.new) (trees_of trees.now)) }
+    ensures reads_back { AreFlat (trees_of trees.now) → ReadsAlone (Text (trees_of trees.now)) (trees_of trees.now) }
     ensures cause { SinkCounts (O.faults out.old) (O.faults out.new) result }
 {
     let mut waiting = Pending::new(buffer);

@@ -5,7 +5,7 @@ ghost use Rattle.yaml_print.specs.Numbered.{is_long_escaped, is_short_escaped, n
 ghost use Rattle.yaml_print.specs.Pending.{pending};
 ghost use Rattle.yaml_print.specs.Puts.{Puts};
 ghost use Rattle.yaml_spec.specs.Bytes.{quote};
-ghost use Rattle.yaml_spec.specs.Text.{hex2, hex_digit, quoted_char, quoted_chars, quoted_text};
+ghost use Rattle.yaml_spec.specs.FirstText.{hex2, hex_digit, quoted_char, quoted_chars, quoted_text};
 
 use crate::pending::Pending;
 use ytt_outside::sink::{Sink, SinkFailed};

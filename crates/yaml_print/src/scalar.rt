@@ -6,7 +6,7 @@ ghost use Rattle.ytt_outside.specs.Sink.{SinkCounts};
 ghost use Rattle.yaml_print.specs.LineText.{line_text};
 ghost use Rattle.yaml_print.specs.Pending.{pending};
 ghost use Rattle.yaml_print.specs.Puts.{Puts};
-ghost use Rattle.yaml_spec.specs.Text.{fits_plain, key_text, line_end, string_text};
+ghost use Rattle.yaml_spec.specs.FirstText.{fits_plain, key_text, line_end, string_text};
 
 use crate::pending::Pending;
 use crate::quoted::write_quoted;
@@ -38,7 +38,7 @@ fn write_int<O: Sink>(n: i128, out: &mut O, waiting: &mut Pending<'_>) -> Result
 
 /// Whether the string is written as it stands: ASCII letters and digits that are read as this
 /// string.
-pub fn fits_plain(text: &[u8]) -> bool
+fn fits_plain(text: &[u8]) -> bool
     ensures { result ≡ fits_plain text.now }
 {
     !text.is_empty() && all_letters_or_digits(text) && is_string(text)

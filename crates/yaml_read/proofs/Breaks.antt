@@ -1,7 +1,7 @@
 -- Where the first line of a text ends.
 use Rattle.std.proofs.Common.{◌≡◌, ℕ, suc, zero, ◌+◌, ◌-◌, ◌<◌, List, [], ◌∷◌, length, get_or, take, drop, ap, ◌∙◌, arith, Bool, cond, eq-eqb, ne_eqb, add-one}
 use Rattle.std.proofs.lemmas.List.{take_rest}
-use Rattle.yaml_spec.specs.Lines.{lines, start_line}
+use Rattle.yaml_spec.specs.FirstLines.{lines, start_line}
 
 abbrev NoBreak : List ℕ → ℕ → Type 0
 NoBreak text i = (k : ℕ) → k < i → get_or text k 0 ≡ 10 → ⊥

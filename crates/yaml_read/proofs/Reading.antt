@@ -9,7 +9,7 @@ use Rattle.ytt_base.specs.Outcomes.{Outcome, Gives, ◌>>=◌, place_at}
 use Rattle.ytt_base.specs.Trees.{Scalar, Tree, Pairs, no_pairs, pair, has_key, keys}
 use Rattle.ytt_base.specs.View.{entry_of, pairs_of}
 use Rattle.yaml_spec.specs.Flat.{Entry, not_built, entry_at, unrepeated, before_pairs, pairs_in, documents_in, one_map, read_trees, value_at}
-use Rattle.yaml_spec.specs.Lines.{lines, start_line}
+use Rattle.yaml_spec.specs.FirstLines.{lines, start_line}
 
 -- the pairs of one map behind those of another
 abbrev pub joined : Pairs → Pairs → Pairs

@@ -1,7 +1,7 @@
 // The lines of a text, and the parts of a line.
 ghost use Rattle.std.specs.Prelude.{◌≡◌, ◌==◌, ◌<◌, ◌≤◌, ◌∷◌, length};
 ghost use Rattle.std.specs.List.{after_first, before_first, position_or_len};
-ghost use Rattle.yaml_spec.specs.Lines.{lines};
+ghost use Rattle.yaml_spec.specs.FirstLines.{lines};
 
 /// The first line, and what stands behind its end.
 #[tactic(auto, using(crate::proofs::Breaks::ends))]

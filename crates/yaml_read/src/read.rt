@@ -4,7 +4,8 @@ ghost use Rattle.ytt_base.specs.Outcomes.{Gives};
 ghost use Rattle.ytt_base.specs.Trees.{map, no_trees, tree};
 ghost use Rattle.ytt_base.specs.View.{pairs_of, trees_of};
 ghost use Rattle.yaml_spec.specs.Flat.{pairs_in, read_trees, value_at};
-ghost use Rattle.yaml_spec.specs.Lines.{lines};
+ghost use Rattle.yaml_spec.specs.FirstLines.{lines};
+ghost use Rattle.yaml_spec.specs.FirstReadsBack.{AreFlat};
 
 use crate::entry::read_entry;
 use crate::lines::split_line;
@@ -56,11 +57,12 @@ fn one_map(alloc: Global, pairs: Pairs) -> Result<Trees, Memory>
 /// A line outside this form, and one whose key an earlier line has, is a fault of the kind
 /// NotBuilt at the line, counted from 1, without a detail; but a VALUE of an optional minus,
 /// digits, a point and digits is FloatScalar there. The first such line decides. Want of memory
-/// is `Stop::Memory`.
+/// is `Stop::Memory`. What is read is of the form whose text reads back.
 #[tactic(auto, using(crate::proofs::Reading::reading))]
 pub fn read_plain(alloc: Global, bytes: &[u8], file: u32) -> Result<Trees, Stop>
     requires { length bytes.now < 2 ^ 32 }
-    ensures { Gives trees_of result (read_trees file bytes.now) }
+    ensures documents { Gives trees_of result (read_trees file bytes.now) }
+    ensures flat { IfOk result (λ trees. AreFlat (trees_of trees)) }
 {
     if bytes.is_empty() {
         return Ok(Items::new(alloc));

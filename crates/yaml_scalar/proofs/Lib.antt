@@ -1,2 +1,6 @@
 pub mod ByteTests
-pub mod Forms
+pub mod FormTests
+pub mod Integers
+pub mod PlainValues
+pub mod QuotedChars
+pub mod StyleTests

@@ -50,7 +50,8 @@ pub fn all_letters_or_digits(bytes: &[u8]) -> bool
     bytes.iter().all(|byte| is_letter_or_digit(*byte))
 }
 
-fn all_octal_digits(bytes: &[u8]) -> bool
+/// Whether each byte is an octal digit. It is so of no bytes.
+pub fn all_octal_digits(bytes: &[u8]) -> bool
     ensures { result ≡ list_all is_octal_digit bytes.now }
 {
     bytes.iter().all(|byte| is_octal_digit(*byte))

@@ -1,15 +1,17 @@
 -- What the definitions give for some texts and trees, by computing.
-use Rattle.std.proofs.Common.{◌≡◌, ℕ, true, List, [], ◌∷◌, ◌++◌, refl, codes, pos, negsuc, Ok, Err}
+use Rattle.std.proofs.Common.{◌≡◌, ℕ, true, false, List, Option, Some, None, [], ◌∷◌, ◌++◌, refl, codes, pos, negsuc, Ok, Err}
 use Rattle.std.specs.Fmt.{digits}
-use Rattle.std.specs.Str.{chars}
+use Rattle.std.specs.Str.{chars, is_utf8}
 use lib.Utf8.{encode}
 use Rattle.ytt_base.specs.Outcomes.{Outcome, fault_at, place_at}
 use Rattle.ytt_base.specs.declared.fault.FaultKind.TheVariants as kind
 use Rattle.ytt_base.specs.Trees.{null, boolean, integer, string, Tree, scalar, list, map, Trees, no_trees, tree, no_pairs, pair}
 use Rattle.yaml_spec.specs.Flat.{any_value, documents_in, read_trees, not_built}
-use Rattle.yaml_spec.specs.Lines.{lines}
+use Rattle.yaml_spec.specs.FlatNoted.{document_note, in_documents, noted_documents}
+use Rattle.yaml_spec.specs.FirstLines.{lines}
+use Rattle.yaml_spec.specs.Noted.{Comment, Note, noted_scalar, noted_map, no_items, item}
 use Rattle.yaml_spec.specs.Scalars.{form, plain, null_form, octal_form, bad_octal_form, integer_form, prefixed_form, float_form, word_form, string_form}
-use Rattle.yaml_spec.specs.Text.{Text}
+use Rattle.yaml_spec.specs.FirstText.{Text}
 
 abbrev text : List ℕ → Tree
 text s = scalar (string s)
@@ -140,3 +142,37 @@ prints_escapes :
     ≡ codes "\"\\\"\\\\\\t\\n\\x7F\\x85\\u2028" ++ (0xC3 ∷ 0xA9 ∷ codes "\"\n")
 unfolding chars encode form
 prints_escapes = refl
+
+-- ---- noted documents
+
+abbrev pair_on : ℕ → List ℕ → Option Comment → Note
+pair_on line key trailing = record { line = line; key = Some (string key); before = []; trailing = trailing; flow = false }
+
+abbrev code_on : ℕ → List ℕ → Option Comment
+code_on line text = Some (record { line = line; own_line = false; text = text })
+
+notes_nothing : noted_documents 1 [] ≡ Ok (in_documents no_items)
+notes_nothing = refl
+
+notes_code :
+    noted_documents 1 (codes "a: 1\nb: #@ 2 + 3\n")
+    ≡ Ok (in_documents (item document_note (noted_map (item (pair_on 1 (codes "a") None) (noted_scalar (scalar (integer (pos 1)))) (item (pair_on 2 (codes "b") (code_on 2 (codes "#@ 2 + 3"))) (noted_scalar (scalar null)) no_items))) no_items))
+unfolding chars encode is_utf8
+notes_code = refl
+
+notes_no_code_without_its_space : noted_documents 1 (codes "a: #@1\n") ≡ not_built (place_at 1 1)
+unfolding chars encode is_utf8
+notes_no_code_without_its_space = refl
+
+notes_no_own_line : noted_documents 1 (codes "a: 1\n#@ x = 1\n") ≡ not_built (place_at 1 2)
+unfolding chars encode is_utf8
+notes_no_own_line = refl
+
+notes_line_before_code : noted_documents 1 (codes "a: #@ x y\n[\n") ≡ not_built (place_at 1 2)
+unfolding chars encode is_utf8
+notes_line_before_code = refl
+
+-- FF stands in no text in UTF-8
+notes_no_broken_code : noted_documents 1 (codes "a: #@ " ++ 0xFF ∷ []) ≡ not_built (place_at 1 1)
+unfolding chars encode is_utf8
+notes_no_broken_code = refl

@@ -11,9 +11,9 @@ use Rattle.ytt_base.specs.Trees.{Scalar, null, boolean, integer, string, Tree, s
 use Rattle.ytt_base.specs.declared.fault.Place.{Place}
 use Rattle.yaml_spec.specs.Bytes.{all_bytes, is_digit, is_letter_or_digit}
 use Rattle.yaml_spec.specs.Flat.{any_value, documents_in, entry_at, is_colon, is_plain_word, is_quoted_run, is_run, one_map, pairs_in, Reads}
-use Rattle.yaml_spec.specs.Lines.{lines}
-use Rattle.yaml_spec.specs.ReadsBack.{AreFlat, AreFlatPairs, IsValue, ReadsAlone}
-use Rattle.yaml_spec.specs.Text.{Text, fits_plain, key_text, map_text, pair_text, quoted_text, string_text}
+use Rattle.yaml_spec.specs.FirstLines.{lines}
+use Rattle.yaml_spec.specs.FirstReadsBack.{AreFlat, AreFlatPairs, IsValue, ReadsAlone}
+use Rattle.yaml_spec.specs.FirstText.{Text, fits_plain, key_text, map_text, pair_text, quoted_text, string_text}
 use Rattle.yaml_spec.proofs.IntegersBack.{decimal-digits, form-decimal, plain-decimal}
 use Rattle.yaml_spec.proofs.WordsBack.{word_fits}
 use Rattle.yaml_spec.proofs.Numerals.{both}

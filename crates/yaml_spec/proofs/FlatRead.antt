@@ -1,14 +1,14 @@
 -- What is read from an input is of the form that reads back.
-use Rattle.std.proofs.Common.{◌≡◌, ℕ, ◌+◌, Bool, true, false, ◌&&◌, nat_le, eqb, List, [], ◌∷◌, ◌++◌, length, ◌-◌, drop, slice_index, Ok, Err, refl, sym, ap, ◌∙◌}
-use Rattle.std.specs.List.{list_all, before_first, after_first}
+use Rattle.std.proofs.Common.{◌≡◌, ℕ, ◌+◌, Bool, true, false, ◌&&◌, nat_le, eqb, List, [], ◌∷◌, ◌++◌, length, ◌-◌, slice_index, Ok, Err, refl, sym, ap, ◌∙◌}
+use Rattle.std.specs.List.{list_all, after_first}
 use Rattle.std.specs.Str.Parse.{signed_digits_value}
 use Rattle.ytt_base.specs.Outcomes.{Outcome, ◌>>=◌, place_at}
 use Rattle.ytt_base.specs.Trees.{Scalar, integer, string, Tree, scalar, map, Trees, no_trees, tree, Pairs, no_pairs, pair, has_key}
 use Rattle.ytt_base.specs.declared.fault.Place.{Place}
 use Rattle.yaml_spec.specs.Bytes.{is_letter_or_digit, first}
-use Rattle.yaml_spec.specs.Flat.{Entry, before_pairs, documents_in, entry_at, entry_from, is_colon, is_integer, is_plain_word, is_point_number, is_quoted_run, middle, no_value, one_map, pairs_in, read_trees, unrepeated, value_at, with_key}
-use Rattle.yaml_spec.specs.Lines.{lines}
-use Rattle.yaml_spec.specs.ReadsBack.{AreFlat, AreFlatPairs, IsValue}
+use Rattle.yaml_spec.specs.Flat.{Entry, before_pairs, documents_in, entry_at, is_colon, is_entry, is_integer, is_plain_word, is_point_number, is_quoted_run, key_part, middle, no_value, one_map, pairs_in, read_trees, unrepeated, value_at, value_part, with_key}
+use Rattle.yaml_spec.specs.FirstLines.{lines}
+use Rattle.yaml_spec.specs.FirstReadsBack.{AreFlat, AreFlatPairs, IsValue}
 use Rattle.yaml_spec.proofs.Numerals.{both, integer_fits}
 use Rattle.yaml_spec.proofs.RunsBack.{word_run}
 
@@ -46,17 +46,17 @@ record IsEntry (e : Entry) : Type 0 where
   plain : is_plain_word word ≡ true
   value : IsValue e.1
 
-with_word : (place : Place) (word rest : List ℕ) (e : Entry) (w b : Bool) → is_plain_word word ≡ w → (eqb (first rest) 32) ≡ b → entry_from value_at place word rest ≡ Ok e → IsEntry e
-with_word place word rest e false b h k r = let f = rw h at r in cc
-with_word place word rest e true false h k r = let f = rw (h, k) at r in cc
-with_word place word rest e true true h k r =
-    let f = rw (h, k) at r in
-    let g = bound (value_at place (drop 1 rest)) (with_key (string word)) e f in
-    let n : (string word, g.part) ≡ e = let q = g.behind in cc in
-    record { word = word; key = ap (λ x. x.0) (sym n); plain = h; value = rw (← n) (is_value place (drop 1 rest) g.part (is_integer (drop 1 rest)) (is_plain_word (drop 1 rest)) (is_quoted_run (drop 1 rest)) refl refl refl g.read) }
+on_line : (place : Place) (l : List ℕ) (e : Entry) (b : Bool) → is_entry l ≡ b → entry_at value_at place l ≡ Ok e → IsEntry e
+on_line place l e false h r = let f = rw h at r in cc
+on_line place l e true h r =
+    let f = rw h at r in
+    let g = bound (value_at place (value_part l)) (with_key (string (key_part l))) e f in
+    let n : (string (key_part l), g.part) ≡ e = let q = g.behind in cc in
+    let p = both (is_plain_word (key_part l)) (eqb (first (after_first is_colon l)) 32) h in
+    record { word = key_part l; key = ap (λ x. x.0) (sym n); plain = p.0; value = rw (← n) (is_value place (value_part l) g.part (is_integer (value_part l)) (is_plain_word (value_part l)) (is_quoted_run (value_part l)) refl refl refl g.read) }
 
-is_entry : (place : Place) (l : List ℕ) (e : Entry) → entry_at value_at place l ≡ Ok e → IsEntry e
-is_entry place l e h = with_word place (before_first is_colon l) (after_first is_colon l) e (is_plain_word (before_first is_colon l)) (eqb (first (after_first is_colon l)) 32) refl refl h
+entry_on_line : (place : Place) (l : List ℕ) (e : Entry) → entry_at value_at place l ≡ Ok e → IsEntry e
+entry_on_line place l e h = on_line place l e (is_entry l) refl h
 
 -- an entry that isn't repeated
 record IsNew (earlier : List Scalar) (e f : Entry) : Type 0 where
@@ -84,7 +84,7 @@ flat_pairs file earlier n (l ∷ ls) ps h =
     let line = bound (entry_at value_at (place_at file n) l >>= unrepeated (place_at file n) earlier) (λ e. pairs_in value_at file (earlier ++ e.0 ∷ []) (n + 1) ls >>= before_pairs e) ps h in
     let own = bound (entry_at value_at (place_at file n) l) (unrepeated (place_at file n) earlier) line.part line.read in
     let new = is_new (place_at file n) earlier own.part line.part (has_key own.part.0 earlier) refl own.behind in
-    let entry = is_entry (place_at file n) l own.part own.read in
+    let entry = entry_on_line (place_at file n) l own.part own.read in
     let rest = bound (pairs_in value_at file (earlier ++ line.part.0 ∷ []) (n + 1) ls) (before_pairs line.part) ps line.behind in
     let deeper = flat_pairs file (earlier ++ line.part.0 ∷ []) (n + 1) ls rest.part rest.read in
     let whole : pair line.part.0 line.part.1 rest.part ≡ ps = let q = rest.behind in cc in

@@ -7,7 +7,7 @@ use Rattle.std.specs.List.{list_all}
 use Rattle.yaml_spec.specs.Bytes.{is_digit, is_letter, is_letter_or_digit, is_reserved}
 use Rattle.yaml_spec.specs.Flat.{is_plain_word, is_quoted_run, middle}
 use Rattle.yaml_spec.proofs.Numerals.{both, run_ascii}
-use Rattle.yaml_spec.specs.Text.{quoted_char, quoted_chars, quoted_text}
+use Rattle.yaml_spec.specs.FirstText.{quoted_char, quoted_chars, quoted_text}
 
 -- where a letter or a digit lies
 pub record IsRunByte (b : ℕ) : Type 0 where

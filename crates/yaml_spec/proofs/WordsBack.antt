@@ -5,7 +5,7 @@ use Rattle.std.specs.List.{list_all}
 use Rattle.yaml_spec.specs.Bytes.{all_bytes, is_digit, is_hex_digit, is_octal_digit, is_letter, is_letter_or_digit, is_reserved, is_word, null_words, true_words, false_words, yes_words}
 use Rattle.yaml_spec.specs.Flat.{is_plain_word, is_run}
 use Rattle.yaml_spec.specs.Scalars.{Form, bad_octal_form, bool_form, float_form, form, has_leading_zero, has_prefix, integer_form, is_float, null_form, octal_form, prefixed_form, some_of, string_form, unsigned, word_form}
-use Rattle.yaml_spec.specs.Text.{fits_plain}
+use Rattle.yaml_spec.specs.FirstText.{fits_plain}
 use Rattle.yaml_spec.proofs.Numerals.{both}
 use Rattle.yaml_spec.proofs.RunsBack.{word_run}
 

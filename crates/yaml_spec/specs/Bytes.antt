@@ -1,5 +1,5 @@
--- The bytes and characters that have a meaning in YAML, as far as they are needed (YAML 1.2.2, 5.3 to 5.5).
-use Rattle.std.specs.Prelude.{ℕ, ◌-◌, Bool, true, false, ◌&&◌, ◌||◌, ◌==◌, nat_le, if◌then◌else◌, List, [], ◌∷◌, slice_index, bytes_eq, codes}
+-- The bytes that have a meaning in YAML, the blanks between tokens, and words (YAML 1.2.2, 5.3 to 5.5 and 6.1).
+use Rattle.std.specs.Prelude.{ℕ, suc, ◌-◌, Bool, true, false, ◌&&◌, ◌||◌, ◌==◌, nat_le, if◌then◌else◌, List, [], ◌∷◌, length, slice_index, bytes_eq, codes}
 
 abbrev pub tab : ℕ
 tab = 9
@@ -16,8 +16,20 @@ space = 32
 abbrev pub quote : ℕ
 quote = 34
 
+abbrev pub hash : ℕ
+hash = 35
+
+abbrev pub percent : ℕ
+percent = 37
+
+abbrev pub apostrophe : ℕ
+apostrophe = 39
+
 abbrev pub plus : ℕ
 plus = 43
+
+abbrev pub comma : ℕ
+comma = 44
 
 abbrev pub dash : ℕ
 dash = 45
@@ -28,8 +40,32 @@ dot = 46
 abbrev pub colon : ℕ
 colon = 58
 
+abbrev pub greater : ℕ
+greater = 62
+
+abbrev pub question : ℕ
+question = 63
+
+abbrev pub at_sign : ℕ
+at_sign = 64
+
+abbrev pub left_bracket : ℕ
+left_bracket = 91
+
 abbrev pub backslash : ℕ
 backslash = 92
+
+abbrev pub right_bracket : ℕ
+right_bracket = 93
+
+abbrev pub left_brace : ℕ
+left_brace = 123
+
+abbrev pub bar : ℕ
+bar = 124
+
+abbrev pub right_brace : ℕ
+right_brace = 125
 
 -- the byte is one of these
 abbrev pub is_one_of : List ℕ → ℕ → Bool
@@ -38,6 +74,14 @@ is_one_of (x ∷ xs) b = b == x || is_one_of xs b
 
 abbrev pub is_between : ℕ → ℕ → ℕ → Bool
 is_between low high b = nat_le low b && nat_le b high
+
+-- white space inside a line (6.1)
+abbrev pub is_white : ℕ → Bool
+is_white b = b == space || b == tab
+
+-- `, [ ] { }` (5.3, rule 23)
+abbrev pub is_flow_indicator : ℕ → Bool
+is_flow_indicator b = is_one_of (comma ∷ left_bracket ∷ right_bracket ∷ left_brace ∷ right_brace ∷ []) b
 
 abbrev pub is_digit : ℕ → Bool
 is_digit b = is_between 48 57 b
@@ -70,6 +114,33 @@ is_empty (x ∷ xs) = false
 abbrev pub all_bytes : (ℕ → Bool) → List ℕ → Bool
 all_bytes test [] = true
 all_bytes test (b ∷ bs) = test b && all_bytes test bs
+
+-- the text without the white space at its start
+abbrev pub skip_white : List ℕ → List ℕ
+skip_white [] = []
+skip_white (b ∷ bs) = elim (is_white b) [ true ↦ skip_white bs | false ↦ b ∷ bs ]
+
+-- the text without the white space at its end
+abbrev pub trim_end : List ℕ → List ℕ
+trim_end [] = []
+trim_end (b ∷ bs) = let rest = trim_end bs in if is_white b && is_empty rest then [] else b ∷ rest
+
+-- the number of leading spaces (6.1)
+abbrev pub indent : List ℕ → ℕ
+indent [] = 0
+indent (b ∷ bs) = elim (b == space) [ true ↦ suc (indent bs) | false ↦ 0 ]
+
+-- nothing but spaces and tabs
+abbrev pub is_blank : List ℕ → Bool
+is_blank t = is_empty (skip_white t)
+
+-- a space follows, or the end: only white space, or white space and a comment, stands before it
+abbrev pub is_gap : List ℕ → Bool
+is_gap t = first t == space || is_blank t || (first t == tab && first (skip_white t) == hash)
+
+-- how much of `text` was passed over, where `rest` is left of it
+abbrev pub passed : List ℕ → List ℕ → ℕ
+passed text rest = length text - length rest
 
 -- the text is one of these words
 abbrev pub is_word : List (List ℕ) → List ℕ → Bool

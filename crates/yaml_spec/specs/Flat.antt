@@ -8,7 +8,7 @@ use Rattle.ytt_base.specs.declared.fault.Place.{Place}
 use Rattle.ytt_base.specs.Outcomes.{Outcome, ◌>>=◌, fault_at, place_at}
 use Rattle.ytt_base.specs.Trees.{Scalar, integer, string, Tree, scalar, map, Trees, no_trees, tree, Pairs, no_pairs, pair, has_key}
 use Rattle.yaml_spec.specs.Bytes.{space, quote, dash, dot, colon, is_digit, is_letter, is_letter_or_digit, is_reserved, first}
-use Rattle.yaml_spec.specs.Lines.{lines}
+use Rattle.yaml_spec.specs.FirstLines.{lines}
 use Rattle.yaml_spec.specs.Scalars.{form, plain, is_integer_form, is_string_form}
 
 -- a letter, then letters and digits, and no reserved word
@@ -80,19 +80,20 @@ any_value place v =
     else if is_integer_form (form v) then scalar_at place (plain v)
     else no_value place v
 
--- an entry is a key and its value
-abbrev pub Entry : Type 0
-Entry = Scalar × Tree
-
-abbrev pub with_key : Scalar → Tree → Outcome Entry
+-- what stands beside a key, behind the key
+abbrev pub with_key : {A : Type 0} → Scalar → A → Outcome (Scalar × A)
 with_key k t = Ok (k, t)
 
 abbrev pub is_colon : ℕ → Bool
 is_colon b = b == colon
 
 -- the entry, unless its key stands among the earlier ones
-abbrev pub unrepeated : Place → List Scalar → Entry → Outcome Entry
+abbrev pub unrepeated : {A : Type 0} → Place → List Scalar → Scalar × A → Outcome (Scalar × A)
 unrepeated place earlier e = if has_key e.0 earlier then not_built place else Ok e
+
+-- an entry is a key and its value
+abbrev pub Entry : Type 0
+Entry = Scalar × Tree
 
 abbrev pub before_pairs : Entry → Pairs → Outcome Pairs
 before_pairs e ps = Ok (pair e.0 e.1 ps)
@@ -102,14 +103,21 @@ one_map ps = Ok (tree (map ps) no_trees)
 
 -- ---- by what a VALUE stands for
 
--- the entry of a line with this before its first colon and that behind it
-abbrev pub entry_from : (Place → List ℕ → Outcome Tree) → Place → List ℕ → List ℕ → Outcome Entry
-entry_from value place word rest =
-    if is_plain_word word && first rest == space then value place (drop 1 rest) >>= with_key (string word) else not_built place
+-- what stands before the first colon of a line
+abbrev pub key_part : List ℕ → List ℕ
+key_part l = before_first is_colon l
+
+-- what stands behind it and one byte
+abbrev pub value_part : List ℕ → List ℕ
+value_part l = drop 1 (after_first is_colon l)
+
+-- a plain word, a colon and a space begin the line
+abbrev pub is_entry : List ℕ → Bool
+is_entry l = is_plain_word (key_part l) && first (after_first is_colon l) == space
 
 -- the entry that a line states by itself
-abbrev pub entry_at : (Place → List ℕ → Outcome Tree) → Place → List ℕ → Outcome Entry
-entry_at value place l = entry_from value place (before_first is_colon l) (after_first is_colon l)
+abbrev pub entry_at : {A : Type 0} → (Place → List ℕ → Outcome A) → Place → List ℕ → Outcome (Scalar × A)
+entry_at value place l = if is_entry l then value place (value_part l) >>= with_key (string (key_part l)) else not_built place
 
 -- The pairs of the lines from line n on, behind lines with these keys: each line by itself, and the first refused line decides.
 abbrev pub pairs_in : (Place → List ℕ → Outcome Tree) → ℕ → List Scalar → ℕ → List (List ℕ) → Outcome Pairs

@@ -102,6 +102,33 @@ value_of float_form t = Err kind.FloatScalar
 value_of word_form t = Ok (string t)
 value_of string_form t = Ok (string t)
 
+-- what a program asks a plain scalar for: its form, without its value; hexadecimal digits behind `0x` are a kind of their own
+pub data PlainKind : Type 0 where
+  null_kind : PlainKind
+  bool_kind : PlainKind
+  integer_kind : PlainKind
+  octal_kind : PlainKind
+  bad_octal_kind : PlainKind
+  hex_kind : PlainKind
+  float_kind : PlainKind
+  word_kind : PlainKind
+  string_kind : PlainKind
+
+abbrev pub kind_of : Form → PlainKind
+kind_of null_form = null_kind
+kind_of (bool_form b) = bool_kind
+kind_of octal_form = octal_kind
+kind_of bad_octal_form = bad_octal_kind
+kind_of integer_form = integer_kind
+kind_of (prefixed_form base) = if base == 16 then hex_kind else octal_kind
+kind_of float_form = float_kind
+kind_of word_form = word_kind
+kind_of string_form = string_kind
+
+-- the kind of a plain scalar
+abbrev pub plain_kind : List ℕ → PlainKind
+plain_kind t = kind_of (form t)
+
 -- the value of a plain scalar, or why it has none
 unfoldable pub plain : List ℕ → Result Scalar FaultKind
 plain t = value_of (form t) t

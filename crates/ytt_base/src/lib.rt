@@ -4,7 +4,5 @@
 pub mod fault;
 pub mod line;
 pub mod report;
-#[cfg(test)]
-mod tests;
 pub mod text;
 pub mod tree;

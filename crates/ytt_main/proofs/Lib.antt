@@ -1,4 +1,6 @@
-pub mod Causes
+pub mod Chains
+pub mod Lines
 pub mod Names
-pub mod ReadBack
+pub mod Numbers
 pub mod Refusals
+pub mod Texts

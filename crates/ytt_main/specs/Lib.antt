@@ -1,4 +1,6 @@
 pub mod Answers
 pub mod Asks
+pub mod Endings
+pub mod Found
 pub mod Headline
 pub mod Rendering

@@ -10,12 +10,12 @@ use Rattle.ytt_outside.specs.Standing.{Standing, nothing, file, folder}
 use Rattle.ytt_main.specs.declared.render.RenderStop.{RenderStop}
 use Rattle.ytt_main.specs.declared.render.RenderStop.TheVariants as stop
 
--- what was answered is what is meant, unless the files failed or there was no room
-abbrev pub Means : Outcome Trees → Result (List Tree) RenderStop → Type 0
-Means meant (Ok trees) = meant ≡ Ok (trees_of trees)
-Means meant (Err (stop.Fault f)) = meant ≡ Err f
-Means meant (Err (stop.ReadFailed path)) = Unit {0}
-Means meant (Err stop.Memory) = Unit {0}
+-- What was answered is an outcome of which this holds, unless the files failed or there was no room.
+abbrev pub Renders : (Outcome Trees → Type 0) → Result (List Tree) RenderStop → Type 0
+Renders IsOutcome (Ok trees) = IsOutcome (Ok (trees_of trees))
+Renders IsOutcome (Err (stop.Fault f)) = IsOutcome (Err f)
+Renders IsOutcome (Err (stop.ReadFailed path)) = Unit {0}
+Renders IsOutcome (Err stop.Memory) = Unit {0}
 
 -- the files' count rose where they failed, at this path, and else stands as it was
 abbrev pub Counts : List ℕ → ℕ → ℕ → Result (List Tree) RenderStop → Type 0
@@ -23,6 +23,11 @@ Counts path before now (Ok trees) = now ≡ before
 Counts path before now (Err (stop.Fault f)) = now ≡ before
 Counts path before now (Err (stop.ReadFailed at)) = Rose before now × (at ≡ path)
 Counts path before now (Err stop.Memory) = Unit {0}
+
+-- the files didn't fail
+abbrev pub IsNoFailure : Result (List Tree) RenderStop → Type 0
+IsNoFailure (Err (stop.ReadFailed path)) = ⊥
+IsNoFailure _ = Unit {0}
 
 -- a refusal by this fault, unless there was no room
 abbrev pub Refuses : Fault → RenderStop → Type 0

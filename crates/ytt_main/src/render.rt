@@ -1,10 +1,16 @@
 // What a request means over the files that are handed in.
-ghost use Rattle.std.specs.Prelude.{◌≡◌, IfSome, true};
-ghost use Rattle.ytt_spec.specs.Meaning.{has_ending, is_template, last_part, meaning, not_built, path_fault};
-ghost use Rattle.ytt_main.specs.Rendering.{Counts, IsNoFolder, IsReadFailure, Means, Refuses};
+ghost use Rattle.std.specs.Prelude.{◌≡◌, ◌^◌, ◌<◌, IfOk, IfSome, length, true};
+ghost use Rattle.ytt_base.specs.Outcomes.{Gives, and_then};
+ghost use Rattle.ytt_base.specs.View.{trees_of};
+ghost use Rattle.yaml_spec.specs.FlatNoted.{noted_documents};
+ghost use Rattle.yaml_spec.specs.FirstReadsBack.{AreFlat};
+ghost use Rattle.star_spec.specs.Reading.{IsReader, Reader};
+ghost use Rattle.template_spec.specs.Placing.{placed};
+ghost use Rattle.ytt_spec.specs.Meaning.{Means, TextMeans, built, has_ending, is_template, last_part, not_built, path_fault, text_meaning};
+ghost use Rattle.ytt_main.specs.Rendering.{Counts, IsNoFailure, IsNoFolder, IsReadFailure, Refuses, Renders};
 
 use std::alloc::Global;
-use yaml_read::read_plain;
+use yaml_read::{has_code, read_plain};
 use ytt_base::fault::{Fault, FaultKind, Place, Stop};
 use ytt_base::text::Text;
 use ytt_base::tree::Trees;
@@ -72,9 +78,47 @@ fn read_failed(alloc: Global, path: &str) -> RenderStop
     }
 }
 
-/// The documents of the one file at the path, or the first fault.
-pub fn render<F: Files>(alloc: Global, path: &str, files: &mut F) -> Result<Trees, RenderStop>
-    ensures told { IfSome (F.tree files.old) (λ tree. Means (meaning path.now (tree path.now)) result) }
+/// The documents that a template builds with so many steps, or its first fault.
+fn build(alloc: Global, bytes: &[u8], steps: u64) -> Result<Trees, Stop>
+    requires { length bytes.now < 2 ^ 32 }
+    ensures { (r : Reader) → IsReader r → Gives trees_of result (and_then (built steps) (and_then (placed r 1) (noted_documents 1 bytes.now))) }
+{
+    Err(Stop::Memory)
+}
+
+/// The documents of a text, or its first fault.
+fn read_text(alloc: Global, bytes: &[u8], steps: u64) -> Result<Trees, Stop>
+    requires { length bytes.now < 2 ^ 32 }
+    ensures { (r : Reader) → IsReader r → Gives trees_of result (text_meaning r steps bytes.now) }
+{
+    if has_code(bytes) {
+        return build(alloc, bytes, steps);
+    }
+    read_plain(alloc, bytes, 1)
+}
+
+fn read_documents(alloc: Global, bytes: &[u8], steps: u64) -> Result<Trees, RenderStop>
+    requires { length bytes.now < 2 ^ 32 }
+    ensures documents { Renders (TextMeans steps bytes.now) result }
+    ensures flat { IfOk result (λ trees. AreFlat (trees_of trees)) }
+    ensures none_failed { IsNoFailure result }
+{
+    match read_text(alloc, bytes, steps) {
+        Ok(trees) => Ok(trees),
+        Err(Stop::Fault(fault)) => Err(RenderStop::Fault(fault)),
+        Err(Stop::Memory) => Err(RenderStop::Memory),
+    }
+}
+
+/// The documents of the one file at the path with a budget of steps, or the first fault.
+pub fn render<F: Files>(
+    alloc: Global,
+    path: &str,
+    steps: u64,
+    files: &mut F,
+) -> Result<Trees, RenderStop>
+    ensures told { IfSome (F.tree files.old) (λ tree. Renders (Means path.now steps (tree path.now)) result) }
+    ensures flat { IfOk result (λ trees. AreFlat (trees_of trees)) }
     ensures keeps { F.tree files.new ≡ F.tree files.old }
     ensures cause { Counts path.now (F.faults files.old) (F.faults files.new) result }
 {
@@ -88,13 +132,19 @@ pub fn render<F: Files>(alloc: Global, path: &str, files: &mut F) -> Result<Tree
     if !is_template(last_part(path).as_bytes()) {
         return Err(not_built(alloc));
     }
-    read_file(alloc, path, files)
+    read_file(alloc, path, steps, files)
 }
 
 /// The documents of the template file at the path, or the first fault.
-fn read_file<F: Files>(alloc: Global, path: &str, files: &mut F) -> Result<Trees, RenderStop>
+fn read_file<F: Files>(
+    alloc: Global,
+    path: &str,
+    steps: u64,
+    files: &mut F,
+) -> Result<Trees, RenderStop>
     requires { is_template (last_part path.now) ≡ true }
-    ensures told { IfSome (F.tree files.old) (λ tree. IsNoFolder (tree path.now) → Means (meaning path.now (tree path.now)) result) }
+    ensures told { IfSome (F.tree files.old) (λ tree. IsNoFolder (tree path.now) → Renders (Means path.now steps (tree path.now)) result) }
+    ensures flat { IfOk result (λ trees. AreFlat (trees_of trees)) }
     ensures keeps { F.tree files.new ≡ F.tree files.old }
     ensures cause { Counts path.now (F.faults files.old) (F.faults files.new) result }
 {
@@ -103,10 +153,6 @@ fn read_file<F: Files>(alloc: Global, path: &str, files: &mut F) -> Result<Trees
         Err(FilesStop::Memory) => Err(RenderStop::Memory),
         Ok(Got::Missing) => Err(path_fault(alloc, FaultKind::FileMissing, path)),
         Ok(Got::TooLarge) => Err(path_fault(alloc, FaultKind::FileTooLarge, path)),
-        Ok(Got::Bytes(bytes)) => match read_plain(alloc, bytes.as_slice(), 1) {
-            Ok(trees) => Ok(trees),
-            Err(Stop::Fault(fault)) => Err(RenderStop::Fault(fault)),
-            Err(Stop::Memory) => Err(RenderStop::Memory),
-        },
+        Ok(Got::Bytes(bytes)) => read_documents(alloc, bytes.as_slice(), steps),
     }
 }

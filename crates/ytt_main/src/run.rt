@@ -1,8 +1,10 @@
 // The run of the program.
-ghost use Rattle.std.specs.Prelude.{◌≡◌, ◌≢◌, ◌⊎◌, IfSome, map, string_bytes};
-ghost use Rattle.ytt_outside.specs.Counts.{NoneRose, Rose};
+ghost use Rattle.std.specs.Prelude.{◌≡◌, ◌≢◌, IfSome, map, string_bytes};
+ghost use Rattle.ytt_outside.specs.Counts.{NoneRose};
+ghost use Rattle.star_spec.specs.Reading.{IsReader, Reader};
 ghost use Rattle.ytt_spec.specs.Due.{due};
-ghost use Rattle.ytt_main.specs.Headline.{IsReadBack, IsReadFault, IsUsage, IsWhole, Meets};
+ghost use Rattle.ytt_main.specs.Endings.{IsDone, IsFault, IsMemory, IsReadFault, IsUsage, IsWriteFault, sink};
+ghost use Rattle.ytt_main.specs.Headline.{IsWhole, Meets};
 
 use crate::answer::{Answer, answer_words};
 use std::alloc::Global;
@@ -50,21 +52,25 @@ pub fn ytt_main<F: Files, O: Sink, E: Sink>(
     err: &mut E,
 ) -> Status
     // Where nothing failed and there was room, the status and all bytes are those that are due.
-    ensures headline { IfSome (F.tree files.old) (λ tree. NoneRose (F.faults files.old) (F.faults files.new) → NoneRose (O.faults out.old) (O.faults out.new)
+    ensures headline { (r : Reader) → IsReader r → IfSome (F.tree files.old) (λ tree. NoneRose (F.faults files.old) (F.faults files.new) → NoneRose (O.faults out.old) (O.faults out.new)
         → NoneRose (E.faults err.old) (E.faults err.new) → result ≢ Status.Memory
-        → Meets (due (map string_bytes words.now) tree) result (O.held out.old) (O.held out.new) (E.held err.old) (E.held err.new)) }
-    // What `out` then holds more reads back as the documents that are meant, and as no others.
-    ensures reads_back { result ≡ Status.Done → IfSome (F.tree files.old) (λ tree. IsReadBack (map string_bytes words.now) tree (O.held out.old) (O.held out.new)) }
-    // Only documents are written to `out`.
+        → Meets (due r (map string_bytes words.now) tree) result (O.held out.old) (O.held out.new) (E.held err.old) (E.held err.new)) }
+    // Each ending has its cause and shows it, also where contents aren't told.
+    ensures done { result ≡ Status.Done → IsDone (map string_bytes words.now) (F.tree files.old) (F.faults files.old) (F.faults files.new)
+        (sink (O.held out.old) (O.held out.new) (O.faults out.old) (O.faults out.new)) (sink (E.held err.old) (E.held err.new) (E.faults err.old) (E.faults err.new)) }
+    ensures fault { result ≡ Status.Fault → IsFault (map string_bytes words.now) (F.tree files.old) (F.faults files.old) (F.faults files.new)
+        (sink (O.held out.old) (O.held out.new) (O.faults out.old) (O.faults out.new)) (sink (E.held err.old) (E.held err.new) (E.faults err.old) (E.faults err.new)) }
+    ensures usage { result ≡ Status.Usage → IsUsage (map string_bytes words.now) (F.faults files.old) (F.faults files.new)
+        (sink (O.held out.old) (O.held out.new) (O.faults out.old) (O.faults out.new)) (sink (E.held err.old) (E.held err.new) (E.faults err.old) (E.faults err.new)) }
+    ensures read_fault { result ≡ Status.ReadFault → IsReadFault (map string_bytes words.now) (F.faults files.old) (F.faults files.new)
+        (sink (O.held out.old) (O.held out.new) (O.faults out.old) (O.faults out.new)) (sink (E.held err.old) (E.held err.new) (E.faults err.old) (E.faults err.new)) }
+    ensures write_fault { result ≡ Status.WriteFault → IsWriteFault (map string_bytes words.now) (F.tree files.old) (F.faults files.old) (F.faults files.new)
+        (sink (O.held out.old) (O.held out.new) (O.faults out.old) (O.faults out.new)) (sink (E.held err.old) (E.held err.new) (E.faults err.old) (E.faults err.new)) }
+    ensures memory { result ≡ Status.Memory → IsMemory
+        (sink (O.held out.old) (O.held out.new) (O.faults out.old) (O.faults out.new)) (sink (E.held err.old) (E.held err.new) (E.faults err.old) (E.faults err.new)) }
+
+    // So only documents are written to `out`, and no failure is passed over.
     ensures out_unchanged { result ≢ Status.Done → result ≢ Status.WriteFault → O.held out.new ≡ O.held out.old }
-
-    // Each other answer has its cause, also where contents aren't told.
-    ensures usage_cause { result ≡ Status.Usage → IsUsage (map string_bytes words.now) (E.held err.old) (E.held err.new) }
-    ensures read_cause { result ≡ Status.ReadFault → Rose (F.faults files.old) (F.faults files.new) }
-    ensures read_shown { result ≡ Status.ReadFault → IsReadFault (map string_bytes words.now) (E.held err.old) (E.held err.new) }
-    ensures write_cause { result ≡ Status.WriteFault → Rose (O.faults out.old) (O.faults out.new) ⊎ Rose (E.faults err.old) (E.faults err.new) }
-
-    // No failure is passed over.
     ensures files_whole { IsWhole result → F.faults files.new ≡ F.faults files.old }
     ensures out_whole { result ≡ Status.Done → O.faults out.new ≡ O.faults out.old }
 {

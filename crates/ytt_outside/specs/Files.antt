@@ -1,5 +1,5 @@
 -- What the calls of `Files` answer.
-use Rattle.std.specs.Prelude.{◌≡◌, ◌≤◌, ℕ, Bool, true, false, nat_lt, length, Result, Ok, Err, if◌then◌else◌}
+use Rattle.std.specs.Prelude.{◌≡◌, ◌≤◌, ℕ, Bool, true, false, nat_lt, List, [], length, Result, Ok, Err, if◌then◌else◌}
 use Rattle.ytt_outside.specs.Counts.{Rose, raised}
 use Rattle.ytt_outside.specs.Standing.{Standing, nothing, file, folder}
 use Rattle.ytt_outside.specs.declared.files.PathKind.{PathKind}
@@ -19,6 +19,12 @@ abbrev pub got_of : ℕ → Standing → Got
 got_of limit nothing = got.Missing
 got_of limit (file bytes) = if nat_lt limit (length bytes) then got.TooLarge else got.Bytes bytes
 got_of limit (folder names) = got.Missing
+
+-- what listing gives: what is no folder has no names
+abbrev pub names_of : Standing → List (List ℕ)
+names_of nothing = []
+names_of (file bytes) = []
+names_of (folder names) = names
 
 -- Failed comes only where the count rose, and any other answer leaves it as it was.
 abbrev pub FilesCounts : {T : Type 0} → ℕ → ℕ → Result T FilesStop → Type 0

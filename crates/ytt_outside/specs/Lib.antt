@@ -4,6 +4,7 @@ pub mod HostFiles
 pub mod HostSink
 pub mod MemFiles
 pub mod MemSink
+pub mod Names
 pub mod Sink
 pub mod SinkSteps
 pub mod Standing

@@ -1,10 +1,7 @@
 -- What a `MemFiles` keeps, and what stands at a path of it.
 use Rattle.std.specs.Prelude.{ℕ, ◌+◌, Bool, true, false, ◌||◌, ◌&&◌, not, ◌==◌, nat_eq, List, [], ◌∷◌, length, drop, slice_index, bytes_eq, Option, Some, None, if◌then◌else◌}
-use Rattle.std.specs.Cmp.Lexicographic.{slice_cmp}
 use Rattle.std.specs.List.{starts_with, before_first}
-use Rattle.std.specs.Ordering.{nat_cmp}
-use Rattle.std.specs.declared.cmp.Ordering.{Ordering}
-use Rattle.std.specs.declared.cmp.Ordering.TheVariants.{Less, Equal, Greater}
+use Rattle.ytt_outside.specs.Names.{with_name}
 use Rattle.ytt_outside.specs.Standing.{Standing, nothing, file, folder}
 use Rattle.ytt_outside.specs.declared.mem_files.MemFiles.{MemFiles}
 
@@ -46,20 +43,10 @@ is_slash b = b == slash
 abbrev pub name_below : List ℕ → List ℕ → List ℕ
 name_below above path = before_first is_slash (drop (length above + 1) path)
 
-abbrev pub inserted_by : Ordering → List ℕ → List ℕ → List (List ℕ) → List (List ℕ) → List (List ℕ)
-inserted_by Less name first rest more = name ∷ first ∷ rest
-inserted_by Equal name first rest more = first ∷ rest
-inserted_by Greater name first rest more = first ∷ more
-
--- the name in its place among names in the order of their bytes, each once
-abbrev pub insert_name : List ℕ → List (List ℕ) → List (List ℕ)
-insert_name name [] = name ∷ []
-insert_name name (n ∷ ns) = inserted_by (slice_cmp nat_cmp name n) name n ns (insert_name name ns)
-
--- the names in the folder
+-- the names in the folder, in the order of their bytes
 abbrev pub names_below : List ℕ → List Entry → List (List ℕ)
 names_below above [] = []
-names_below above (e ∷ es) = if is_below above e.0 then insert_name (name_below above e.0) (names_below above es) else names_below above es
+names_below above (e ∷ es) = if is_below above e.0 then with_name (names_below above es) (name_below above e.0) else names_below above es
 
 -- a folder is every path before a slash of an added path
 abbrev pub folder_or_nothing : List (List ℕ) → Standing

@@ -1,11 +1,13 @@
 ghost use Rattle.std.specs.Prelude.{◌≡◌, ◌≢◌, ℕ, List, Err, IfOk, IfSome};
 ghost use Rattle.std.specs.declared.option.Option.{Option};
-ghost use Rattle.ytt_outside.specs.Files.{FilesCounts, IsWithin, got_of, kind_of};
+ghost use Rattle.ytt_outside.specs.Files.{FilesCounts, IsWithin, got_of, kind_of, names_of};
+ghost use Rattle.ytt_outside.specs.Names.{AreSorted};
 ghost use Rattle.ytt_outside.specs.Standing.{Standing};
 
 use sqlite_items::Items;
 use std::alloc::Global;
 use thiserror::Error;
+use ytt_base::text::Names;
 
 /// The bytes of a file.
 pub type Bytes = Items<u8>;
@@ -55,6 +57,14 @@ pub trait Files {
         ensures keeps { tree self.new ≡ tree self.old }
         ensures cause { FilesCounts (faults self.old) (faults self.new) result }
         ensures takes_no_memory { result ≢ Err FilesStop.Memory };
+
+    /// The names in the folder at the path, each below the next one by its bytes. What is no folder
+    /// has no names.
+    fn list(&mut self, alloc: Global, path: &str) -> Result<Names, FilesStop>
+        ensures told { IfOk result (λ names. IfSome (tree self.old) (λ t. names ≡ names_of (t path.now))) }
+        ensures sorted { IfOk result AreSorted }
+        ensures keeps { tree self.new ≡ tree self.old }
+        ensures cause { FilesCounts (faults self.old) (faults self.new) result };
 
     /// The bytes of the file at the path, where they are at most `limit`.
     fn read(&mut self, alloc: Global, path: &str, limit: u64) -> Result<Got, FilesStop>

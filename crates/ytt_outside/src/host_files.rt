@@ -2,17 +2,21 @@
 ghost use Rattle.std.specs.Prelude.{◌≡◌, ◌≢◌, Err, IfOk, None};
 ghost use Rattle.ytt_outside.specs.Files.{FilesCounts, IsWithin, count_after};
 ghost use Rattle.ytt_outside.specs.HostFiles.{faults_in};
+ghost use Rattle.ytt_outside.specs.Names.{AreSorted};
 
 use crate::files::{Files, FilesStop, Got, PathKind};
+use crate::names::texts_of;
 use sqlite_items::Items;
 use std::alloc::Global;
+use std::collections::BTreeSet;
 use std::fs;
 use std::io::{self, ErrorKind, Read};
+use ytt_base::text::Names;
 
 /// The files that the runtime gives. It tells nothing of them.
 ///
-/// Each `Err` of the machine counts as a failure, but for a path at which nothing stands and for
-/// want of memory.
+/// Each `Err` of the machine counts as a failure, but for a path at which nothing stands, or no
+/// folder, and for want of memory. A name that isn't UTF-8 is such an `Err`.
 #[derive(Drop)]
 pub struct HostFiles<R> {
     rt: R,
@@ -25,6 +29,17 @@ impl<R> HostFiles<R> {
         ensures { faults_in result ≡ 0 }
     {
         HostFiles { rt, faults: 0 }
+    }
+
+    /// What an error of the machine is, which it counts where it is a failure.
+    fn stop(&mut self, error: &io::Error) -> FilesStop
+        ensures { faults_in self.new ≡ count_after {T = Unit {0}} (Err result) (faults_in self.old) }
+    {
+        if error.kind() == ErrorKind::OutOfMemory {
+            return FilesStop::Memory;
+        }
+        self.faults = self.faults.saturating_add(1);
+        FilesStop::Failed
     }
 }
 
@@ -46,7 +61,22 @@ fn read_start<R: std::rt::Files>(
     Ok(bytes)
 }
 
-impl<R: std::rt::Files> Files for HostFiles<R> {
+/// The names in the folder. The standard library leaves out `.` and `..`, and refuses a name that
+/// isn't UTF-8.
+fn read_names<R: std::rt::Files + Alloc + Clone + Drop>(
+    alloc: Global,
+    rt: &R,
+    path: &str,
+) -> io::Result<BTreeSet<String>> {
+    let mut names = BTreeSet::new(alloc);
+    for entry in fs::read_dir(rt, path)? {
+        let entry = entry?;
+        names.insert(String::from_str(alloc, entry.file_name())?)?;
+    }
+    Ok(names)
+}
+
+impl<R: std::rt::Files + Alloc + Clone + Drop> Files for HostFiles<R> {
     ghost tree = { λ _. None };
 
     ghost faults = { faults_in };
@@ -73,6 +103,25 @@ impl<R: std::rt::Files> Files for HostFiles<R> {
         }
     }
 
+    fn list(&mut self, alloc: Global, path: &str) -> Result<Names, FilesStop>
+        ensures sorted { IfOk result AreSorted }
+        ensures cause { FilesCounts (faults_in self.old) (faults_in self.new) result }
+        ensures counts { faults_in self.new ≡ count_after result (faults_in self.old) }
+    {
+        match read_names(alloc, &self.rt, path) {
+            Ok(names) => match texts_of(alloc, names) {
+                Ok(names) => Ok(names),
+                Err(_) => Err(FilesStop::Memory),
+            },
+            Err(error) => {
+                if is_missing(&error) {
+                    return Ok(Items::new(alloc));
+                }
+                Err(self.stop(&error))
+            }
+        }
+    }
+
     fn read(&mut self, alloc: Global, path: &str, limit: u64) -> Result<Got, FilesStop>
         ensures bound { IfOk result (λ got. IsWithin limit got) }
         ensures cause { FilesCounts (faults_in self.old) (faults_in self.new) result }
@@ -89,11 +138,7 @@ impl<R: std::rt::Files> Files for HostFiles<R> {
                 if is_missing(&error) {
                     return Ok(Got::Missing);
                 }
-                if error.kind() == ErrorKind::OutOfMemory {
-                    return Err(FilesStop::Memory);
-                }
-                self.faults = self.faults.saturating_add(1);
-                Err(FilesStop::Failed)
+                Err(self.stop(&error))
             }
         }
     }

@@ -6,6 +6,5 @@ pub mod host_files;
 pub mod host_sink;
 pub mod mem_files;
 pub mod mem_sink;
+mod names;
 pub mod sink;
-#[cfg(test)]
-mod tests;

@@ -1,16 +1,20 @@
 // Files in memory.
-ghost use Rattle.std.specs.Prelude.{◌≡◌, ◌≢◌, ◌↔◌, [], ◌∷◌, ◌++◌, IfOk, IfSome, IsTrue, List, OnErr, OnOk, Err, IsErrOf, IfErr, Some, is_err, false, true, if◌then◌else◌};
+ghost use Rattle.std.specs.Prelude.{◌≡◌, ◌≢◌, ◌↔◌, [], ◌∷◌, ◌++◌, IfOk, IfSome, IsTrue, List, OnErr, OnOk, Err, IsErrOf, IfErr, Some, is_err, false, map, string_bytes, true, if◌then◌else◌};
+ghost use Rattle.std.specs.BTreeSet.{keys};
 ghost use Rattle.std.specs.List.{list_any};
 ghost use Rattle.std.specs.Option.{option_map};
 ghost use Rattle.ytt_outside.specs.Counts.{raised};
-ghost use Rattle.ytt_outside.specs.Files.{FilesCounts, IsWithin, count_after, got_of, has_bytes, kind_of};
+ghost use Rattle.ytt_outside.specs.Files.{FilesCounts, IsWithin, count_after, got_of, has_bytes, kind_of, names_of};
+ghost use Rattle.ytt_outside.specs.MemFiles.{bytes_at, calls_in, entries_in, fails_in, faults_in, is_below, is_free, is_listed, name_below, names_below, standing_in};
+ghost use Rattle.ytt_outside.specs.Names.{AreSorted};
 ghost use Rattle.ytt_outside.specs.Standing.{file};
-ghost use Rattle.ytt_outside.specs.MemFiles.{bytes_at, calls_in, entries_in, fails_in, faults_in, is_below, is_free, is_listed, standing_in};
 
 use crate::files::{Bytes, Files, FilesStop, Got, PathKind};
+use crate::names::texts_of;
 use sqlite_items::Items;
-use std::alloc::Global;
-use ytt_base::text::{Memory, Text};
+use std::alloc::{AllocError, Global};
+use std::collections::BTreeSet;
+use ytt_base::text::{Memory, Names, Text};
 
 /// Numbers of calls.
 pub type Numbers = Items<u64>;
@@ -18,8 +22,8 @@ pub type Numbers = Items<u64>;
 /// Files in memory. It tells its tree: the files that were added, and as a folder every path before
 /// a `/` of one of them.
 ///
-/// A call of `kind` or `read` fails exactly where its number is listed. They are counted together,
-/// from 1.
+/// A call of `kind`, `list` or `read` fails exactly where its number is listed. They are counted
+/// together, from 1.
 #[derive(Drop)]
 pub struct MemFiles {
     entries: Items<(Text, Bytes)>,
@@ -129,6 +133,48 @@ fn kind_at(entries: &[(Text, Bytes)], path: &str) -> PathKind
     PathKind::Missing
 }
 
+/// The name under which a path stands in the folder that it lies below.
+fn name_below<'a>(folder: &str, path: &'a str) -> &'a str
+    requires { is_below folder.now path.now ≡ true }
+    ensures { result.now ≡ name_below folder.now path.now }
+{
+    let rest = &path[folder.len() + 1..];
+    match rest.split_once('/') {
+        None => rest,
+        Some((name, _)) => name,
+    }
+}
+
+/// The names in the folder, each once.
+fn names_below(
+    alloc: Global,
+    entries: &[(Text, Bytes)],
+    folder: &str,
+) -> Result<BTreeSet<String>, AllocError>
+    ensures { IfOk result (λ names. map string_bytes (keys names) ≡ names_below folder.now entries.now) }
+{
+    let mut names = BTreeSet::new(alloc);
+    let mut left = entries.len();
+    while left > 0 {
+        left -= 1;
+        let path = entries[left].0.as_str();
+        if is_below(folder.as_bytes(), path.as_bytes()) {
+            names.insert(String::from_str(alloc, name_below(folder, path))?)?;
+        }
+    }
+    Ok(names)
+}
+
+fn names_at(alloc: Global, entries: &[(Text, Bytes)], path: &str) -> Result<Names, Memory>
+    ensures told { IfOk result (λ names. names ≡ names_of (standing_in entries.now path.now)) }
+    ensures sorted { IfOk result AreSorted }
+{
+    if bytes_at(entries, path).is_some() {
+        return Ok(Items::new(alloc));
+    }
+    texts_of(alloc, names_below(alloc, entries, path)?)
+}
+
 impl Files for MemFiles {
     ghost tree = { λ m. Some (standing_in (entries_in m)) };
 
@@ -148,6 +194,25 @@ impl Files for MemFiles {
             return Err(FilesStop::Failed);
         }
         Ok(kind_at(self.entries.as_slice(), path))
+    }
+
+    fn list(&mut self, alloc: Global, path: &str) -> Result<Names, FilesStop>
+        ensures told { IfOk result (λ names. names ≡ names_of (standing_in (entries_in self.old) path.now)) }
+        ensures sorted { IfOk result AreSorted }
+        ensures keeps { entries_in self.new ≡ entries_in self.old }
+        ensures cause { FilesCounts (faults_in self.old) (faults_in self.new) result }
+        ensures counts { faults_in self.new ≡ count_after result (faults_in self.old) }
+        ensures listed { IsErrOf result FilesStop.Failed ↔ IsTrue (is_listed (fails_in self.old) (raised (calls_in self.old))) }
+        ensures calls { calls_in self.new ≡ raised (calls_in self.old) }
+        ensures fails { fails_in self.new ≡ fails_in self.old }
+    {
+        if self.is_failing() {
+            return Err(FilesStop::Failed);
+        }
+        match names_at(alloc, self.entries.as_slice(), path) {
+            Ok(names) => Ok(names),
+            Err(_) => Err(FilesStop::Memory),
+        }
     }
 
     fn read(&mut self, alloc: Global, path: &str, limit: u64) -> Result<Got, FilesStop>

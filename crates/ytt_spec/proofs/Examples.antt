@@ -1,66 +1,115 @@
 -- What the definitions give for some command lines, by computing.
-use Rattle.std.proofs.Common.{◌≡◌, ℕ, List, [], ◌∷◌, refl, codes}
+use Rattle.std.proofs.Common.{◌≡◌, ℕ, List, [], ◌∷◌, Ok, refl, codes, pos}
 use Rattle.std.specs.Fmt.{digits}
-use Rattle.std.specs.Str.{chars}
+use Rattle.std.specs.Str.{chars, is_utf8}
 use lib.Utf8.{encode}
 use Rattle.yaml_spec.specs.Scalars.{form}
+use Rattle.star_spec.specs.Code.{Expr, binary, floor_division, int}
+use Rattle.star_spec.specs.Reading.{Reader}
+use Rattle.ytt_base.specs.Outcomes.{place_at}
 use Rattle.ytt_outside.specs.Standing.{Standing, nothing, file, folder}
 use Rattle.ytt_spec.specs.Due.{Due, done, fault, usage, due}
 
 -- one thing stands at every path
-abbrev due_over : Standing → List (List ℕ) → Due
-due_over standing words = due words (λ path. standing)
+abbrev due_over : Reader → Standing → List (List ℕ) → Due
+due_over r standing words = due r words (λ path. standing)
 
-abbrev due_of : List ℕ → Due
-due_of text = due_over (file text) (codes "render" ∷ codes "-f" ∷ codes "a.yml" ∷ [])
+abbrev due_of : Reader → List ℕ → Due
+due_of r text = due_over r (file text) (codes "render" ∷ codes "-f" ∷ codes "a.yml" ∷ [])
 
-prints_itself : due_of (codes "name: web\nport: 80\n") ≡ done (codes "name: web\nport: 80\n")
+prints_itself : (r : Reader) → due_of r (codes "name: web\nport: 80\n") ≡ done (codes "name: web\nport: 80\n")
 unfolding digits form
-prints_itself = refl
+prints_itself r = refl
 
-reads_quoted : due_of (codes "a: \"1\"\nb: \"yes\"\nc: \"\"\n") ≡ done (codes "a: \"1\"\nb: \"yes\"\nc: \"\"\n")
+reads_quoted : (r : Reader) → due_of r (codes "a: \"1\"\nb: \"yes\"\nc: \"\"\n") ≡ done (codes "a: \"1\"\nb: \"yes\"\nc: \"\"\n")
 unfolding chars encode form
-reads_quoted = refl
+reads_quoted r = refl
 
-refuses_float : due_of (codes "v: 1.5\n") ≡ fault (codes "error: FloatScalar at a.yml:1\n")
+refuses_float : (r : Reader) → due_of r (codes "v: 1.5\n") ≡ fault (codes "error: FloatScalar at a.yml:1\n")
 unfolding digits
-refuses_float = refl
+refuses_float r = refl
 
-empty_file : due_of [] ≡ done []
-empty_file = refl
+empty_file : (r : Reader) → due_of r [] ≡ done []
+empty_file r = refl
 
-refuses_list : due_of (codes "a: 1\nb: [1]\n") ≡ fault (codes "error: NotBuilt at a.yml:2\n")
+refuses_list : (r : Reader) → due_of r (codes "a: 1\nb: [1]\n") ≡ fault (codes "error: NotBuilt at a.yml:2\n")
 unfolding digits
-refuses_list = refl
+refuses_list r = refl
 
-missing_file : due_over nothing (codes "render" ∷ codes "-f" ∷ codes "lib/a.yml" ∷ []) ≡ fault (codes "error: FileMissing: lib/a.yml\n")
-missing_file = refl
+missing_file : (r : Reader) → due_over r nothing (codes "render" ∷ codes "-f" ∷ codes "lib/a.yml" ∷ []) ≡ fault (codes "error: FileMissing: lib/a.yml\n")
+missing_file r = refl
 
-missing_comes_first : due_over nothing (codes "render" ∷ codes "-f" ∷ codes "a.txt" ∷ []) ≡ fault (codes "error: FileMissing: a.txt\n")
-missing_comes_first = refl
+missing_comes_first : (r : Reader) → due_over r nothing (codes "render" ∷ codes "-f" ∷ codes "a.txt" ∷ []) ≡ fault (codes "error: FileMissing: a.txt\n")
+missing_comes_first r = refl
 
-library_file : due_over (file []) (codes "render" ∷ codes "-f" ∷ codes "a.lib.yml" ∷ []) ≡ fault (codes "error: NotBuilt\n")
-library_file = refl
+library_file : (r : Reader) → due_over r (file []) (codes "render" ∷ codes "-f" ∷ codes "a.lib.yml" ∷ []) ≡ fault (codes "error: NotBuilt\n")
+library_file r = refl
 
-a_folder : due_over (folder []) (codes "render" ∷ codes "-f" ∷ codes "a.yml" ∷ []) ≡ fault (codes "error: NotBuilt\n")
-a_folder = refl
+a_folder : (r : Reader) → due_over r (folder []) (codes "render" ∷ codes "-f" ∷ codes "a.yml" ∷ []) ≡ fault (codes "error: NotBuilt\n")
+a_folder r = refl
 
-shown_by_last_part : due_over (file (codes "a")) (codes "render" ∷ codes "-f" ∷ codes "x/y/a.yaml" ∷ []) ≡ fault (codes "error: NotBuilt at a.yaml:1\n")
+shown_by_last_part : (r : Reader) → due_over r (file (codes "a")) (codes "render" ∷ codes "-f" ∷ codes "x/y/a.yaml" ∷ []) ≡ fault (codes "error: NotBuilt at a.yaml:1\n")
 unfolding digits
-shown_by_last_part = refl
+shown_by_last_part r = refl
 
-no_word : due_over nothing [] ≡ usage (codes "error: usage at word 1\n")
+no_word : (r : Reader) → due_over r nothing [] ≡ usage (codes "error: usage at word 1\n")
 unfolding digits
-no_word = refl
+no_word r = refl
 
-no_option : due_over nothing (codes "render" ∷ []) ≡ usage (codes "error: usage at word 2\n")
+no_option : (r : Reader) → due_over r nothing (codes "render" ∷ []) ≡ usage (codes "error: usage at word 2\n")
 unfolding digits
-no_option = refl
+no_option r = refl
 
-empty_path : due_over nothing (codes "render" ∷ codes "-f" ∷ [] ∷ codes "more" ∷ []) ≡ usage (codes "error: usage at word 3\n")
+empty_path : (r : Reader) → due_over r nothing (codes "render" ∷ codes "-f" ∷ [] ∷ codes "more" ∷ []) ≡ usage (codes "error: usage at word 3\n")
 unfolding digits
-empty_path = refl
+empty_path r = refl
 
-one_word_more : due_over nothing (codes "render" ∷ codes "-f" ∷ codes "a.yml" ∷ codes "b" ∷ []) ≡ usage (codes "error: usage at word 4\n")
+path_before_command : (r : Reader) → due_over r nothing (codes "-f" ∷ codes "a" ∷ codes "render" ∷ []) ≡ usage (codes "error: usage at word 3\n")
 unfolding digits
-one_word_more = refl
+path_before_command r = refl
+
+no_steps : (r : Reader) → due_over r nothing (codes "-f" ∷ codes "a.yml" ∷ codes "--steps" ∷ codes "0" ∷ []) ≡ usage (codes "error: usage at word 4\n")
+unfolding digits
+no_steps r = refl
+
+steps_twice : (r : Reader) → due_over r nothing (codes "--steps" ∷ codes "7" ∷ codes "-f" ∷ codes "a" ∷ codes "--steps" ∷ []) ≡ usage (codes "error: usage at word 5\n")
+unfolding digits
+steps_twice r = refl
+
+only_steps : (r : Reader) → due_over r nothing (codes "--steps" ∷ codes "20000000" ∷ []) ≡ usage (codes "error: usage at word 3\n")
+unfolding digits
+only_steps r = refl
+
+too_many_steps : (r : Reader) → due_over r nothing (codes "--steps" ∷ codes "20000001" ∷ []) ≡ usage (codes "error: usage at word 2\n")
+unfolding digits
+too_many_steps r = refl
+
+one_word_more : (r : Reader) → due_over r nothing (codes "render" ∷ codes "-f" ∷ codes "a.yml" ∷ codes "b" ∷ []) ≡ usage (codes "error: usage at word 4\n")
+unfolding digits
+one_word_more r = refl
+
+-- ---- templates, whose code is read as its expression
+
+abbrev steps_over : Reader → List ℕ → (steps : List ℕ) → Due
+steps_over r text steps = due_over r (file text) (codes "--steps" ∷ steps ∷ codes "-f" ∷ codes "a.yml" ∷ [])
+
+abbrev one : Expr
+one = int (place_at 1 1) (pos 1)
+
+three_steps : (r : Reader) → r.expr (place_at 1 1) (codes "1") ≡ Ok one → steps_over r (codes "a: #@ 1\n") (codes "3") ≡ done (codes "a: 1\n")
+unfolding digits chars encode is_utf8 form
+three_steps r read = rw read refl
+
+two_steps : (r : Reader) → r.expr (place_at 1 1) (codes "1") ≡ Ok one → steps_over r (codes "a: #@ 1\n") (codes "2") ≡ fault (codes "error: Steps at a.yml:1\n")
+unfolding digits chars encode is_utf8 form
+two_steps r read = rw read refl
+
+no_divisor : (r : Reader) → r.expr (place_at 1 2) (codes "1 // 0") ≡ Ok (binary (place_at 1 2) floor_division (int (place_at 1 2) (pos 1)) (int (place_at 1 2) (pos 0)))
+    → due_of r (codes "b: 1\na: #@ 1 // 0\n") ≡ fault (codes "error: DivideZero at a.yml:2\n")
+unfolding digits chars encode is_utf8 form
+no_divisor r read = rw read refl
+
+-- a file without code takes no steps
+plain_file : (r : Reader) → steps_over r (codes "a: 1\n") (codes "1") ≡ done (codes "a: 1\n")
+unfolding digits form
+plain_file r = refl

@@ -1,10 +1,11 @@
 -- What is due: the status, and the bytes for `out` and for `err`.
-use Rattle.std.specs.Prelude.{ℕ, List, [], ◌∷◌, ◌++◌, codes, decimal, Ok, Err}
+use Rattle.std.specs.Prelude.{◌≡◌, ℕ, List, [], ◌∷◌, ◌++◌, codes, decimal, Ok, Err}
 use Rattle.ytt_base.specs.FaultText.{fault_line}
 use Rattle.ytt_base.specs.Outcomes.{Outcome}
 use Rattle.ytt_base.specs.Trees.{Trees}
 use Rattle.ytt_outside.specs.Standing.{Standing}
-use Rattle.yaml_spec.specs.Text.{Text}
+use Rattle.yaml_spec.specs.FirstText.{Text}
+use Rattle.star_spec.specs.Reading.{IsReader, Reader}
 use Rattle.ytt_spec.specs.Meaning.{meaning, last_part}
 use Rattle.ytt_spec.specs.Words.{Asked, render, wrong, asked}
 
@@ -23,15 +24,22 @@ read_failed_line path = codes "error: read failed: " ++ path ++ 10 ∷ []
 abbrev pub write_failed_line : List ℕ
 write_failed_line = codes "error: write failed\n"
 
+abbrev pub out_of_memory_line : List ℕ
+out_of_memory_line = codes "error: out of memory\n"
+
 -- the file is shown by the last part of its path
 abbrev pub due_for : List ℕ → Outcome Trees → Due
 due_for path (Ok documents) = done (Text documents)
 due_for path (Err f) = fault (fault_line (last_part path ∷ []) f)
 
-abbrev pub due_asked : Asked → (List ℕ → Standing) → Due
-due_asked (wrong n) tree = usage (usage_line n)
-due_asked (render path) tree = due_for path (meaning path (tree path))
+abbrev pub due_asked : Reader → Asked → (List ℕ → Standing) → Due
+due_asked r (wrong n) tree = usage (usage_line n)
+due_asked r (render path steps) tree = due_for path (meaning r path steps (tree path))
 
--- what is due for these words over these files
-abbrev pub due : List (List ℕ) → (List ℕ → Standing) → Due
-due words tree = due_asked (asked words) tree
+-- what is due for these words over these files, where code is read so
+abbrev pub due : Reader → List (List ℕ) → (List ℕ → Standing) → Due
+due r words tree = due_asked r (asked words) tree
+
+-- this is due, whichever reader reads the code as it reads
+abbrev pub IsDue : List (List ℕ) → (List ℕ → Standing) → Due → Type 0
+IsDue words tree d = (r : Reader) → IsReader r → due r words tree ≡ d

@@ -1,13 +1,22 @@
 -- What a request means: documents, or a fault.
-use Rattle.std.specs.Prelude.{ℕ, nat_lt, nat_eq, ◌==◌, ◌||◌, ◌&&◌, not, Bool, List, [], ◌∷◌, length, codes, Err, if◌then◌else◌}
+use Rattle.std.specs.Prelude.{◌≡◌, ℕ, nat_lt, nat_eq, ◌==◌, ◌||◌, ◌&&◌, not, Bool, List, [], ◌∷◌, length, codes, Ok, Err, if◌then◌else◌}
 use Rattle.std.specs.List.{ends_with, list_any}
 use Rattle.ytt_base.specs.declared.fault.Fault.{Fault}
 use Rattle.ytt_base.specs.declared.fault.FaultKind.{FaultKind}
 use Rattle.ytt_base.specs.declared.fault.FaultKind.TheVariants as kind
-use Rattle.ytt_base.specs.Outcomes.{Outcome, fault_at, place_at}
+use Rattle.ytt_base.specs.Outcomes.{Outcome, ◌>>=◌, fault_at, place_at}
 use Rattle.ytt_base.specs.Trees.{Trees}
 use Rattle.ytt_outside.specs.Standing.{Standing, nothing, file, folder}
 use Rattle.yaml_spec.specs.Flat.{read_trees}
+use Rattle.yaml_spec.specs.FlatNoted.{is_plain_text, noted_documents}
+use Rattle.star_spec.specs.Calls.{no_natives}
+use Rattle.star_spec.specs.Eval.{starlark}
+use Rattle.star_spec.specs.Outcomes.{State, Ending, done, bad}
+use Rattle.star_spec.specs.Reading.{IsReader, Reader}
+use Rattle.star_spec.specs.Values.{Children}
+use Rattle.template_spec.specs.Meaning.{BuildFile, documents}
+use Rattle.template_spec.specs.Placing.{placed}
+use Rattle.template_spec.specs.Template.{Items}
 
 abbrev pub is_slash : ℕ → Bool
 is_slash b = b == 47
@@ -38,8 +47,41 @@ path_fault k path = record { kind = k; place = place_at 0 0; detail = path }
 abbrev pub not_built : Fault
 not_built = fault_at kind.NotBuilt (place_at 0 0)
 
--- What a path means, by what stands at it: the documents of a template file.
-abbrev pub meaning : List ℕ → Standing → Outcome Trees
-meaning path nothing = Err (path_fault kind.FileMissing path)
-meaning path (folder names) = Err not_built
-meaning path (file bytes) = if not (is_template (last_part path)) then Err not_built else if nat_lt largest_file (length bytes) then Err (path_fault kind.FileTooLarge path) else read_trees 1 bytes
+-- ---- what a template means
+
+-- how many calls of functions may stand in one another
+abbrev pub default_depth : ℕ
+default_depth = 100
+
+-- a run begins with these steps, and without any object
+abbrev pub started : (steps : ℕ) → State (Unit {0})
+started steps = record { store = []; steps = steps; host = tt }
+
+abbrev pub outcome_of : Ending (Unit {0}) Children → Outcome Trees
+outcome_of (done children s) = Ok (documents children)
+outcome_of (bad fault s) = Err fault
+
+-- the documents that a template builds with so many steps, or its first fault; no file is loaded beside it
+abbrev pub built : (steps : ℕ) → Items → Outcome Trees
+built steps template = outcome_of (BuildFile starlark no_natives (λ file. template) default_depth template (started steps))
+
+-- A text without code is its documents, which take no steps; a text with code is a template, which is built.
+abbrev pub text_meaning : Reader → (steps : ℕ) → List ℕ → Outcome Trees
+text_meaning r steps bytes = if is_plain_text bytes then read_trees 1 bytes else ((noted_documents 1 bytes >>= placed r 1) >>= built steps)
+
+-- What a path means, by what stands at it: the documents of a template file. The reader of code is a parameter: each that reads as code reads gives the same.
+abbrev pub meaning : Reader → (path : List ℕ) → (steps : ℕ) → Standing → Outcome Trees
+meaning r path steps nothing = Err (path_fault kind.FileMissing path)
+meaning r path steps (folder names) = Err not_built
+meaning r path steps (file bytes) =
+    if not (is_template (last_part path)) then Err not_built
+    else if nat_lt largest_file (length bytes) then Err (path_fault kind.FileTooLarge path)
+    else text_meaning r steps bytes
+
+-- it means this outcome, whichever reader reads the code as it reads
+abbrev pub Means : (path : List ℕ) → (steps : ℕ) → Standing → Outcome Trees → Type 0
+Means path steps standing outcome = (r : Reader) → IsReader r → meaning r path steps standing ≡ outcome
+
+-- so does a text
+abbrev pub TextMeans : (steps : ℕ) → List ℕ → Outcome Trees → Type 0
+TextMeans steps bytes outcome = (r : Reader) → IsReader r → text_meaning r steps bytes ≡ outcome

@@ -1,5 +1,5 @@
 use Rattle.std.proofs.Common.{◌∷◌, [], sym}
-use Rattle.yaml_spec.specs.Text.{spaces}
+use Rattle.yaml_spec.specs.FirstText.{spaces}
 use Rattle.yaml_print.specs.Indent.{width}
 use Rattle.yaml_print.proofs.Indents.{spaces-inside}
 use Rattle.yaml_print.proofs.Putting.{puts_then, puts_stop}

@@ -1,0 +1,7 @@
+//! The reader of code on whole texts.
+#![tactic(auto)]
+
+#[cfg(test)]
+mod rows;
+#[cfg(test)]
+mod shown;

@@ -1,0 +1,90 @@
+// Texts, keys, trees and the line of a fault.
+
+use crate::shown::printed;
+use sqlite_items::Items;
+use std::alloc::Global;
+use std::test::Fail;
+use ytt_base::fault::{Fault, FaultKind, Place};
+use ytt_base::report::fault_text;
+use ytt_base::text::{Memory, Names, Text};
+use ytt_base::tree::{Key, Pairs, Path, Step, Tree, Trees, push_pair};
+
+/// `{k: 7, null: -9}`
+fn map_of_two(alloc: Global) -> Result<Tree, Memory> {
+    let mut pairs: Pairs = Items::new(alloc);
+    push_pair(&mut pairs, Key::Str(Text::of(alloc, "k")?), Tree::Int(7))?;
+    push_pair(&mut pairs, Key::Null, Tree::Int(-9))?;
+    Ok(Tree::Map(pairs))
+}
+
+/// `[true, {k: 7, null: -9}, é]`
+fn list_of_three(alloc: Global) -> Result<Tree, Memory> {
+    let mut trees: Trees = Items::new(alloc);
+    trees.push(Tree::Bool(true))?;
+    trees.push(map_of_two(alloc)?)?;
+    trees.push(Tree::Str(Text::of(alloc, "é")?))?;
+    Ok(Tree::List(trees))
+}
+
+/// The printed text of one tree, which is copied for it.
+fn same_text(alloc: Global, tree: &Tree, text: &str) -> Result<bool, Fail> {
+    let mut documents: Trees = Items::new(alloc);
+    documents.push(tree.copy(alloc)?)?;
+    let out = printed(alloc, &documents)?;
+    Ok(out.bytes() == text.as_bytes())
+}
+
+#[test]
+fn copies_and_parts_of_a_tree(rt: HostRuntime) -> Result<(), Fail> {
+    let alloc = rt.alloc();
+    let tree = list_of_three(alloc)?;
+    let mut path: Path = Items::new(alloc);
+    for (step, text) in [
+        (Step::Index(1), "- true\n- k: 7\n  null: -9\n- \"é\"\n"),
+        (
+            Step::Key(Key::Str(Text::of(alloc, "k")?)),
+            "k: 7\nnull: -9\n",
+        ),
+        (Step::Index(0), "7\n"),
+    ] {
+        let part = tree.at(&path).ok_or("no part")?;
+        assert!(rt; same_text(alloc, part, text)?, "{text}");
+        path.push(step)?;
+    }
+    assert!(rt; tree.at(&path).is_none());
+    assert_eq!(rt; tree.depth(), 2);
+    Ok(())
+}
+
+#[test]
+fn copies_of_keys(rt: HostRuntime) -> Result<(), Fail> {
+    let alloc = rt.alloc();
+    let key = Key::Str(Text::of(alloc, "a: é")?);
+    assert!(rt; key.copy()?.is_same(&key));
+    assert!(rt; !Key::Int(-5).copy()?.is_same(&key));
+    assert_eq!(rt; Text::of(alloc, "a: é")?.copy()?.as_str(), "a: é");
+    Ok(())
+}
+
+#[test]
+fn faults_are_reported(rt: HostRuntime) -> Result<(), Fail> {
+    let alloc = rt.alloc();
+    let mut names: Names = Items::new(alloc);
+    names.push(Text::of(alloc, "a.yml")?)?;
+    names.push(Text::of(alloc, "dir/b.yml")?)?;
+    for (file, line, detail, want) in [
+        (2, 13, "port", "error: KeyTwice at dir/b.yml:13: port\n"),
+        (1, 4, "", "error: KeyTwice at a.yml:4\n"),
+        (0, 4, "port", "error: KeyTwice: port\n"),
+        (3, 4, "port", "error: KeyTwice: port\n"),
+    ] {
+        let fault = Fault {
+            kind: FaultKind::KeyTwice,
+            place: Place { file, line },
+            detail: Text::of(alloc, detail)?,
+        };
+        let got = fault_text(alloc, &fault, &names)?;
+        assert_eq!(rt; got.as_str(), want, "at file {file}");
+    }
+    Ok(())
+}

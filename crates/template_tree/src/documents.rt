@@ -1,0 +1,101 @@
+// Placing documents.
+ghost use Rattle.std.specs.Prelude.{◌≡◌, IfOk, option_map, true};
+ghost use Rattle.ytt_base.specs.Outcomes.{Gives};
+ghost use Rattle.yaml_read.specs.View as held;
+ghost use Rattle.yaml_read.specs.View.{documents_of, note_of};
+ghost use Rattle.star_spec.specs.Program.{document_item};
+ghost use Rattle.star_spec.specs.Reading.{IsReader, Reader};
+ghost use Rattle.template_spec.specs.Placed.{Placed, free};
+ghost use Rattle.template_spec.specs.Placing.{map_in, placed, placed_document, placed_documents};
+ghost use Rattle.template_spec.specs.WellNested.{Straight, StraightItem};
+ghost use Rattle.template_tree.specs.Parts.{document_of};
+ghost use Rattle.template_tree.specs.Scalars.{have_scalars, item_has_scalars};
+ghost use Rattle.template_tree.specs.View.{items_of, template_of};
+
+use crate::code::not_built;
+use crate::place::{place_of, place_pairs, push_item, turned};
+use crate::tree::{TContent, TItem, TItems, TNode, Template};
+use sqlite_items::Items;
+use std::alloc::Global;
+use yaml_read::{Content, NotedDocs, NotedItem, NotedItems};
+use ytt_base::fault::{Place, Stop};
+
+/// The items of the map that an item holds, or `None` for a scalar or a list.
+#[tactic(auto, using(yaml_read::proofs::Views::views))]
+fn map_in(content: Content) -> Option<NotedItems>
+    ensures { option_map held.items_of result ≡ map_in (held.content_of content) }
+{
+    match content {
+        Content::Map(items) => Some(items),
+        Content::Scalar(_) | Content::List(_) => None,
+    }
+}
+
+/// The document of an item. One that is no map, and one with a key or a comment beside it, is
+/// NotBuilt at its line.
+fn place_document(alloc: Global, item: NotedItem, file: u32) -> Result<TItem, Stop>
+    ensures template { (r : Reader) → IsReader r → Gives (document_of file) result (placed_document r file (note_of item) (held.content_of item.content)) }
+    ensures straight { IfOk result (λ i. StraightItem document_item (document_of file i)) }
+    ensures scalars { IfOk result (λ i. item_has_scalars i ≡ true) }
+{
+    let place = place_of(alloc, &item, file)?;
+    if item.key.is_some() || item.trailing.is_some() {
+        return Err(not_built(alloc, place));
+    }
+    let Some(items) = map_in(item.content) else {
+        return Err(not_built(alloc, place));
+    };
+    let pairs = place_pairs(alloc, items, file)?;
+    Ok(TItem::Node(TNode {
+        place,
+        key: None,
+        notes: Items::new(alloc),
+        value: None,
+        content: TContent::Map(pairs),
+    }))
+}
+
+#[tactic(auto, using(crate::proofs::Placing::placing))]
+fn place_documents(alloc: Global, items: NotedItems, file: u32) -> Result<TItems, Stop>
+    ensures template { (r : Reader) → IsReader r → Gives (items_of file) result (placed_documents r file (held.items_of items)) }
+    ensures straight { IfOk result (λ is. Straight document_item (items_of file is)) }
+    ensures scalars { IfOk result (λ is. have_scalars is ≡ true) }
+{
+    let mut left = turned(alloc, items)?;
+    let mut documents: TItems = Items::new(alloc);
+    while let Some(item) = left.pop() {
+        let document = place_document(alloc, item, file)?;
+        push_item(&mut documents, document)?;
+    }
+    Ok(documents)
+}
+
+/// The template of noted documents, or its first refusal.
+///
+/// `docs` are the noted documents of a text and `file` the number of its file, which the template
+/// and a fault name. Each document is a map without a key and without a comment beside it, and each
+/// of its pairs a scalar, with at most one comment beside it, which begins with `#@ `. The rest of
+/// that comment is the code of the value expression that stands for the scalar.
+///
+/// What isn't of this form is a fault of the kind NotBuilt at its line, without a detail: code that
+/// is no expression at its pair, a comment that stands beside nothing at the comment itself, any
+/// other item at its own line. The first one in the order of the text decides. Want of memory is
+/// `Stop::Memory`.
+///
+/// Items of the template are documents that hold pairs alone, each pair has a key, and what is
+/// written in a pair is a scalar.
+#[tactic(auto, using(template_spec::proofs::PlacingStraight::straight_placed))]
+pub fn place_flat(alloc: Global, docs: NotedDocs, file: u32) -> Result<Template, Stop>
+    ensures template { (r : Reader) → IsReader r → Gives template_of result (placed r file (documents_of docs)) }
+    ensures straight { IfOk result (λ t. Straight document_item (template_of t)) }
+    ensures stands { IfOk result (λ t. Placed free (template_of t)) }
+    ensures scalars { IfOk result (λ t. have_scalars t.items ≡ true) }
+    ensures file { IfOk result (λ t. t.file ≡ file) }
+{
+    let items = place_documents(alloc, docs.items, file)?;
+    if let Some((comment, _)) = docs.after.as_slice().split_first() {
+        let line = comment.line;
+        return Err(not_built(alloc, Place { file, line }));
+    }
+    Ok(Template { file, items })
+}

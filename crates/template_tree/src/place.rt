@@ -1,0 +1,139 @@
+// Placing the pairs of a map.
+ghost use Rattle.std.specs.Prelude.{◌≡◌, [], ◌∷◌, ◌++◌, IfOk, IfSome, OnOk, option_map, reverse, true};
+ghost use Rattle.ytt_base.specs.Outcomes.{Gives};
+ghost use Rattle.ytt_base.specs.View.{tree_of};
+ghost use Rattle.yaml_read.specs.View as held;
+ghost use Rattle.yaml_read.specs.View.{comment_of, note_of};
+ghost use Rattle.star_spec.specs.Program.{pair_item};
+ghost use Rattle.star_spec.specs.Reading.{IsReader, Reader};
+ghost use Rattle.star_tree.specs.View.{scalar_of};
+ghost use Rattle.template_spec.specs.Placing.{content_beside, own_place, placed_pair, placed_pairs, scalar_in};
+ghost use Rattle.template_spec.specs.Template as plain;
+ghost use Rattle.template_spec.specs.WellNested.{Straight, StraightItem};
+ghost use Rattle.template_tree.specs.Parts.{content_with, is_scalar, pair_of, pairs_of, same_place};
+ghost use Rattle.template_tree.specs.Scalars.{have_scalars, item_has_scalars};
+
+use crate::code::{not_built, read_value};
+use crate::tree::{TContent, TItem, TItems, TNode};
+use sqlite_items::Items;
+use star_tree::Expr;
+use std::alloc::Global;
+use yaml_read::{Content, NotedItem, NotedItems, RawComment};
+use ytt_base::fault::{Place, Stop};
+use ytt_base::text::Memory;
+use ytt_base::tree::Tree;
+
+/// The items in the opposite order.
+pub fn turned(alloc: Global, items: NotedItems) -> Result<NotedItems, Memory>
+    ensures { IfOk result (λ is. is ≡ reverse items) }
+{
+    let mut left = items;
+    let mut turned = Items::new(alloc);
+    while let Some(item) = left.pop() {
+        turned.push(item)?;
+    }
+    Ok(turned)
+}
+
+pub fn push_item(items: &mut TItems, item: TItem) -> Result<(), Memory>
+    ensures { OnOk result (items.new ≡ items.old ++ item ∷ []) }
+{
+    items.push(item)?;
+    Ok(())
+}
+
+/// The place of an item. One that a comment stands before is NotBuilt at that comment, and one in
+/// brackets at its line.
+pub fn place_of(alloc: Global, item: &NotedItem, file: u32) -> Result<Place, Stop>
+    ensures place { Gives same_place result (own_place file (note_of item.now)) }
+    ensures file { IfOk result (λ place. place.file ≡ file) }
+{
+    if let Some((comment, _)) = item.before.as_slice().split_first() {
+        let line = comment.line;
+        return Err(not_built(alloc, Place { file, line }));
+    }
+    let line = item.place.line;
+    if item.flow {
+        return Err(not_built(alloc, Place { file, line }));
+    }
+    Ok(Place { file, line })
+}
+
+fn is_scalar(tree: &Tree) -> bool
+    ensures { result ≡ is_scalar (tree_of tree.now) }
+{
+    match tree {
+        Tree::Null | Tree::Bool(_) | Tree::Int(_) | Tree::Str(_) => true,
+        Tree::List(_) | Tree::Map(_) => false,
+    }
+}
+
+/// The scalar that an item holds, or `None` for a list or a map.
+fn scalar_in(content: Content) -> Option<Tree>
+    ensures scalar { option_map scalar_of result ≡ scalar_in (held.content_of content) }
+    ensures only { IfSome result (λ t. is_scalar (tree_of t) ≡ true) }
+{
+    match content {
+        Content::Scalar(tree) => { if is_scalar(&tree) { Some(tree) } else { None } }
+        Content::Map(_) | Content::List(_) => None,
+    }
+}
+
+/// The value expression of the comment on a pair's line, where there is one.
+fn read_trailing(
+    alloc: Global,
+    trailing: &Option<RawComment>,
+    place: Place,
+) -> Result<Option<Expr>, Stop>
+    ensures { (r : Reader) → IsReader r → (written : plain.Content) → Gives (content_with place.file written) result (content_beside r (option_map comment_of trailing.now) place written) }
+{
+    match trailing {
+        None => Ok(None),
+        Some(comment) => Ok(Some(read_value(alloc, comment, place)?)),
+    }
+}
+
+/// The pair of an item. One that is no scalar under a key is NotBuilt at its line, and so is one with
+/// a comment beside it that is no code of an expression.
+fn place_pair(alloc: Global, item: NotedItem, file: u32) -> Result<TItem, Stop>
+    ensures template { (r : Reader) → IsReader r → Gives (pair_of file) result (placed_pair r file (note_of item) (held.content_of item.content)) }
+    ensures straight { IfOk result (λ i. StraightItem pair_item (pair_of file i)) }
+    ensures scalars { IfOk result (λ i. item_has_scalars i ≡ true) }
+{
+    let place = place_of(alloc, &item, file)?;
+    let NotedItem {
+        key,
+        trailing,
+        content,
+        ..
+    } = item;
+    let Some(tree) = scalar_in(content) else {
+        return Err(not_built(alloc, place));
+    };
+    let value = read_trailing(alloc, &trailing, place)?;
+    let Some(key) = key else {
+        return Err(not_built(alloc, place));
+    };
+    Ok(TItem::Node(TNode {
+        place,
+        key: Some(key),
+        notes: Items::new(alloc),
+        value,
+        content: TContent::Scalar(tree),
+    }))
+}
+
+/// The pairs of the items of a map, or the first refusal.
+pub fn place_pairs(alloc: Global, items: NotedItems, file: u32) -> Result<TItems, Stop>
+    ensures template { (r : Reader) → IsReader r → Gives (pairs_of file) result (placed_pairs r file (held.items_of items)) }
+    ensures straight { IfOk result (λ is. Straight pair_item (pairs_of file is)) }
+    ensures scalars { IfOk result (λ is. have_scalars is ≡ true) }
+{
+    let mut left = turned(alloc, items)?;
+    let mut pairs: TItems = Items::new(alloc);
+    while let Some(item) = left.pop() {
+        let pair = place_pair(alloc, item, file)?;
+        push_item(&mut pairs, pair)?;
+    }
+    Ok(pairs)
+}
