@@ -7,6 +7,7 @@ use Rattle.ytt_base.specs.declared.fault.Place.{Place}
 use Rattle.ytt_base.specs.Trees.{Scalar, null, boolean, integer, string, Tree, Pairs, no_pairs, pair, has_key, same_key}
 use Rattle.yaml_spec.specs.Flat.{is_plain_word}
 use Rattle.yaml_spec.specs.FirstReadsBack.{AreFlatPairs, IsValue}
+use Rattle.star_spec.specs.Operators.{either}
 use Rattle.star_spec.specs.Outcomes.{Computation, give, ◌>>=◌}
 use Rattle.star_spec.specs.Program.{ItemKind}
 use Rattle.star_spec.specs.Values.{child, Children, no_children, a_child, no_built, one}
@@ -39,7 +40,7 @@ new_key : (k y : List ℕ) (earlier : List Scalar) → has_key (string k) earlie
 new_key k y [] h e = rw (same_text k y, e)
 new_key k y (l ∷ ls) h e = let p = neither (same_key (string k) l) (has_key (string k) ls) h in rw p.0 (new_key k y ls p.1 e)
 
-yields_by : {H A : Type 0} (P : A → Type 0) (b : Bool) (x y : Computation H A) → Yields P x → (b ≡ false → Yields P y) → Yields P (elim b [ true ↦ x | false ↦ y ])
+yields_by : {H A : Type 0} (P : A → Type 0) (b : Bool) (x y : Computation H A) → Yields P x → (b ≡ false → Yields P y) → Yields P (either b x y)
 yields_by P true x y h k = h
 yields_by P false x y h k = k refl
 
