@@ -5,6 +5,7 @@ use Rattle.ytt_base.specs.declared.fault.Fault.{Fault}
 use Rattle.ytt_base.specs.declared.fault.FaultKind.TheVariants as kind
 use Rattle.ytt_base.specs.Outcomes.{place_at, fault_at}
 use Rattle.ytt_base.specs.Trees.{Scalar, null, integer, string, scalar, map, Trees, no_trees, tree, no_pairs, pair}
+use Rattle.std.specs.Str.{chars}
 use Rattle.yaml_spec.specs.Scalars.{form}
 use Rattle.yaml_spec.specs.Text.{fits_plain}
 use Rattle.star_spec.specs.Code.{Expr, int, text, unary, binary, negation, addition, multiplication, floor_division}

@@ -1,0 +1,131 @@
+// Texts with code, and what they give.
+ghost use Rattle.std.specs.Prelude.{◌<◌, ◌^◌, length};
+
+use crate::shown::{shown_run, shown_stop};
+use std::alloc::Global;
+use std::test::Fail;
+use template_tree::place_flat;
+use yaml_read::read_noted;
+
+struct Row {
+    text: &'static [u8],
+    steps: u64,
+    gives: &'static str,
+}
+
+const ROWS: &[Row] = &[
+    Row {
+        text: b"a: #@ 2 + 3 * 4",
+        steps: 100,
+        gives: "{a: 14} with 93 steps",
+    },
+    Row {
+        text: b"a: 1\nb: #@ 1 // 0\n",
+        steps: 100,
+        gives: "error: DivideZero at b.yml:2\n",
+    },
+    Row {
+        text: b"a: #@ 1 + \"x\"",
+        steps: 100,
+        gives: "error: ValueKind at b.yml:1\n",
+    },
+    Row {
+        text: b"a: #@ -\"x\"",
+        steps: 100,
+        gives: "error: ValueKind at b.yml:1\n",
+    },
+    Row {
+        text: b"a: #@ 170141183460469231731687303715884105727",
+        steps: 100,
+        gives: "{a: 170141183460469231731687303715884105727} with 97 steps",
+    },
+    Row {
+        text: b"a: #@ 170141183460469231731687303715884105727 + 1",
+        steps: 100,
+        gives: "error: IntOverflow at b.yml:1\n",
+    },
+    Row {
+        text: b"a: #@ -170141183460469231731687303715884105727 - 1",
+        steps: 100,
+        gives: "{a: -170141183460469231731687303715884105728} with 94 steps",
+    },
+    Row {
+        text: b"a: #@ -170141183460469231731687303715884105727 - 2",
+        steps: 100,
+        gives: "error: IntOverflow at b.yml:1\n",
+    },
+    Row {
+        text: b"a: #@ 170141183460469231731687303715884105727 * 2",
+        steps: 100,
+        gives: "error: IntOverflow at b.yml:1\n",
+    },
+    Row {
+        text: b"a: #@ (-170141183460469231731687303715884105727 - 1) // -1",
+        steps: 100,
+        gives: "error: IntOverflow at b.yml:1\n",
+    },
+    Row {
+        text: b"a: #@ -7 // 2\nb: #@ 7 // -2\nc: #@ -7 // -2\nd: #@ 6 // -2\ne: #@ -6 // 2\nf: #@ 0 // -5",
+        steps: 100,
+        gives: "{a: -4, b: -4, c: 3, d: -3, e: -3, f: 0} with 68 steps",
+    },
+    Row {
+        text: b"a: #@ 1",
+        steps: 3,
+        gives: "{a: 1} with 0 steps",
+    },
+    Row {
+        text: b"a: #@ 1",
+        steps: 2,
+        gives: "error: Steps at b.yml:1\n",
+    },
+    Row {
+        text: b"a: #@ \"x\" * 3\nb: #@ 3 * \"x\"\nc: #@ \"x\" * -1\nd: #@ \"\" * 170141183460469231731687303715884105727",
+        steps: 100,
+        gives: "{a: 'xxx', b: 'xxx', c: '', d: ''} with 82 steps",
+    },
+    Row {
+        text: b"a: #@ \"x\" * 170141183460469231731687303715884105727",
+        steps: 18446744073709551615,
+        gives: "error: Steps at b.yml:1\n",
+    },
+    Row {
+        text: b"a: #@ \"0123456789abcdef\" + \"x\"",
+        steps: 8,
+        gives: "{a: '0123456789abcdefx'} with 0 steps",
+    },
+    Row {
+        text: b"a: #@ \"0123456789abcdef\" + \"x\"",
+        steps: 7,
+        gives: "error: Steps at b.yml:1\n",
+    },
+    Row {
+        text: b"",
+        steps: 7,
+        gives: " with 7 steps",
+    },
+];
+
+fn given(alloc: Global, row: &Row) -> Result<String, Fail>
+    requires { length row.now.text.now < 2 ^ 32 }
+{
+    let docs = match read_noted(alloc, row.text, 2) {
+        Err(stop) => return shown_stop(alloc, &stop),
+        Ok(docs) => docs,
+    };
+    match place_flat(alloc, docs, 2) {
+        Err(stop) => shown_stop(alloc, &stop),
+        Ok(template) => shown_run(alloc, &template, row.steps),
+    }
+}
+
+#[test]
+fn texts_with_code_are_run(rt: HostRuntime) -> Result<(), Fail> {
+    let alloc = rt.alloc();
+    for row in ROWS {
+        assert!(rt; row.text.len() < 1000);
+        let gives = given(alloc, row)?;
+        assert_eq!(rt; gives.as_str(), row.gives);
+    }
+    Ok(())
+}
