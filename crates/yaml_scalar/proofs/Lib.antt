@@ -1,2 +1,6 @@
 pub mod ByteTests
+pub mod Escaping
 pub mod Forms
+pub mod Foldings
+pub mod Pieces
+pub mod Whites

@@ -2,10 +2,19 @@
 #![tactic(auto)]
 
 mod bytes;
+mod escapes;
+mod folding;
 mod form;
 mod number;
+mod position;
+mod quoted;
+mod scan;
+mod white;
 mod words;
 
 pub use bytes::{all_digits, all_letters_or_digits};
+pub use folding::fold;
 pub use form::is_string;
+pub use position::Quoted;
+pub use quoted::read_quoted;
 pub use words::{is_plain_word, is_reserved};

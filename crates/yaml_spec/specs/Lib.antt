@@ -7,6 +7,7 @@ pub mod FirstText
 pub mod Flat
 pub mod FlatNoted
 pub mod Flow
+pub mod Held
 pub mod Folding
 pub mod Lines
 pub mod Noted
