@@ -79,6 +79,6 @@ pub Fold-more : (old new : Folded) (front : List (List ℕ)) (i : ℕ) (last : L
     → with_parts new (lines_left (drop (i + 1) front) last) ≡ whole
 Fold-more old new front i last whole within same add =
     sym (by (drop (i + 1) front)) ∙ rw (drop_more front i [] within) at same where
-  by : (ts : List (List ℕ)) → with_parts old (part_of (get_or front i []) false ∷ lines_left ts last) ≡ with_parts new (lines_left ts last)
-  by [] = add (whole_line last) []
-  by (t ∷ ts) = add (whole_line t) (lines_left ts last)
+      by : (ts : List (List ℕ)) → with_parts old (part_of (get_or front i []) false ∷ lines_left ts last) ≡ with_parts new (lines_left ts last)
+      by [] = add (whole_line last) []
+      by (t ∷ ts) = add (whole_line t) (lines_left ts last)

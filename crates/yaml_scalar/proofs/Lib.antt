@@ -3,4 +3,5 @@ pub mod Escaping
 pub mod Forms
 pub mod Foldings
 pub mod Pieces
+pub mod QuotedLines
 pub mod Whites

@@ -137,3 +137,13 @@ pub piece-gives : (is_double : Bool) (line text rest plain after : List ℕ) (c 
     → after ≡ drop (run is_double rest) rest → gives c next ≡ turn_at is_double after → prepend ((text ++ plain) ++ encode_utf8 c) (scan is_double next) ≡ scan is_double line
 piece-gives is_double line text rest plain after c next h front back e =
     sym (piece is_double line text rest plain after (gives c next) h front back e ∙ prepend-prepend text (plain ++ encode_utf8 c) _ ∙ ap (λ x. prepend x (scan is_double next)) (sym (append_assoc text plain (encode_utf8 c))))
+
+pub piece-joined : (is_double : Bool) (line text rest plain after : List ℕ) (joined : Bool) → joined ≡ true → prepend text (scan is_double rest) ≡ scan is_double line
+    → plain ≡ take (run is_double rest) rest → after ≡ drop (run is_double rest) rest → ends joined ≡ turn_at is_double after → line_ends (text ++ plain) joined ≡ scan is_double line
+piece-joined is_double line text rest plain after joined on h front back e =
+    sym (rw on at (piece is_double line text rest plain after (ends joined) h front back e) ∙ rw on refl)
+
+pub piece-open : (is_double : Bool) (line text rest plain after : List ℕ) (joined : Bool) → joined ≡ false → prepend text (scan is_double rest) ≡ scan is_double line
+    → plain ≡ take (run is_double rest) rest → after ≡ drop (run is_double rest) rest → ends joined ≡ turn_at is_double after → line_ends (text ++ trim_end plain) joined ≡ scan is_double line
+piece-open is_double line text rest plain after joined off h front back e =
+    sym (rw off at (piece is_double line text rest plain after (ends joined) h front back e) ∙ rw off refl)

@@ -1,5 +1,5 @@
 -- White space at the ends of a text, and where a text may be cut.
-use Rattle.std.proofs.Common.{◌≡◌, ℕ, zero, suc, ◌+◌, ◌-◌, ◌<◌, ◌≤◌, Bool, true, false, ◌&&◌, List, [], ◌∷◌, ◌++◌, length, get_or, take, drop, IsUtf8, refl, sym, ap, ◌∙◌, subst, inl, inr, arith, add-one, drop-cons}
+use Rattle.std.proofs.Common.{◌≡◌, ℕ, zero, suc, ◌+◌, ◌-◌, ◌<◌, ◌≤◌, Bool, true, false, ◌&&◌, List, [], ◌∷◌, ◌++◌, length, get_or, take, drop, IsUtf8, refl, sym, ap, ◌∙◌, subst, inl, inr, arith, add-one, length-drop}
 use Rattle.std.proofs.lemmas.Bool.{cases_lt, cases_Bool}
 use Rattle.std.proofs.lemmas.Bool.Decides.{nat_tests}
 use Rattle.std.proofs.lemmas.List.Sums.{prefix_len-le-length, prefix_len_passes, prefix_len_stops}
@@ -35,6 +35,9 @@ skip_white-drop (b ∷ t) = by (is_white b) refl (skip_white-drop t) where
   by : (w : Bool) → is_white b ≡ w → drop (prefix_len is_white t) t ≡ skip_white t → drop (prefix_len is_white (b ∷ t)) (b ∷ t) ≡ skip_white (b ∷ t)
   by true e more = let one : 1 + prefix_len is_white t ≡ suc (prefix_len is_white t) = omega arith in rw (skip_white, e, one) more
   by false e more = rw (skip_white, e) refl
+
+pub skip_white-length : (t : List ℕ) → length (skip_white t) ≤ length t
+skip_white-length t = rw (← skip_white-drop t) (omega (arith, length-drop {A = ℕ}))
 
 -- ---- the end
 
