@@ -1,3 +1,5 @@
+pub mod BlockIndents
+pub mod BlockTexts
 pub mod ByteTests
 pub mod Escaping
 pub mod Forms

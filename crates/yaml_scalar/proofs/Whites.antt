@@ -9,17 +9,18 @@ use Rattle.std.specs.List.{prefix_len}
 use Rattle.std.specs.Str.{IsCharBoundary}
 use Rattle.yaml_spec.specs.Bytes.{is_white, is_empty, skip_white, trim_end}
 
--- where so many bytes pass the test, and all that pass are ASCII, the text may be cut behind them
-cut_behind : (test : ℕ → Bool) (t : List ℕ) (n : ℕ) → prefix_len test t ≡ n → IsUtf8 t → ((b : ℕ) → test b ≡ true → b < 128) → IsCharBoundary t n
-cut_behind test t zero e utf8 ascii = IsCharBoundary-start t utf8
-cut_behind test t (suc n) e utf8 ascii =
-    rw (← add-one) (IsCharBoundary-after_ascii t n utf8 (omega (arith, prefix_len-le-length test t)) (ascii _ (prefix_len_passes test t n 0 (omega arith))))
+-- behind bytes that pass a test that only ASCII passes the text may be cut
+pub cut_behind : (test : ℕ → Bool) (t : List ℕ) (n : ℕ) → n ≤ prefix_len test t → IsUtf8 t → ((b : ℕ) → test b ≡ true → b < 128) → IsCharBoundary t n
+cut_behind test t zero h utf8 ascii = IsCharBoundary-start t utf8
+cut_behind test t (suc n) h utf8 ascii =
+    let last : n + 1 ≡ suc n = omega arith in
+    subst (IsCharBoundary t) last (IsCharBoundary-after_ascii t n utf8 (omega (arith, prefix_len-le-length test t)) (ascii _ (prefix_len_passes test t n 0 (omega arith))))
 
 white_ascii : (b : ℕ) → is_white b ≡ true → b < 128
 white_ascii b h = grind (arith, nat_tests)
 
 pub cut_behind_white : (t : List ℕ) → IsUtf8 t → IsCharBoundary t (prefix_len is_white t)
-cut_behind_white t utf8 = cut_behind is_white t _ refl utf8 white_ascii
+cut_behind_white t utf8 = cut_behind is_white t (prefix_len is_white t) (omega arith) utf8 white_ascii
 
 -- where all that fail the test are ASCII, the text may be cut before the first of them
 pub cut_before : (test : ℕ → Bool) (t : List ℕ) → ((b : ℕ) → test b ≡ false → b < 128) → IsCharBoundary t (prefix_len test t)

@@ -1,3 +1,5 @@
+pub mod BlockLines
+pub mod BlockView
 pub mod Joining
 pub mod Turns
 pub mod View

@@ -1,10 +1,14 @@
 //! The form of a plain scalar, told on its bytes.
 #![tactic(auto)]
 
+mod block;
+mod blocktext;
 mod bytes;
 mod escapes;
 mod folding;
 mod form;
+mod header;
+mod indent;
 mod number;
 mod position;
 mod quoted;
@@ -12,6 +16,7 @@ mod scan;
 mod white;
 mod words;
 
+pub use block::read_block;
 pub use bytes::{all_digits, all_letters_or_digits};
 pub use folding::fold;
 pub use form::is_string;

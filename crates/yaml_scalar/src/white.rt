@@ -3,7 +3,7 @@ ghost use Rattle.std.specs.Prelude.{◌≡◌, ◌-◌, ◌<◌, ◌≤◌, drop
 ghost use Rattle.std.specs.List.{prefix_len};
 ghost use Rattle.yaml_spec.specs.Bytes.{is_white, skip_white, trim_end};
 
-fn is_white(byte: u8) -> bool
+pub fn is_white(byte: u8) -> bool
     ensures { result ≡ is_white byte }
 {
     byte == b' ' || byte == b'\t'

@@ -11,6 +11,7 @@ pub mod Held
 pub mod Folding
 pub mod Lines
 pub mod Noted
+pub mod Openers
 pub mod Plain
 pub mod Positions
 pub mod Quotes
