@@ -44,7 +44,7 @@ is_spaces-indent t = by (is_spaces t) refl where
   by true e = let all = spaces-all t e in grind (arith, nat_tests)
   by false e = let less = spaces-not t e in grind (arith, nat_tests)
 
-pub ruleset spaces = (is_spaces-indent, indent-le)
+pub ruleset spaces = (indent-run, is_spaces-indent)
 
 space_ascii : (b : ℕ) → (b == space) ≡ true → b < 128
 space_ascii b h = grind (arith, nat_tests)

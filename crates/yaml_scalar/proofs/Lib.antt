@@ -1,5 +1,6 @@
 pub mod BlockIndents
 pub mod BlockTexts
+pub mod BlocksRead
 pub mod ByteTests
 pub mod Escaping
 pub mod Forms

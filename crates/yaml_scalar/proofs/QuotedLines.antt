@@ -46,7 +46,7 @@ some_item [] at d h = absurd (omega arith)
 some_item (x ∷ lines) zero d h = refl
 some_item (x ∷ lines) (suc at) d h = some_item lines at d (omega arith)
 
-plain_lines-length : (lines : List held.Line) → length (plain_lines lines) ≡ length lines
+pub plain_lines-length : (lines : List held.Line) → length (plain_lines lines) ≡ length lines
 plain_lines-length [] = refl
 plain_lines-length (l ∷ lines) = ap (λ n. suc n) (plain_lines-length lines)
 

@@ -1,16 +1,17 @@
 // Block scalars.
-ghost use Rattle.std.specs.Prelude.{◌≡◌, length, true, IfOk};
+ghost use Rattle.std.specs.Prelude.{◌≡◌, ◌==◌, ◌^◌, ◌<◌, ◌≤◌, drop, length, true, IfOk};
 ghost use Rattle.ytt_base.specs.Outcomes.{Gives};
-ghost use Rattle.yaml_spec.specs.Blocks.{block_text};
+ghost use Rattle.yaml_spec.specs.Blocks.{block_text, header};
+ghost use Rattle.yaml_spec.specs.Bytes.{bar, first};
 ghost use Rattle.yaml_spec.specs.Held.{plain_lines};
 ghost use Rattle.yaml_spec.specs.Openers.{starts_block};
 ghost use Rattle.yaml_spec.specs.Positions.{block_at, cursor_at};
-ghost use Rattle.yaml_scalar.specs.BlockLines.{contents_of};
-ghost use Rattle.yaml_scalar.specs.BlockView.{held_chomp};
+ghost use Rattle.yaml_scalar.specs.BlockLines.{block_under, contents_of, lines_read};
+ghost use Rattle.yaml_scalar.specs.BlockView.{header_of, held_chomp};
 ghost use Rattle.yaml_scalar.specs.View.{quoted_of};
 
 use crate::blocktext::BlockText;
-use crate::header::{Chomp, ends_header, first, read_header};
+use crate::header::{Chomp, Header, ends_header, read_header};
 use crate::indent::{content, content_indent, least_under};
 use crate::position::Quoted;
 use crate::quoted::wrong_form;
@@ -41,6 +42,64 @@ fn read_body(
     Ok((block.finish(chomp)?, below.len()))
 }
 
+/// The text of the lines of a block scalar, and how many they are.
+fn read_below(
+    alloc: Global,
+    is_literal: bool,
+    header: Header<'_>,
+    least: usize,
+    below: &[Line],
+) -> Result<(Text, usize), Stop>
+    requires small { header.digit ≤ 9 }
+    requires bound { least ≤ 2 ^ 63 }
+    ensures read { Gives (λ r. (r.0, r.1)) result (lines_read is_literal (held_chomp header.entry.chomp) least header.entry.digit (plain_lines below.now)) }
+    ensures within { IfOk result (λ r. r.1 ≤ length below.now) }
+{
+    let indent = content_indent(alloc, least, header.digit, below)?;
+    Ok(read_body(alloc, is_literal, header.chomp, indent, below)?)
+}
+
+/// Whether the block scalar at a column of a text is a literal one, and its header.
+fn opening(text: &str, column: usize) -> (bool, Header<'_>)
+    requires { starts_block (drop column text.now) ≡ true }
+    ensures literal { result.0 ≡ (first (drop column text.now) == bar) }
+    ensures header { header_of result.1 ≡ header (drop 1 (drop column text.now)) }
+    ensures small { result.1.digit ≤ 9 }
+{
+    (
+        text.as_bytes()[column] == b'|',
+        read_header(behind(text, column + 1)),
+    )
+}
+
+/// The block scalar at a line and a column, whose lines have at least this indent.
+fn read_at(
+    alloc: Global,
+    lines: &[Line],
+    start: usize,
+    column: usize,
+    least: usize,
+) -> Result<Quoted, Stop>
+    requires there { start < length lines.now }
+    requires opens { let here = cursor_at (plain_lines lines.now) start column in starts_block here.text ≡ true }
+    requires bound { least ≤ 2 ^ 63 }
+    ensures { Gives quoted_of result (block_under least (plain_lines lines.now) start column) }
+{
+    let opener = &lines[start];
+    let (is_literal, header) = opening(opener.text.as_str(), column);
+    if !ends_header(header.rest) {
+        return Err(wrong_form(alloc, opener.place));
+    }
+    let below = &lines[start + 1..];
+    let (text, size) = read_below(alloc, is_literal, header, least, below)?;
+    let end = start + size;
+    Ok(Quoted {
+        text,
+        line: end as u64,
+        column: lines[end].text.as_str().len() as u64,
+    })
+}
+
 /// The string of a block scalar, and the position behind it: the end of its last line (YAML 1.2.2,
 /// 8.1).
 ///
@@ -66,21 +125,12 @@ pub fn read_block(
     requires { let here = cursor_at (plain_lines lines.now) line column in starts_block here.text ≡ true }
     ensures { Gives quoted_of result (block_at (plain_lines lines.now) line column parent) }
 {
-    let all = lines.as_slice();
-    let start = line as usize;
-    let text = all[start].text.as_str();
-    let is_literal = text.as_bytes()[column as usize] == b'|';
-    let header = read_header(behind(text, column as usize + 1));
-    if !ends_header(header.rest) {
-        return Err(wrong_form(alloc, all[start].place));
-    }
-    let below = &all[start + 1..];
-    let indent = content_indent(alloc, least_under(parent), header.digit, below)?;
-    let (text, size) = read_body(alloc, is_literal, header.chomp, indent, below)?;
-    let end = start + size;
-    Ok(Quoted {
-        text,
-        line: end as u64,
-        column: all[end].text.as_str().len() as u64,
-    })
+    let least = least_under(parent);
+    read_at(
+        alloc,
+        lines.as_slice(),
+        line as usize,
+        column as usize,
+        least,
+    )
 }

@@ -14,12 +14,26 @@ use std::alloc::Global;
 use ytt_base::fault::{Place, Stop};
 use ytt_base::line::Line;
 
+fn is_space(byte: u8) -> bool
+    ensures { result ≡ (byte == space) }
+{
+    byte == b' '
+}
+
+fn space_len(bytes: &[u8]) -> usize
+    ensures len { result ≡ prefix_len (λ b. b == space) bytes.now }
+    ensures within { result ≤ length bytes.now }
+{
+    bytes.iter().take_while(|byte| is_space(**byte)).count()
+}
+
 /// The number of leading spaces.
-fn indent(text: &[u8]) -> usize
+#[tactic(auto, using(crate::proofs::BlockIndents::spaces))]
+fn indent(text: &str) -> usize
     ensures indent { result ≡ indent text.now }
     ensures within { result ≤ length text.now }
 {
-    text.iter().take_while(|byte| **byte == b' ').count()
+    space_len(text.as_bytes())
 }
 
 /// Whether the text is nothing but spaces.
@@ -27,7 +41,7 @@ fn indent(text: &[u8]) -> usize
 fn is_spaces(text: &str) -> bool
     ensures { result ≡ is_spaces text.now }
 {
-    indent(text.as_bytes()) == text.len()
+    indent(text) == text.len()
 }
 
 /// The least indent of a block scalar's lines under a parent of this indent.
@@ -45,7 +59,7 @@ fn found_indent(least: usize, below: &[Line]) -> Option<usize>
     for line in below {
         let text = line.text.as_str();
         if !is_spaces(text) {
-            let found = indent(text.as_bytes());
+            let found = indent(text);
             return if least <= found { Some(found) } else { None };
         }
     }
@@ -97,7 +111,7 @@ pub fn content_indent(
 pub fn content(indent_at: Option<usize>, text: &str) -> Option<&str>
     ensures { option_map (λ t. t.now) result ≡ content_at indent_at text.now }
 {
-    let spaces = indent(text.as_bytes());
+    let spaces = indent(text);
     let least = indent_at.unwrap_or(text.len());
     if least <= spaces {
         return Some(&text[least..]);
