@@ -1,8 +1,8 @@
 -- The text of a block scalar, line by line.
-use Rattle.std.proofs.Common.{◌≡◌, ◌≢◌, ℕ, zero, suc, ◌+◌, ◌-◌, Bool, true, false, ◌||◌, ◌&&◌, if◌then◌else◌, List, [], ◌∷◌, ◌++◌, length, refl, sym, ap, ◌∙◌, arith, append_assoc, append-nil}
-use Rattle.yaml_spec.specs.Bytes.{line_feed, space, is_empty}
+use Rattle.std.proofs.Common.{◌≡◌, ◌≢◌, ℕ, zero, suc, ◌+◌, ◌-◌, Bool, true, false, ◌||◌, if◌then◌else◌, List, [], ◌∷◌, ◌++◌, length, refl, sym, ap, ◌∙◌, arith, append_assoc, append-nil}
+use Rattle.yaml_spec.specs.Bytes.{line_feed, is_empty}
 use Rattle.yaml_spec.specs.Folding.{breaks}
-use Rattle.yaml_spec.specs.Blocks.{Chomp, drop_empty_end, literal, folded, folded_rest, between, starts_white, end_breaks, block_text}
+use Rattle.yaml_spec.specs.Blocks.{Chomp, drop_empty_end, literal, folded, folded_rest, starts_white, end_breaks, block_text}
 use Rattle.yaml_scalar.specs.declared.blocktext.Break.{Break}
 use Rattle.yaml_scalar.specs.declared.blocktext.Break.TheVariants as break
 use Rattle.yaml_scalar.specs.BlockLines.{is_start, before, break_after, rest_text}

@@ -1,10 +1,9 @@
 -- A block scalar at a line and a column.
-use Rattle.std.proofs.Common.{◌≡◌, ℕ, zero, suc, ◌+◌, ◌-◌, ◌<◌, ◌≤◌, ℤ, Bool, true, false, ◌||◌, ◌==◌, nat_le, List, [], ◌∷◌, ◌++◌, length, get_or, drop, map, Option, Some, None, Result, Ok, Err, refl, sym, ap, subst, ◌∙◌, inl, inr, arith, length-drop, get_or-drop, add-zero}
+use Rattle.std.proofs.Common.{◌≡◌, ℕ, zero, suc, ◌+◌, ◌-◌, ◌<◌, ◌≤◌, ℤ, Bool, true, false, ◌||◌, ◌==◌, nat_le, List, [], ◌∷◌, length, get_or, drop, map, Option, Some, None, Result, Ok, Err, refl, sym, ap, subst, ◌∙◌, inl, inr, arith, length-drop, get_or-drop, add-zero}
 use Rattle.std.proofs.lemmas.Bool.{cases_lt}
 use Rattle.std.proofs.lemmas.Bool.Decides.{nat_tests}
 use Rattle.std.proofs.lemmas.List.{get_or_past}
 use Rattle.std.specs.Result.{IsErrAnd}
-use Rattle.ytt_base.specs.declared.fault.Fault.{Fault}
 use Rattle.ytt_base.specs.declared.fault.FaultKind.TheVariants as kind
 use Rattle.ytt_base.specs.declared.fault.Place.{Place}
 use Rattle.ytt_base.specs.declared.line.Line as held
@@ -12,16 +11,16 @@ use Rattle.ytt_base.specs.declared.fault.Stop.{Stop}
 use Rattle.ytt_base.specs.declared.fault.Stop.TheVariants as stop
 use Rattle.ytt_base.specs.Outcomes.{Outcome, Gives, ◌>>=◌}
 use Rattle.yaml_spec.specs.Blocks.{Chomp, Header, Body, is_spaces, lines_within, lines_of_spaces, found_indent, too_long, body_at, empty_body, body, header, ends_header, block_text, Block}
-use Rattle.yaml_spec.specs.Bytes.{indent, bar, greater, first, skip_white}
-use Rattle.yaml_spec.specs.Held.{plain_line, plain_lines}
+use Rattle.yaml_spec.specs.Bytes.{indent, bar, first, skip_white}
+use Rattle.yaml_spec.specs.Held.{plain_lines}
 use Rattle.yaml_spec.specs.Lines.{Line}
 use Rattle.yaml_spec.specs.Openers.{starts_block}
-use Rattle.yaml_spec.specs.Positions.{Quoted, cursor_at, text_at, read_up_to, block_at, least_under}
+use Rattle.yaml_spec.specs.Positions.{cursor_at, read_up_to, block_at, least_under}
 use Rattle.yaml_spec.specs.Quotes.{Cursor}
 use Rattle.yaml_spec.specs.Refusals.{refused, place_below}
 use Rattle.yaml_scalar.specs.View.{quoted_of}
 use Rattle.yaml_scalar.specs.BlockLines.{indent_of, content_at, contents_of, lines_read, block_under}
-use Rattle.yaml_scalar.proofs.QuotedLines.{cursor_in, cursor_at-index, text_at-index, plain_lines-length}
+use Rattle.yaml_spec.proofs.HeldLines.{cursor_in, cursor_at-index, text_at-index, plain_lines-length}
 
 -- ---- lines one by one
 
@@ -82,14 +81,6 @@ contents-le o (l ∷ ls) = by (content_at o l.text) refl (contents-le o ls) wher
   by None e more = rw (contents_of, e) (omega arith)
 
 -- ---- where a block scalar begins
-
-pub block-line : (lines : List held.Line) (at column : ℕ) → (let here = cursor_at (plain_lines lines) at column in starts_block here.text ≡ true) → at < length lines
-block-line [] at column h = cc
-block-line (l ∷ lines) zero column h = omega arith
-block-line (l ∷ lines) (suc at) column h = omega (arith, block-line lines at column h)
-
-pub block-opens : (lines : List held.Line) (at column : ℕ) (l : held.Line) → l ≡ get_or lines at l → (let here = cursor_at (plain_lines lines) at column in starts_block here.text ≡ true) → starts_block (drop column l.text) ≡ true
-block-opens lines at column l i h = rw (cursor_at-index lines at column l (block-line lines at column h) i) at h
 
 pub block-byte : (t : List ℕ) (column : ℕ) → starts_block (drop column t) ≡ true → (column < length t) × (get_or t column 0 < 128)
 block-byte t column h =

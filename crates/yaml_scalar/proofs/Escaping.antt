@@ -1,11 +1,11 @@
 -- What an escape stands for, on the bytes behind its backslash.
-use Rattle.std.proofs.Common.{◌≡◌, ℕ, zero, suc, ◌+◌, ◌*◌, ◌-◌, ◌<◌, ◌≤◌, Bool, true, false, ◌||◌, ◌&&◌, ◌==◌, nat_le, List, [], ◌∷◌, length, get_or, drop, Option, Some, None, refl, sym, ap, ◌∙◌, arith, if◌then◌else◌, length-drop}
+use Rattle.std.proofs.Common.{◌≡◌, ℕ, zero, suc, ◌+◌, ◌*◌, ◌-◌, ◌<◌, ◌≤◌, Bool, true, false, List, [], ◌∷◌, length, get_or, drop, Option, Some, None, refl, arith, if◌then◌else◌, length-drop}
 use Rattle.std.proofs.lemmas.Bool.Decides.{nat_tests}
 use Rattle.std.proofs.lemmas.List.{drop_more}
 use Rattle.std.specs.Char.{IsScalar}
 use Rattle.yaml_spec.specs.Bytes.{is_hex_digit, digit_value}
 use Rattle.yaml_spec.specs.Quotes.{escaped, escape_digits, is_scalar_value}
-use Rattle.yaml_scalar.specs.Turns.{Turn, ends, gives, fails, number_at, escape_at}
+use Rattle.yaml_scalar.specs.Turns.{ends, gives, fails, number_at, escape_at}
 
 pub escape-end : (t : List ℕ) → length t ≡ 0 → escape_at t ≡ ends true
 unfolding escape_at

@@ -1,9 +1,9 @@
 -- Folding part by part.
-use Rattle.std.proofs.Common.{◌≡◌, ℕ, zero, suc, ◌+◌, ◌<◌, Bool, true, false, not, ◌&&◌, ◌==◌, List, [], ◌∷◌, ◌++◌, length, get_or, drop, map, refl, sym, ap, ◌∙◌, arith, append_assoc, append-nil, replicate}
+use Rattle.std.proofs.Common.{◌≡◌, ℕ, zero, suc, ◌+◌, ◌<◌, Bool, true, false, not, ◌&&◌, ◌==◌, List, [], ◌∷◌, ◌++◌, length, get_or, drop, map, refl, sym, ap, ◌∙◌, arith, append_assoc, append-nil}
 use Rattle.std.proofs.lemmas.Bool.Decides.{nat_tests}
 use Rattle.std.proofs.lemmas.List.{drop_more}
 use Rattle.yaml_spec.specs.Bytes.{line_feed, space, is_empty}
-use Rattle.yaml_spec.specs.Folding.{Part, breaks, joint as joint_text, is_empty_line, fold_rest, fold_parts, whole_line, Fold}
+use Rattle.yaml_spec.specs.Folding.{Part, breaks, is_empty_line, fold_rest, fold_parts, whole_line, Fold}
 use Rattle.yaml_scalar.specs.declared.folding.Joint.{Joint}
 use Rattle.yaml_scalar.specs.declared.folding.Joint.TheVariants as joint
 use Rattle.yaml_scalar.specs.declared.folding.Folded.{Folded}

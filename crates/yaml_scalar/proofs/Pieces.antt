@@ -1,13 +1,12 @@
 -- A line of a quoted scalar by pieces.
-use Rattle.std.proofs.Common.{◌≡◌, ℕ, zero, suc, ◌+◌, ◌*◌, ◌-◌, ◌<◌, ◌≤◌, Bool, true, false, not, ◌&&◌, ◌||◌, ◌==◌, nat_le, if◌then◌else◌, List, [], ◌∷◌, ◌++◌, length, get_or, take, drop, Option, Some, None, refl, sym, ap, ◌∙◌, arith, append_assoc, append-nil, lit<}
+use Rattle.std.proofs.Common.{◌≡◌, ℕ, zero, suc, ◌+◌, ◌*◌, ◌<◌, Bool, true, false, ◌==◌, if◌then◌else◌, List, [], ◌∷◌, ◌++◌, take, drop, Option, Some, None, refl, sym, ap, ◌∙◌, arith, append_assoc, append-nil, lit<}
 use Rattle.std.proofs.lemmas.Str.{encode_ascii}
 use Rattle.std.proofs.lemmas.Bool.Decides.{nat_tests}
 use Rattle.std.specs.Char.{encode_utf8}
 use Rattle.std.specs.List.{prefix_len}
-use Rattle.yaml_spec.specs.Bytes.{quote, apostrophe, backslash, first, is_white, is_empty, is_hex_digit, digit_value, trim_end}
-use Rattle.yaml_spec.specs.Folding.{Part}
-use Rattle.yaml_spec.specs.Quotes.{Scan, open_end, closed, wrong, before_part, line_ends, prepend, Mode, normal, escape, digits, escaped, escape_digits, is_scalar_value, single, double, scan}
-use Rattle.yaml_scalar.specs.Turns.{Turn, ends, closes, gives, fails, is_plain, number_at, escape_at, double_at, single_at, turn_at, after_piece}
+use Rattle.yaml_spec.specs.Bytes.{quote, apostrophe, backslash, is_white, is_hex_digit, digit_value, trim_end}
+use Rattle.yaml_spec.specs.Quotes.{Scan, open_end, closed, wrong, line_ends, prepend, normal, escape, digits, escaped, escape_digits, is_scalar_value, single, double, scan}
+use Rattle.yaml_scalar.specs.Turns.{Turn, ends, closes, gives, fails, is_plain, number_at, escape_at, turn_at, after_piece}
 use Rattle.yaml_scalar.proofs.Whites.{trim_end-middle, trim_end-white}
 
 pub prepend-nil : (s : Scan) → prepend [] s ≡ s

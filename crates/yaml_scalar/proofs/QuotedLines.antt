@@ -1,5 +1,5 @@
 -- Scalars in quotes line by line.
-use Rattle.std.proofs.Common.{◌≡◌, ℕ, zero, suc, ◌+◌, ◌-◌, ◌<◌, ◌≤◌, Bool, true, false, ◌||◌, ◌==◌, List, [], ◌∷◌, ◌++◌, length, get_or, drop, Ok, Err, refl, sym, ap, subst, ◌∙◌, inl, inr, arith, length-drop, get_or-drop, add-zero}
+use Rattle.std.proofs.Common.{◌≡◌, ℕ, zero, suc, ◌+◌, ◌-◌, ◌<◌, ◌≤◌, Bool, true, false, ◌==◌, List, [], ◌∷◌, length, get_or, drop, Ok, Err, refl, sym, ap, subst, ◌∙◌, inl, inr, arith, length-drop, get_or-drop, add-zero}
 use Rattle.std.proofs.lemmas.Bool.{cases_lt}
 use Rattle.std.proofs.lemmas.Bool.Decides.{nat_tests}
 use Rattle.std.proofs.lemmas.List.{drop_more, get_or_past}
@@ -8,13 +8,14 @@ use Rattle.ytt_base.specs.declared.fault.FaultKind.TheVariants as kind
 use Rattle.ytt_base.specs.declared.fault.Place.{Place}
 use Rattle.ytt_base.specs.declared.line.Line as held
 use Rattle.ytt_base.specs.Outcomes.{Outcome, ◌>>=◌}
-use Rattle.yaml_spec.specs.Bytes.{quote, apostrophe, first, skip_white}
+use Rattle.yaml_spec.specs.Bytes.{quote, first, skip_white}
 use Rattle.yaml_spec.specs.Folding.{Part, fold_parts}
 use Rattle.yaml_spec.specs.Held.{plain_line, plain_lines}
 use Rattle.yaml_spec.specs.Lines.{Line}
-use Rattle.yaml_spec.specs.Positions.{Quoted, cursor_at, text_at, line_of, column_of, read_up_to, quoted_at}
+use Rattle.yaml_spec.specs.Positions.{Quoted, cursor_at, text_at, read_up_to, quoted_at}
 use Rattle.yaml_spec.specs.Quotes.{Cursor, Scan, open_end, closed, wrong, scan, parts, Quote, starts_quote}
 use Rattle.yaml_spec.specs.Refusals.{refused}
+use Rattle.yaml_spec.proofs.HeldLines.{cursor_in, cursor_at-index, text_at-index, some_item, plain_lines-length, opens-line}
 use Rattle.yaml_scalar.specs.declared.folding.Folded.{Folded}
 use Rattle.yaml_scalar.specs.Joining.{with_parts, part_of}
 use Rattle.yaml_scalar.proofs.Whites.{skip_white-length}
@@ -22,33 +23,6 @@ use Rattle.yaml_scalar.proofs.Whites.{skip_white-length}
 -- what the text so far and the parts that are left make
 abbrev pub folded_with : Folded → List Part × Cursor → Outcome (List ℕ × Cursor)
 folded_with f r = Ok (with_parts f r.0, r.1)
-
--- ---- positions
-
-abbrev pub cursor_in : held.Line → ℕ → List held.Line → Cursor
-cursor_in l column below = record { place = l.place; text = drop column l.text; below = plain_lines below }
-
-pub cursor_at-index : (lines : List held.Line) (at column : ℕ) (l : held.Line) → at < length lines → l ≡ get_or lines at l → cursor_at (plain_lines lines) at column ≡ cursor_in l column (drop (at + 1) lines)
-cursor_at-index [] at column l h e = absurd (omega arith)
-cursor_at-index (x ∷ lines) zero column l h e = rw e refl
-cursor_at-index (x ∷ lines) (suc at) column l h e =
-    let more : suc at + 1 ≡ suc (at + 1) = omega arith in
-    rw more (cursor_at-index lines at column l (omega arith) e)
-
-pub text_at-index : (lines : List held.Line) (at : ℕ) (l : held.Line) → at < length lines → l ≡ get_or lines at l → text_at (plain_lines lines) at ≡ l.text
-text_at-index [] at l h e = absurd (omega arith)
-text_at-index (x ∷ lines) zero l h e = rw e refl
-text_at-index (x ∷ lines) (suc at) l h e = text_at-index lines at l (omega arith) e
-
--- an item, whatever stands for none
-some_item : (lines : List held.Line) (at : ℕ) (d : held.Line) → at < length lines → get_or lines at d ≡ get_or lines at (get_or lines at d)
-some_item [] at d h = absurd (omega arith)
-some_item (x ∷ lines) zero d h = refl
-some_item (x ∷ lines) (suc at) d h = some_item lines at d (omega arith)
-
-pub plain_lines-length : (lines : List held.Line) → length (plain_lines lines) ≡ length lines
-plain_lines-length [] = refl
-plain_lines-length (l ∷ lines) = ap (λ n. suc n) (plain_lines-length lines)
 
 -- the position at the end of what was read of a line
 read_up_to-index : (lines : List held.Line) (at : ℕ) (l : held.Line) (s : List ℕ) (place : Place) (t : List ℕ) → at < length lines → l ≡ get_or lines at l
@@ -58,14 +32,6 @@ read_up_to-index lines at l s place t h e =
     rw (here, text_at-index lines at l h e) refl
 
 -- ---- where a quote opens
-
-pub opens-line : (lines : List held.Line) (at column : ℕ) → (let here = cursor_at (plain_lines lines) at column in starts_quote here.text ≡ true) → at < length lines
-opens-line [] at column h = cc
-opens-line (l ∷ lines) zero column h = omega arith
-opens-line (l ∷ lines) (suc at) column h = omega (arith, opens-line lines at column h)
-
-pub opens-text : (lines : List held.Line) (at column : ℕ) (l : held.Line) → l ≡ get_or lines at l → (let here = cursor_at (plain_lines lines) at column in starts_quote here.text ≡ true) → starts_quote (drop column l.text) ≡ true
-opens-text lines at column l i h = rw (cursor_at-index lines at column l (opens-line lines at column h) i) at h
 
 -- a quote opens with a byte of the text, which is ASCII
 pub opens-byte : (t : List ℕ) (column : ℕ) → starts_quote (drop column t) ≡ true → (column < length t) × (get_or t column 0 < 128)

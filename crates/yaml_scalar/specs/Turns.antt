@@ -1,5 +1,5 @@
 -- Scalars in quotes by pieces: bytes that stand for themselves, and what comes behind them (YAML 1.2.2, 5.7 and 7.3).
-use Rattle.std.specs.Prelude.{ℕ, zero, suc, ◌+◌, ◌*◌, ◌<◌, ◌≤◌, Bool, true, false, not, ◌&&◌, ◌||◌, ◌==◌, if◌then◌else◌, List, [], ◌∷◌, ◌++◌, length, drop, Option, Some, None, encode_utf8}
+use Rattle.std.specs.Prelude.{ℕ, zero, suc, ◌+◌, ◌*◌, ◌<◌, ◌≤◌, Bool, true, false, not, ◌||◌, ◌==◌, if◌then◌else◌, List, [], ◌∷◌, ◌++◌, length, drop, Some, None, encode_utf8}
 use Rattle.yaml_spec.specs.Bytes.{quote, apostrophe, backslash, first, is_hex_digit, digit_value, trim_end}
 use Rattle.yaml_spec.specs.Quotes.{Scan, open_end, closed, wrong, line_ends, prepend, scan, escaped, escape_digits, is_scalar_value}
 

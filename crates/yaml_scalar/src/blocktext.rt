@@ -12,7 +12,7 @@ use std::alloc::Global;
 use ytt_base::text::{Memory, Text};
 
 /// The break behind the last line with content.
-#[derive(Clone, Copy, Debug)]
+#[derive(Clone, Copy)]
 pub enum Break {
     /// There is none: no line with content has come.
     Start,
@@ -45,7 +45,7 @@ impl Break {
 }
 
 /// A block scalar's text so far.
-#[derive(Debug, Drop)]
+#[derive(Drop)]
 pub struct BlockText {
     pub text: String,
     pub is_literal: bool,

@@ -9,7 +9,7 @@ ghost use Rattle.yaml_scalar.specs.View.{turn_of};
 use crate::white::behind;
 
 /// What comes behind bytes that stand for themselves.
-#[derive(Clone, Copy, Debug)]
+#[derive(Clone, Copy)]
 pub enum Turn<'a> {
     /// The line ends, or an escaped break ends it.
     LineEnd { joined: bool },

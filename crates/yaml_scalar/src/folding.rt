@@ -7,7 +7,7 @@ use std::alloc::Global;
 use ytt_base::text::{Memory, Text, Texts};
 
 /// What stands between a folded text and its next part.
-#[derive(Clone, Copy, Debug)]
+#[derive(Clone, Copy)]
 pub enum Joint {
     /// Nothing: the next part is the first.
     Start,
@@ -49,7 +49,7 @@ impl Joint {
 }
 
 /// A text that is folded part by part.
-#[derive(Debug, Drop)]
+#[derive(Drop)]
 pub struct Folded {
     pub text: String,
     pub joint: Joint,

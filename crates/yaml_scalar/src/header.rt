@@ -7,7 +7,7 @@ ghost use Rattle.yaml_scalar.specs.BlockView.{header_of, held_chomp};
 use crate::white::{behind, is_white, skip_white};
 
 /// What becomes of the breaks at the end of a block scalar.
-#[derive(Clone, Copy, Debug)]
+#[derive(Clone, Copy)]
 pub enum Chomp {
     /// None stays.
     Strip,
@@ -18,7 +18,7 @@ pub enum Chomp {
 }
 
 /// The indicators of a block scalar.
-#[derive(Clone, Copy, Debug)]
+#[derive(Clone, Copy)]
 pub struct Header<'a> {
     /// The indentation indicator, 0 for none.
     pub digit: usize,

@@ -11,7 +11,7 @@ use std::alloc::Global;
 use ytt_base::text::Memory;
 
 /// What a line holds of a quoted scalar.
-#[derive(Debug, Drop)]
+#[derive(Drop)]
 pub enum Scan<'a> {
     /// The line ends before the closing quote; `joined` says that an escaped break ends it.
     Open { text: String, joined: bool },

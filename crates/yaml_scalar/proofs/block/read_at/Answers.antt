@@ -3,7 +3,8 @@ use Rattle.ytt_base.specs.declared.line.Line.{Line}
 use Rattle.std.proofs.lemmas.List.{take_rest}
 use Rattle.yaml_scalar.specs.BlockView.{header_of}
 use Rattle.yaml_scalar.specs.View.{quoted_of}
-use Rattle.yaml_scalar.proofs.BlocksRead.{block-opens, block-refused, block-stop, block-read, passed_on}
+use Rattle.yaml_spec.proofs.HeldLines.{block-opens}
+use Rattle.yaml_scalar.proofs.BlocksRead.{block-refused, block-stop, block-read, passed_on}
 use Rattle.yaml_scalar.proofs.block.read_at.Goals as goal
 
 pub opening-is_literal-requires : goal.opening-is_literal-requires

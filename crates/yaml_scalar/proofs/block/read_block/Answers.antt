@@ -1,5 +1,6 @@
 use Rattle.std.proofs.lemmas.Int.{to_z-of_z}
-use Rattle.yaml_scalar.proofs.BlocksRead.{block-line, block_at-under}
+use Rattle.yaml_spec.proofs.HeldLines.{block-line}
+use Rattle.yaml_scalar.proofs.BlocksRead.{block_at-under}
 use Rattle.yaml_scalar.proofs.block.read_block.Goals as goal
 
 pub read_at-requires-clause-there : goal.read_at-requires-clause-there

@@ -1,6 +1,5 @@
-use Rattle.std.proofs.Common.{◌≡◌, ◌+◌, ◌*◌, ◌-◌, ◌<◌, length, get_or, drop, true, sym, ◌∙◌, arith}
-use Rattle.yaml_spec.specs.Bytes.{is_hex_digit, digit_value}
-use Rattle.yaml_scalar.specs.Turns.{number_at}
+use Rattle.std.proofs.Common.{◌≡◌, ◌+◌, ◌*◌, ◌-◌, ◌<◌, length, get_or, sym, ◌∙◌, arith}
+use Rattle.yaml_spec.specs.Bytes.{digit_value}
 use Rattle.yaml_scalar.proofs.Escaping.{hex_ascii, hex_some, hex_none, number-digit, number-other, number-short, number-large, number-whole, number-surrogate}
 use Rattle.yaml_scalar.proofs.escapes.number.Goals as goal
 

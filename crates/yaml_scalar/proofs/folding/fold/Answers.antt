@@ -1,6 +1,6 @@
-use Rattle.std.proofs.Common.{◌≡◌, [], ◌∙◌, arith, length, get_or, sym}
+use Rattle.std.proofs.Common.{◌≡◌, [], ◌∙◌, arith, get_or, sym}
 use Rattle.std.proofs.lemmas.Grind.{common_steps}
-use Rattle.yaml_scalar.proofs.Foldings.{Fold-none, Fold-start, Fold-more}
+use Rattle.yaml_scalar.proofs.Foldings.{Fold-none, Fold-more}
 use Rattle.yaml_scalar.proofs.folding.fold.Goals as goal
 
 pub returns-in_default : goal.returns-in_default

@@ -1,5 +1,4 @@
-use Rattle.std.proofs.Common.{◌≡◌, ◌≢◌, ◌<◌, ◌≤◌, length, sym, ◌∙◌, arith}
-use Rattle.yaml_spec.specs.Bytes.{indent}
+use Rattle.std.proofs.Common.{sym, ◌∙◌, arith}
 use Rattle.yaml_scalar.proofs.BlockIndents.{cut_at_indent, content-indented, content-spaces, content-none}
 use Rattle.yaml_scalar.proofs.indent.content.Goals as goal
 

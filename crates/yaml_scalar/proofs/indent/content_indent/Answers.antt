@@ -1,4 +1,4 @@
-use Rattle.std.proofs.Common.{◌≡◌, sym, ◌∙◌, arith}
+use Rattle.std.proofs.Common.{sym, ◌∙◌, arith}
 use Rattle.yaml_spec.specs.Held.{plain_lines}
 use Rattle.yaml_scalar.proofs.BlockIndents.{indent_of-digit, indent_of-none, indent_of-long, indent_of-found}
 use Rattle.yaml_scalar.proofs.indent.content_indent.Goals as goal

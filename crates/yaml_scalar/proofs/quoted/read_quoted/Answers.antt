@@ -1,10 +1,10 @@
-use Rattle.std.proofs.Common.{◌≡◌, ◌+◌, ◌<◌, ◌≤◌, true, string_bytes, drop, length, get_or, ap, sym, ◌∙◌, arith, rules}
-use Rattle.std.proofs.lemmas.Grind.{common_steps}
+use Rattle.std.proofs.Common.{◌+◌, ◌<◌, ◌≤◌, string_bytes, length, ap, sym, ◌∙◌, arith, rules}
 use Rattle.ytt_base.specs.declared.line.Line.{Line}
 use Rattle.yaml_spec.specs.Bytes.{skip_white}
 use Rattle.yaml_scalar.specs.Joining.{part_of}
 use Rattle.yaml_scalar.specs.View.{scan_of}
-use Rattle.yaml_scalar.proofs.QuotedLines.{text_at-index, opens-line, opens-text, start, reading-wrong, reading-closed, reading-end, reading-more}
+use Rattle.yaml_spec.proofs.HeldLines.{opens-line, opens-text, text_at-index}
+use Rattle.yaml_scalar.proofs.QuotedLines.{start, reading-wrong, reading-closed, reading-end, reading-more}
 use Rattle.yaml_scalar.proofs.quoted.read_quoted.Goals as goal
 
 pub offset_bounds-all-at : goal.offset_bounds-all-at

@@ -1,4 +1,4 @@
-use Rattle.std.proofs.Common.{◌≡◌, ◌-◌, ◌<◌, ◌≤◌, IsUtf8, length}
+use Rattle.std.proofs.Common.{◌-◌, ◌<◌, IsUtf8, length}
 use Rattle.yaml_scalar.proofs.QuotedLines.{IsReading}
 use Rattle.yaml_scalar.proofs.quoted.read_quoted.Given as goal
 

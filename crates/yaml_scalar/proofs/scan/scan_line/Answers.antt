@@ -1,6 +1,6 @@
-use Rattle.std.proofs.Common.{◌≡◌, ◌<◌, ℕ, ap, length, sym, arith, rules}
+use Rattle.std.proofs.Common.{◌<◌, ℕ, ap, length, sym, arith, rules}
 use Rattle.std.proofs.lemmas.List.{length-drop}
-use Rattle.yaml_scalar.specs.Turns.{closes, ends, fails, gives, turn_at}
+use Rattle.yaml_scalar.specs.Turns.{closes, fails}
 use Rattle.yaml_scalar.proofs.Pieces.{run-behind, piece, piece-gives, piece-joined, piece-open}
 use Rattle.yaml_scalar.proofs.scan.scan_line.Goals as goal
 use Rattle.yaml_scalar.proofs.scan.scan_line.Goals.{then-joined, else-joined}

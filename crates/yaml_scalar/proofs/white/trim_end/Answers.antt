@@ -1,4 +1,4 @@
-use Rattle.std.proofs.Common.{◌≡◌, ◌-◌, ◌∙◌, sym, false, true, get_or, take, slice_range, arith}
+use Rattle.std.proofs.Common.{◌≡◌, ◌-◌, ◌∙◌, sym, true, get_or, take, slice_range, arith}
 use Rattle.std.proofs.lemmas.Grind.{common_steps}
 use Rattle.yaml_spec.specs.Bytes.{is_white}
 use Rattle.yaml_scalar.proofs.Whites.{trim_end-last, trim_end-done, cut_before_white}
