@@ -7,8 +7,8 @@ pub mod FirstText
 pub mod Flat
 pub mod FlatNoted
 pub mod Flow
-pub mod Held
 pub mod Folding
+pub mod Held
 pub mod Indents
 pub mod Lines
 pub mod Noted
