@@ -117,9 +117,9 @@ refuses_wider : value_of_a (codes "170141183460469231731687303715884105728") ≡
 unfolding form plain
 refuses_wider = refl
 
-refuses_word_back : value_of_a (codes "yes") ≡ not_built (place_at 1 1)
+reads_word_back : value_of_a (codes "yes") ≡ a_is (text (codes "yes"))
 unfolding form
-refuses_word_back = refl
+reads_word_back = refl
 
 -- ---- printing
 

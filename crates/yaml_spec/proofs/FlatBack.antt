@@ -13,6 +13,7 @@ use Rattle.yaml_spec.specs.Bytes.{all_bytes, is_digit, is_letter_or_digit}
 use Rattle.yaml_spec.specs.Flat.{any_value, documents_in, entry_at, is_colon, is_plain_word, is_quoted_run, is_run, one_map, pairs_in, Reads}
 use Rattle.yaml_spec.specs.FirstLines.{lines}
 use Rattle.yaml_spec.specs.FirstReadsBack.{AreFlat, AreFlatPairs, IsValue, ReadsAlone}
+use Rattle.yaml_spec.specs.Scalars.{form, is_string_form}
 use Rattle.yaml_spec.specs.FirstText.{Text, fits_plain, key_text, map_text, pair_text, quoted_text, string_text}
 use Rattle.yaml_spec.proofs.IntegersBack.{decimal-digits, form-decimal, plain-decimal}
 use Rattle.yaml_spec.proofs.WordsBack.{word_fits}
@@ -76,7 +77,7 @@ record IsBack (t : Tree) (text : List ℕ) : Type 0 where
   value : (place : Place) → any_value place text ≡ Ok t
 
 plain_value : (place : Place) (s : List ℕ) → is_quoted_run s ≡ false → fits_plain s ≡ true → any_value place s ≡ Ok (scalar (string s))
-plain_value place s q f = rw (q, f) refl
+plain_value place s q f = let p = both (is_run s) (is_string_form (form s)) f in rw (q, p.0, p.1) refl
 
 fits_no_quote : (s : List ℕ) → list_all is_letter_or_digit s ≡ true → is_quoted_run s ≡ false
 fits_no_quote [] h = refl

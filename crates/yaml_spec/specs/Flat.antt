@@ -9,7 +9,7 @@ use Rattle.ytt_base.specs.Outcomes.{Outcome, ◌>>=◌, fault_at, place_at}
 use Rattle.ytt_base.specs.Trees.{Scalar, integer, string, Tree, scalar, map, Trees, no_trees, tree, Pairs, no_pairs, pair, has_key}
 use Rattle.yaml_spec.specs.Bytes.{space, quote, dash, dot, colon, is_digit, is_letter, is_letter_or_digit, is_reserved, first}
 use Rattle.yaml_spec.specs.FirstLines.{lines}
-use Rattle.yaml_spec.specs.Scalars.{form, plain, is_integer_form, is_string_form}
+use Rattle.yaml_spec.specs.Scalars.{form, plain, is_integer_form, is_string_form, is_word_form}
 
 -- a letter, then letters and digits, and no reserved word
 abbrev pub is_plain_word : List ℕ → Bool
@@ -72,11 +72,11 @@ abbrev pub scalar_at : Place → Result Scalar FaultKind → Outcome Tree
 scalar_at place (Ok s) = Ok (scalar s)
 scalar_at place (Err k) = Err (fault_at k place)
 
--- What a VALUE stands for where a text is read back: beside the quoted runs each run that the scalar table types as a string, and every decimal integer.
+-- What a VALUE stands for where a text is read back: beside the quoted runs each run that the scalar table types as a string (the words of YAML 1.1 too), and every decimal integer.
 abbrev pub any_value : Place → List ℕ → Outcome Tree
 any_value place v =
     if is_quoted_run v then Ok (scalar (string (middle v)))
-    else if is_run v && is_string_form (form v) then Ok (scalar (string v))
+    else if is_run v && (is_string_form (form v) || is_word_form (form v)) then Ok (scalar (string v))
     else if is_integer_form (form v) then scalar_at place (plain v)
     else no_value place v
 

@@ -138,6 +138,11 @@ abbrev pub is_string_form : Form → Bool
 is_string_form string_form = true
 is_string_form _ = false
 
+-- a plain scalar of this form is a word that YAML 1.1 reads as a bool, and that is a string here
+abbrev pub is_word_form : Form → Bool
+is_word_form word_form = true
+is_word_form _ = false
+
 abbrev pub is_integer_form : Form → Bool
 is_integer_form integer_form = true
 is_integer_form _ = false

@@ -1,8 +1,8 @@
 -- The number of the wrong word is that of the first at which no request goes on.
-use Rattle.std.proofs.Common.{◌≡◌, ℕ, ◌+◌, ◌-◌, ◌≤◌, Bool, true, false, ◌&&◌, cond, List, [], ◌∷◌, ◌++◌, length, take, Option, Some, None, is_none, unwrap_or, codes, refl, ap, sym, ◌∙◌, arith, append_assoc, append-nil}
+use Rattle.std.proofs.Common.{◌≡◌, ℕ, ◌+◌, ◌-◌, ◌≤◌, Bool, true, false, ◌&&◌, cond, List, [], ◌∷◌, ◌++◌, length, take, Option, Some, None, is_none, unwrap_or, codes, refl, ap, sym, ◌∙◌, arith, append_assoc, append-nil, length-append}
 use Rattle.std.proofs.Math.Seq.{take-append_seam, take-append-add}
 use Rattle.ytt_spec.proofs.WordsRead.{read_request, request_read}
-use Rattle.ytt_spec.specs.Requests.{Begins, IsFirstWrong}
+use Rattle.ytt_spec.specs.Requests.{Begins, IsFirstWrong, IsRequest}
 use Rattle.ytt_spec.specs.Words.{Asked, render, wrong, default_steps, is_path, is_steps, number_of, is_command, is_path_option, is_steps_option, options, path_of, steps_of, asked}
 
 -- Of words from number n on, the one of number m is the first at which the reading can't end in a request.
@@ -178,6 +178,16 @@ none_begins words n s (w ∷ ws) r l b =
     let stops : asked (take n words ++ b.more) ≡ wrong n = ap (λ front. asked (front ++ b.more)) taken ∙ ap asked (append_assoc s.front (w ∷ []) b.more) ∙ s.refused w ws r b.more in
     cc
 
+-- the number is at most the one behind the last word
+number_within : (words front rest : List (List ℕ)) (n : ℕ) → words ≡ front ++ rest → n ≡ 1 + length front → n ≤ length words + 1
+number_within words front rest n split number =
+    let long : length words ≡ length front + length rest = ap length split ∙ length-append front rest in
+    omega arith
+
+-- words of which one is wrong are no request, since each request is read
+is_no_request : (words : List (List ℕ)) (n : ℕ) → asked words ≡ wrong n → (path : List ℕ) (steps : ℕ) → IsRequest words path steps → ⊥
+is_no_request words n e path steps r = let reads = read_request words path steps r in cc
+
 -- the number that is told is that of the first wrong word
 pub wrong_words : (words : List (List ℕ)) (n : ℕ) → asked words ≡ wrong n → IsFirstWrong words n
 wrong_words words n e =
@@ -190,4 +200,6 @@ wrong_words words n e =
         request = request_read (take (n - 1) words ++ s.more) s.path s.steps (ap (λ front. asked (front ++ s.more)) (front_taken words s.front s.rest n s.split s.number) ∙ s.goes_on);
       };
       at = none_begins words n s s.rest refl;
+      within = number_within words s.front s.rest n s.split s.number;
+      no_request = is_no_request words n e;
     }

@@ -1,5 +1,5 @@
 -- What a request is, and which word of a command line is wrong: in terms of how requests are spelled.
-use Rattle.std.specs.Prelude.{◌≡◌, ◌⊎◌, ℕ, ◌-◌, ◌≤◌, true, List, [], ◌∷◌, ◌++◌, length, take, codes}
+use Rattle.std.specs.Prelude.{◌≡◌, ◌⊎◌, ℕ, ◌+◌, ◌-◌, ◌≤◌, true, List, [], ◌∷◌, ◌++◌, length, take, codes}
 use Rattle.ytt_spec.specs.Words.{default_steps, is_path, is_steps, number_of}
 
 -- an option, with the word that it gives
@@ -44,7 +44,9 @@ pub record Begins (words : List (List ℕ)) : Type 0 where
   pub steps : ℕ
   pub request : IsRequest (words ++ more) path steps
 
--- the number of the first word at which no request goes on, or the one behind the last word
+-- These words are no request, and n is the number of the first one at which no request goes on, or where there is none, the one behind the last word.
 pub record IsFirstWrong (words : List (List ℕ)) (n : ℕ) : Type 0 where
   pub before : Begins (take (n - 1) words)
   pub at : n ≤ length words → Begins (take n words) → ⊥
+  pub within : n ≤ length words + 1
+  pub no_request : (path : List ℕ) (steps : ℕ) → IsRequest words path steps → ⊥
