@@ -66,3 +66,5 @@ pub block-starts : (lines : List held.Line) (at column : ℕ) (l : held.Line) �
 block-starts lines at column l there i h =
     let here : get_or (drop column l.text) 0 0 ≡ get_or l.text column 0 = rw (get_or-drop column l.text 0 0, add-zero) refl in
     rw (cursor_at-index lines at column l there i, here) (grind (arith, nat_tests))
+
+pub ruleset openers = (quote-opens, block-starts)
