@@ -10,7 +10,6 @@ use Rattle.yaml_spec.specs.FlatNoted.{is_plain_text, noted_documents}
 use Rattle.yaml_spec.specs.FirstReadsBack.{AreFlat}
 use Rattle.star_spec.specs.Reading.{IsReader, Reader}
 use Rattle.template_spec.specs.Placing.{placed}
-use Rattle.star_read.proofs.Laws.{a_reader_exists}
 use Rattle.ytt_spec.proofs.FlatBuilt.{built_flat}
 use Rattle.ytt_spec.specs.Meaning.{TextMeans, built, text_meaning}
 
@@ -27,5 +26,5 @@ pub gives_plain : (steps : ℕ) (bytes : List ℕ) (result : Result (List Tree) 
 gives_plain steps bytes result h g r reads = subst (λ (o : Outcome Trees). Gives trees_of result o) (sym (means_plain r steps bytes h)) g
 
 -- the documents of a text read back
-pub flat_documents : (steps : ℕ) (bytes : List ℕ) (ds : Trees) → TextMeans steps bytes (Ok ds) → AreFlat ds
-flat_documents steps bytes ds means = built_flat a_reader_exists.0 a_reader_exists.1 steps bytes ds (means a_reader_exists.0 a_reader_exists.1)
+pub flat_documents : (r : Reader) → IsReader r → (steps : ℕ) (bytes : List ℕ) (ds : Trees) → TextMeans steps bytes (Ok ds) → AreFlat ds
+flat_documents r reads steps bytes ds means = built_flat r reads steps bytes ds (means r reads)

@@ -10,6 +10,7 @@ ghost use Rattle.ytt_spec.specs.Meaning.{Means, TextMeans, built, has_ending, is
 ghost use Rattle.ytt_main.specs.Rendering.{Counts, IsNoFailure, IsNoFolder, IsReadFailure, Refuses, Renders};
 
 use star_eval::run_flat;
+use star_read::a_reader_exists;
 use std::alloc::Global;
 use template_compile::compile_flat;
 use template_tree::place_flat;
@@ -110,6 +111,7 @@ fn read_documents(alloc: Global, bytes: &[u8], steps: u64) -> Result<Trees, Rend
     ensures flat { IfOk result (λ trees. AreFlat (trees_of trees)) }
     ensures none_failed { IsNoFailure result }
 {
+    a_reader_exists();
     match read_text(alloc, bytes, steps) {
         Ok(trees) => Ok(trees),
         Err(Stop::Fault(fault)) => Err(RenderStop::Fault(fault)),
