@@ -15,7 +15,7 @@ use Rattle.yaml_spec.specs.Bytes.{indent, bar, first, skip_white}
 use Rattle.yaml_spec.specs.Held.{plain_lines}
 use Rattle.yaml_spec.specs.Lines.{Line}
 use Rattle.yaml_spec.specs.Openers.{starts_block}
-use Rattle.yaml_spec.specs.Positions.{cursor_at, read_up_to, block_at, least_under}
+use Rattle.yaml_spec.specs.Positions.{read_up_to, block_at, least_under}
 use Rattle.yaml_spec.specs.Quotes.{Cursor}
 use Rattle.yaml_spec.specs.Refusals.{refused, place_below}
 use Rattle.yaml_scalar.specs.View.{quoted_of}

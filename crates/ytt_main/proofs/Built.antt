@@ -1,5 +1,5 @@
 -- What a template builds, by the run of its program.
-use Rattle.std.proofs.Common.{◌≡◌, ℕ, ap, subst, sym, List, Result, Ok, Err}
+use Rattle.std.proofs.Common.{ℕ, ap, subst, List, Result, Ok, Err}
 use Rattle.ytt_base.specs.Outcomes.{Gives}
 use Rattle.ytt_base.specs.View.{trees_of}
 use Rattle.ytt_base.specs.declared.fault.Stop.{Stop}
@@ -10,7 +10,7 @@ use Rattle.star_spec.specs.Outcomes.{Ending, done, bad}
 use Rattle.star_spec.specs.Program.{Instruction}
 use Rattle.star_spec.specs.Values.{Children}
 use Rattle.template_spec.specs.Compiled.{compiled}
-use Rattle.template_spec.specs.Meaning.{BuildFile, RunFile, RunsAsBuilt}
+use Rattle.template_spec.specs.Meaning.{RunFile, RunsAsBuilt}
 use Rattle.template_spec.specs.Placed.{Placed, free}
 use Rattle.template_spec.specs.Template.{Items}
 use Rattle.star_eval.specs.Parts.{Shows}

@@ -1,13 +1,11 @@
 -- A file that is no template.
 use Rattle.std.proofs.Common.{◌≡◌, ℕ, false, not, nat_lt, cond, List, length, Option, Some, None, IfSome, Err, ap, sym, ◌∙◌}
-use Rattle.ytt_base.specs.Outcomes.{Outcome}
-use Rattle.ytt_base.specs.Trees.{Trees}
 use Rattle.ytt_base.specs.declared.fault.Fault.{Fault}
 use Rattle.ytt_base.specs.declared.fault.FaultKind.TheVariants as kinds
 use Rattle.ytt_outside.specs.Files.{kind_of}
 use Rattle.ytt_outside.specs.Standing.{Standing, nothing, file, folder}
 use Rattle.ytt_outside.specs.declared.files.PathKind.TheVariants as kind
-use Rattle.ytt_spec.specs.Meaning.{Means, is_template, largest_file, last_part, meaning, not_built, path_fault, text_meaning}
+use Rattle.ytt_spec.specs.Meaning.{Means, is_template, largest_file, last_part, not_built, path_fault, text_meaning}
 use Rattle.ytt_main.specs.Rendering.{Refuses, Renders}
 use Rattle.ytt_main.specs.declared.render.RenderStop.{RenderStop}
 use Rattle.ytt_main.specs.declared.render.RenderStop.TheVariants as stop

@@ -1,5 +1,5 @@
 -- What a text means, and that it reads back.
-use Rattle.std.proofs.Common.{◌≡◌, ℕ, Bool, refl, true, false, not, cond, List, Result, Ok, subst, sym, ap, ◌∙◌}
+use Rattle.std.proofs.Common.{◌≡◌, ℕ, Bool, refl, true, false, not, cond, List, Result, Ok, subst, sym}
 use Rattle.ytt_base.specs.Outcomes.{Gives, Outcome, ◌>>=◌}
 use Rattle.ytt_base.specs.Trees.{Trees}
 use Rattle.ytt_base.specs.View.{trees_of}

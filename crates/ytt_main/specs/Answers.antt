@@ -1,10 +1,7 @@
 -- What the answer to the words is.
-use Rattle.std.specs.Prelude.{◌≡◌, ℕ, List}
 use Rattle.ytt_base.specs.View.{trees_of}
-use Rattle.ytt_outside.specs.Counts.{Rose}
 use Rattle.yaml_spec.specs.FirstText.{Text}
-use Rattle.ytt_spec.specs.Due.{Due, done, fault, usage, read_failed_line, usage_line}
-use Rattle.ytt_spec.specs.Words.{Asked, render, wrong}
+use Rattle.ytt_spec.specs.Due.{Due, done, fault, usage}
 use Rattle.ytt_main.specs.declared.answer.Answer.{Answer}
 use Rattle.ytt_main.specs.declared.answer.Answer.TheVariants as answer
 
