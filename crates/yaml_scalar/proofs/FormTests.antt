@@ -1,7 +1,7 @@
 -- The form of a plain scalar, by the tests up to the one that holds.
-use Rattle.std.proofs.Common.{◌≡◌, ℕ, List, refl, sym, Bool, true, false, ◌&&◌, ◌∙◌, if◌then◌else◌, codes}
+use Rattle.std.proofs.Common.{◌≡◌, ℕ, List, refl, Bool, true, false, ◌&&◌, ◌∙◌, if◌then◌else◌, codes}
 use Rattle.std.specs.List.{list_all}
-use Rattle.yaml_spec.specs.Bytes.{all_bytes, is_word, null_words, true_words, false_words, yes_words, is_digit, is_octal_digit, is_hex_digit}
+use Rattle.yaml_spec.specs.Bytes.{is_word, null_words, true_words, false_words, yes_words, is_digit, is_octal_digit, is_hex_digit}
 use Rattle.yaml_spec.specs.Scalars.{Form, null_form, bool_form, octal_form, bad_octal_form, integer_form, prefixed_form, float_form, word_form, string_form, form, unsigned, some_of, has_leading_zero, has_prefix, is_float}
 use Rattle.yaml_scalar.proofs.ByteTests.{all_bytes-list_all}
 

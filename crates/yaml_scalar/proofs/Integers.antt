@@ -1,19 +1,18 @@
 -- Integers as the program reads them.
 use Rattle.std.specs.Int.{w128}
-use Rattle.std.proofs.Common.{◌≡◌, ℤ, FitsSigned, ℕ, zero, suc, ◌+◌, ◌*◌, ◌^◌, ◌<◌, ◌≤◌, pos, negsuc, neg_ℤ, Bool, true, false, not, ◌&&◌, ◌||◌, ◌==◌, cond, if◌then◌else◌, List, [], ◌∷◌, length, drop, Ok, Err, refl, sym, ◌∙◌, ap, arith, nat_le, nat_lt}
-use Rattle.std.proofs.lemmas.Bool.{le-leb, le-ltb, lt-ltb, leb-true}
+use Rattle.std.proofs.Common.{◌≡◌, ℤ, FitsSigned, ℕ, zero, suc, ◌+◌, ◌*◌, ◌^◌, ◌<◌, ◌≤◌, pos, neg_ℤ, Bool, true, false, ◌||◌, cond, if◌then◌else◌, List, [], ◌∷◌, drop, Ok, Err, refl, ◌∙◌, ap, arith, nat_lt}
+use Rattle.std.proofs.lemmas.Bool.{le-leb, le-ltb, lt-ltb}
 use Rattle.std.proofs.lemmas.Bool.Decides.{nat_tests}
 use Rattle.std.specs.Char.{digit_value as std_digit}
 use Rattle.std.specs.Str.Parse.{AllDigits, IsNumeral, digits_value_after, signed_digits_value, starts_with_minus, without_leading_sign}
 use Rattle.std.specs.Str.Parse.{digits_value as std_value}
 use Rattle.ytt_base.specs.declared.fault.FaultKind.TheVariants as kind
 use Rattle.ytt_base.specs.declared.fault.Place.{Place}
-use Rattle.ytt_base.specs.Outcomes.{Outcome, ◌>>=◌, fault_at}
+use Rattle.ytt_base.specs.Outcomes.{Outcome, fault_at}
 use Rattle.ytt_base.specs.Trees.{Tree, integer, scalar}
 use Rattle.ytt_base.proofs.Views.{tree_of-Int}
-use Rattle.yaml_spec.specs.Bytes.{all_bytes, digit_value, is_digit, is_octal_digit, is_hex_digit, is_empty}
-use Rattle.yaml_spec.specs.Plain.{typed}
-use Rattle.yaml_spec.specs.Scalars.{digits_value, integer_of, is_negative, some_of, unsigned, with_sign}
+use Rattle.yaml_spec.specs.Bytes.{digit_value}
+use Rattle.yaml_spec.specs.Scalars.{digits_value, integer_of, unsigned}
 use Rattle.yaml_scalar.specs.Integers.{integer_at}
 
 -- ---- digits

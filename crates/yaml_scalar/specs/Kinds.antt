@@ -1,5 +1,4 @@
 -- The forms and kinds of plain scalars, as plain data, that the program's stand for.
-use Rattle.std.specs.Prelude.{Bool, true, false}
 use Rattle.yaml_spec.specs.Scalars.{Form, null_form, bool_form, octal_form, bad_octal_form, integer_form, prefixed_form, float_form, word_form, string_form, PlainKind, null_kind, bool_kind, integer_kind, octal_kind, bad_octal_kind, hex_kind, float_kind, word_kind, string_kind}
 use Rattle.yaml_scalar.specs.declared.form.Form as told
 use Rattle.yaml_scalar.specs.declared.form.Form.TheVariants as form

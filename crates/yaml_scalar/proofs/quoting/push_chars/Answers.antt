@@ -1,4 +1,4 @@
-use Rattle.std.proofs.Common.{◌++◌, map-id, sym, ap, ◌∙◌, chars, string_bytes}
+use Rattle.std.proofs.Common.{◌++◌, map-id, sym, ap, ◌∙◌, string_bytes}
 use Rattle.std.proofs.lemmas.Iterator.{YieldsList-from_chars}
 use Rattle.std.proofs.lemmas.Iterator.Consumers.{YieldsList-end}
 use Rattle.yaml_spec.specs.Text.{quoted_chars}
