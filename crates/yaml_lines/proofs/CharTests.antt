@@ -1,5 +1,5 @@
 -- The test of each character of a text.
-use Rattle.std.proofs.Common.{◌≡◌, ℕ, List, [], ◌∷◌, refl, ap, Bool, ◌&&◌, ◌||◌, ◌==◌}
+use Rattle.std.proofs.Common.{◌≡◌, ℕ, List, [], ◌∷◌, refl, ap, ◌&&◌, ◌||◌, ◌==◌}
 use Rattle.std.specs.List.{list_all}
 use Rattle.yaml_spec.specs.Bytes.{tab}
 use Rattle.yaml_spec.specs.Lines.{all_printable, is_printable}

@@ -1,5 +1,5 @@
 -- Lines that are UTF-8.
-use Rattle.std.specs.Prelude.{ℕ, Bool, true, false, if◌then◌else◌, List, Some, None, Ok}
+use Rattle.std.specs.Prelude.{ℕ, if◌then◌else◌, List, Some, None, Ok}
 use Rattle.std.specs.Str.{is_utf8}
 use Rattle.ytt_base.specs.declared.fault.FaultKind.TheVariants as kind
 use Rattle.ytt_base.specs.declared.fault.Place.{Place}

@@ -7,7 +7,7 @@ use crate::bytes::{all_octal_digits, some_digits};
 use crate::number::{is_float, is_prefixed_hex, is_prefixed_octal, unsigned};
 use crate::words::{is_false_word, is_null_word, is_true_word, is_yes_word};
 
-/// The forms of a plain scalar.
+/// The forms of a plain scalar, in the order in which they are tried.
 #[derive(Clone, Copy, Debug, PartialEq, Eq)]
 pub enum Form {
     Null,
@@ -37,8 +37,8 @@ fn has_leading_zero(digits: &[u8]) -> bool
     }
 }
 
-/// The form of a plain scalar: the first one that fits, in the order of the variants, where one
-/// without a sign is tried behind those with one (YAML 1.2.2, 10.3.2, in this profile).
+/// The form of a plain scalar: the first of the variants that fits, in their order (YAML 1.2.2,
+/// 10.3.2, in this profile).
 #[tactic(auto, using(crate::proofs::FormTests::forms))]
 pub fn form_of(text: &[u8]) -> Form
     ensures { plain_form result ≡ form text.now }

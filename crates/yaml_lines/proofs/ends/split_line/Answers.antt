@@ -1,4 +1,3 @@
-use Rattle.std.proofs.Common.{◌∙◌, sym, ap, ◌∷◌}
 use Rattle.yaml_lines.proofs.Breaks.{lines-split}
 use Rattle.yaml_lines.proofs.ends.split_line.Goals as goal
 
