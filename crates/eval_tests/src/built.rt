@@ -1,6 +1,6 @@
 // Templates made by hand, with forms that no text is read as yet.
 
-use crate::shown::{shown_run, shown_stop};
+use crate::shown::{run, shown};
 use sqlite_items::Items;
 use star_eval::run_flat;
 use star_tree::{Expr, Instr, Instrs, NodeOp, Program};
@@ -76,18 +76,24 @@ fn templates_made_by_hand_are_run(rt: HostRuntime) -> Result<(), Fail> {
     let list = pair(alloc, 2, Key::Int(5), TContent::List(elements));
     let empty = pair(alloc, 5, Key::Null, TContent::Map(Items::new(alloc)));
     let nested = node(alloc, 1, TContent::Map(items(alloc, list, empty)?));
-    let shown = shown_run(
+    let given = run(
         alloc,
         &template(alloc, nested, node(alloc, 6, null()))?,
         100,
     )?;
-    assert_eq!(rt; shown.as_str(), "{5: [1, null], null: {}} with 94 steps");
-    let refused = template(alloc, twice(alloc, "a b", false)?, node(alloc, 6, null()))?;
-    let shown = shown_run(alloc, &refused, 100)?;
-    assert_eq!(rt; shown.as_str(), "error: KeyTwice at b.yml:3: a b\n");
+    assert_eq!(rt;
+        given.bytes(),
+        b"5:\n- 1\n- null\nnull: {}\n94 steps".as_slice()
+    );
+    let refused = template(alloc, twice(alloc, "a", false)?, node(alloc, 6, null()))?;
+    let given = run(alloc, &refused, 100)?;
+    assert_eq!(rt;
+        given.bytes(),
+        b"error: KeyTwice at b.yml:3: a\n".as_slice()
+    );
     let replaced = template(alloc, node(alloc, 6, null()), twice(alloc, "a", true)?)?;
-    let shown = shown_run(alloc, &replaced, 100)?;
-    assert_eq!(rt; shown.as_str(), "{a: 2} with 95 steps");
+    let given = run(alloc, &replaced, 100)?;
+    assert_eq!(rt; given.bytes(), b"a: 2\n95 steps".as_slice());
     Ok(())
 }
 
@@ -96,12 +102,7 @@ fn a_program_in_no_form_is_refused(rt: HostRuntime) -> Result<(), Fail> {
     let alloc = rt.alloc();
     let mut code: Instrs = Items::new(alloc);
     code.push(Instr::Node(NodeOp::End(Place { file: 2, line: 1 })))?;
-    match run_flat(alloc, &Program { file: 2, code }, 100) {
-        Err(stop) => {
-            let shown = shown_stop(alloc, &stop)?;
-            assert_eq!(rt; shown.as_str(), "error: CodeForm\n");
-        }
-        Ok(result) => assert!(rt; result.steps_left > 100),
-    }
+    let given = shown(alloc, &run_flat(alloc, &Program { file: 2, code }, 100))?;
+    assert_eq!(rt; given.bytes(), b"error: CodeForm\n".as_slice());
     Ok(())
 }

@@ -1,11 +1,12 @@
 // Texts with code, and what they give.
 ghost use Rattle.std.specs.Prelude.{◌<◌, ◌^◌, length};
 
-use crate::shown::{shown_run, shown_stop};
+use crate::shown::{run, shown};
 use std::alloc::Global;
 use std::test::Fail;
 use template_tree::place_flat;
 use yaml_read::read_noted;
+use ytt_outside::mem_sink::MemSink;
 
 struct Row {
     text: &'static [u8],
@@ -17,7 +18,7 @@ const ROWS: &[Row] = &[
     Row {
         text: b"a: #@ 2 + 3 * 4",
         steps: 100,
-        gives: "{a: 14} with 93 steps",
+        gives: "a: 14\n93 steps",
     },
     Row {
         text: b"a: 1\nb: #@ 1 // 0\n",
@@ -37,7 +38,7 @@ const ROWS: &[Row] = &[
     Row {
         text: b"a: #@ 170141183460469231731687303715884105727",
         steps: 100,
-        gives: "{a: 170141183460469231731687303715884105727} with 97 steps",
+        gives: "a: 170141183460469231731687303715884105727\n97 steps",
     },
     Row {
         text: b"a: #@ 170141183460469231731687303715884105727 + 1",
@@ -47,7 +48,7 @@ const ROWS: &[Row] = &[
     Row {
         text: b"a: #@ -170141183460469231731687303715884105727 - 1",
         steps: 100,
-        gives: "{a: -170141183460469231731687303715884105728} with 94 steps",
+        gives: "a: -170141183460469231731687303715884105728\n94 steps",
     },
     Row {
         text: b"a: #@ -170141183460469231731687303715884105727 - 2",
@@ -67,12 +68,12 @@ const ROWS: &[Row] = &[
     Row {
         text: b"a: #@ -7 // 2\nb: #@ 7 // -2\nc: #@ -7 // -2\nd: #@ 6 // -2\ne: #@ -6 // 2\nf: #@ 0 // -5",
         steps: 100,
-        gives: "{a: -4, b: -4, c: 3, d: -3, e: -3, f: 0} with 68 steps",
+        gives: "a: -4\nb: -4\nc: 3\nd: -3\ne: -3\nf: 0\n68 steps",
     },
     Row {
         text: b"a: #@ 1",
         steps: 3,
-        gives: "{a: 1} with 0 steps",
+        gives: "a: 1\n0 steps",
     },
     Row {
         text: b"a: #@ 1",
@@ -82,7 +83,7 @@ const ROWS: &[Row] = &[
     Row {
         text: b"a: #@ \"x\" * 3\nb: #@ 3 * \"x\"\nc: #@ \"x\" * -1\nd: #@ \"\" * 170141183460469231731687303715884105727",
         steps: 100,
-        gives: "{a: 'xxx', b: 'xxx', c: '', d: ''} with 82 steps",
+        gives: "a: xxx\nb: xxx\nc: \"\"\nd: \"\"\n82 steps",
     },
     Row {
         text: b"a: #@ \"x\" * 170141183460469231731687303715884105727",
@@ -92,7 +93,7 @@ const ROWS: &[Row] = &[
     Row {
         text: b"a: #@ \"0123456789abcdef\" + \"x\"",
         steps: 8,
-        gives: "{a: '0123456789abcdefx'} with 0 steps",
+        gives: "a: 0123456789abcdefx\n0 steps",
     },
     Row {
         text: b"a: #@ \"0123456789abcdef\" + \"x\"",
@@ -102,20 +103,20 @@ const ROWS: &[Row] = &[
     Row {
         text: b"",
         steps: 7,
-        gives: " with 7 steps",
+        gives: "7 steps",
     },
 ];
 
-fn given(alloc: Global, row: &Row) -> Result<String, Fail>
+fn given(alloc: Global, row: &Row) -> Result<MemSink, Fail>
     requires { length row.now.text.now < 2 ^ 32 }
 {
     let docs = match read_noted(alloc, row.text, 2) {
-        Err(stop) => return shown_stop(alloc, &stop),
+        Err(stop) => return shown(alloc, &Err(stop)),
         Ok(docs) => docs,
     };
     match place_flat(alloc, docs, 2) {
-        Err(stop) => shown_stop(alloc, &stop),
-        Ok(template) => shown_run(alloc, &template, row.steps),
+        Err(stop) => shown(alloc, &Err(stop)),
+        Ok(template) => run(alloc, &template, row.steps),
     }
 }
 
@@ -124,8 +125,7 @@ fn texts_with_code_are_run(rt: HostRuntime) -> Result<(), Fail> {
     let alloc = rt.alloc();
     for row in ROWS {
         assert!(rt; row.text.len() < 1000);
-        let gives = given(alloc, row)?;
-        assert_eq!(rt; gives.as_str(), row.gives);
+        assert_eq!(rt; given(alloc, row)?.bytes(), row.gives.as_bytes());
     }
     Ok(())
 }
