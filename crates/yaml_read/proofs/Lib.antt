@@ -1,4 +1,5 @@
 pub mod Breaks
+pub mod Files
 pub mod NotedReading
 pub mod Noting
 pub mod Reading

@@ -11,9 +11,11 @@ use Rattle.yaml_spec.specs.FlatNoted.{Beside, before_items, beside_at, noted_doc
 use Rattle.yaml_spec.specs.FirstLines.{lines, start_line}
 use Rattle.yaml_spec.specs.Noted.{Note, Content, Items, no_items, item}
 use Rattle.yaml_read.specs.declared.noted.NotedItem.{NotedItem}
+use Rattle.yaml_read.specs.Files.{are_in, item_is_in}
 use Rattle.yaml_read.specs.Keys.{in_front, keys_in}
 use Rattle.yaml_read.specs.NotedPair.{noted_pair}
 use Rattle.yaml_read.specs.View.{items_of, noted_of}
+use Rattle.yaml_read.proofs.Files.{in-snoc}
 
 -- the items of one map behind those of another
 abbrev pub joined : Items → Items → Items
@@ -23,10 +25,11 @@ joined (item n c is) js = item n c (joined is js)
 abbrev pub joins : Items → Items → Outcome Items
 joins is js = Ok (joined is js)
 
--- these items are read from the lines before this one, and with them in front, what the rest gives is what all gives
+-- these items of this file are read from the lines before this one, and with them in front, what the rest gives is what all gives
 pub record IsReading (file : ℕ) (bytes : List ℕ) (items : List NotedItem) (number : ℕ) (rest : List ℕ) : Type 0 where
   pub gives : (noted_pairs_in file (keys_in (items_of items)) number (lines rest) >>= joins (items_of items)) ≡ noted_pairs_in file [] 1 (lines bytes)
   pub counted : number + length rest ≤ length bytes + 1
+  pub file_is : are_in file items ≡ true
 
 -- ---- items one behind another
 
@@ -77,7 +80,7 @@ abbrev line_entry : ℕ → ℕ → List NotedItem → List ℕ → Outcome (Sca
 line_entry file number items l = entry_at beside_at (place_at file number) l >>= unrepeated (place_at file number) (keys_in (items_of items))
 
 pub start : (file : ℕ) (bytes : List ℕ) → IsReading file bytes [] 1 bytes
-start file bytes = record { gives = nothing-joins (noted_pairs_in file [] 1 (lines bytes)); counted = omega arith }
+start file bytes = record { gives = nothing-joins (noted_pairs_in file [] 1 (lines bytes)); counted = omega arith; file_is = refl }
 
 pub refused : (file : ℕ) (bytes : List ℕ) (items : List NotedItem) (number : ℕ) (rest l others : List ℕ) (s : Stop) → IsReading file bytes items number rest
     → lines rest ≡ l ∷ lines others → Gives noted_of (Err s) (line_entry file number items l >>= noted_pair (place_at file number)) → Gives items_of (Err s) (noted_pairs_in file [] 1 (lines bytes))
@@ -86,14 +89,14 @@ refused file bytes items number rest l others (stop.Fault f) r s e =
 refused file bytes items number rest l others stop.Memory r s e = tt
 
 pub taken : (file : ℕ) (bytes : List ℕ) (items : List NotedItem) (number : ℕ) (rest l others : List ℕ) (i : NotedItem) → IsReading file bytes items number rest
-    → lines rest ≡ l ∷ lines others → (line_entry file number items l >>= noted_pair (place_at file number)) ≡ Ok (noted_of i) → length others < length rest
+    → lines rest ≡ l ∷ lines others → (line_entry file number items l >>= noted_pair (place_at file number)) ≡ Ok (noted_of i) → item_is_in file i ≡ true → length others < length rest
     → IsReading file bytes (items ++ i ∷ []) (number + 1) others
-taken file bytes items number rest l others i r s e h =
+taken file bytes items number rest l others i r s e f h =
     let t = taken_from (place_at file number) (line_entry file number items l) i e in
     let k : keys_in (items_of (items ++ i ∷ [])) ≡ keys_in (items_of items) ++ t.entry.0 ∷ [] = keys-snoc items i t.entry.0 (ap (λ (p : Note × Content). p.0.key) t.same) in
     let g : (noted_pairs_in file (keys_in (items_of items) ++ t.entry.0 ∷ []) (number + 1) (lines others) >>= before_items (place_at file number) t.entry >>= joins (items_of items)) ≡ noted_pairs_in file [] 1 (lines bytes)
     = rw (s, t.read) at r.gives in
-    record { gives = rw k (sym (before-joins items i (place_at file number) t.entry _ t.same) ∙ g); counted = omega (arith, r.counted) }
+    record { gives = rw k (sym (before-joins items i (place_at file number) t.entry _ t.same) ∙ g); counted = omega (arith, r.counted); file_is = in-snoc file items i r.file_is f }
 
 -- ---- the end
 

@@ -1,5 +1,5 @@
 // The item of a line.
-ghost use Rattle.std.specs.Prelude.{◌≡◌, ◌&&◌, false, true, MatchOption};
+ghost use Rattle.std.specs.Prelude.{◌≡◌, ℕ, ◌&&◌, false, true, IfOk, MatchOption};
 ghost use Rattle.std.specs.Str.{is_utf8};
 ghost use Rattle.ytt_base.specs.Outcomes.{Gives, and_then};
 ghost use Rattle.ytt_base.specs.Trees.{has_key};
@@ -7,6 +7,7 @@ ghost use Rattle.ytt_base.specs.View.{key_of};
 ghost use Rattle.yaml_spec.specs.Flat.{entry_at, unrepeated};
 ghost use Rattle.yaml_spec.specs.FlatNoted.{beside_at};
 ghost use Rattle.yaml_spec.specs.Noted.{is_code};
+ghost use Rattle.yaml_read.specs.Files.{content_is_in, item_is_in};
 ghost use Rattle.yaml_read.specs.Keys.{keys_in};
 ghost use Rattle.yaml_read.specs.NotedPair.{noted_pair};
 ghost use Rattle.yaml_read.specs.View.{beside_of, items_of, noted_of};
@@ -36,13 +37,14 @@ fn code_beside(value: &[u8]) -> Option<&str>
 }
 
 /// What stands beside a key: a value, or code without one.
-#[tactic(auto, using(crate::proofs::Noting::noting))]
+#[tactic(auto, using(crate::proofs::Noting::noting, crate::proofs::Files::files))]
 fn read_beside(
     alloc: Global,
     value: &[u8],
     place: Place,
 ) -> Result<(Content, Option<RawComment>), Stop>
-    ensures { Gives beside_of result (beside_at place value.now) }
+    ensures beside { Gives beside_of result (beside_at place value.now) }
+    ensures file { (file : ℕ) → IfOk result (λ b. content_is_in file b.0 ≡ true) }
 {
     if let Some(code) = code_beside(value) {
         let comment = RawComment {
@@ -71,14 +73,15 @@ fn has_item(items: &NotedItems, key: &Key) -> bool
 
 /// The pair of a line behind these items. A line outside the forms KEY: VALUE and KEY: #@ CODE, and
 /// one whose key stands among the items, is NotBuilt at its place.
-#[tactic(auto, using(crate::proofs::Noting::noting))]
+#[tactic(auto, using(crate::proofs::Noting::noting, crate::proofs::Files::files))]
 pub fn read_pair(
     alloc: Global,
     line: &[u8],
     items: &NotedItems,
     place: Place,
 ) -> Result<NotedItem, Stop>
-    ensures { Gives noted_of result (and_then (noted_pair place) (and_then (unrepeated place (keys_in (items_of items.now))) (entry_at beside_at place line.now))) }
+    ensures item { Gives noted_of result (and_then (noted_pair place) (and_then (unrepeated place (keys_in (items_of items.now))) (entry_at beside_at place line.now))) }
+    ensures file { IfOk result (λ i. item_is_in place.file i ≡ true) }
 {
     let Some((word, value)) = split_entry(line) else {
         return Err(Stop::Fault(not_built(alloc, place)));

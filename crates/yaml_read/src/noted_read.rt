@@ -1,9 +1,10 @@
 // Reading a text into its noted documents.
-ghost use Rattle.std.specs.Prelude.{◌≡◌, ◌<◌, ◌^◌, [], ◌∷◌, ◌++◌, IfOk, OnOk, length};
+ghost use Rattle.std.specs.Prelude.{◌≡◌, ◌<◌, ◌^◌, [], ◌∷◌, ◌++◌, IfOk, OnOk, length, true};
 ghost use Rattle.ytt_base.specs.Outcomes.{Gives};
 ghost use Rattle.yaml_spec.specs.FlatNoted.{document_note, in_documents, noted_documents, noted_pairs_in};
 ghost use Rattle.yaml_spec.specs.FirstLines.{lines};
 ghost use Rattle.yaml_spec.specs.Noted.{item, no_items, noted_map};
+ghost use Rattle.yaml_read.specs.Files.{are_in};
 ghost use Rattle.yaml_read.specs.View.{documents_of, items_of};
 
 use crate::lines::split_line;
@@ -24,7 +25,8 @@ fn push_item(items: &mut NotedItems, item: NotedItem) -> Result<(), Memory>
 #[tactic(auto, using(crate::proofs::NotedReading::reading))]
 fn read_items(alloc: Global, bytes: &[u8], file: u32) -> Result<NotedItems, Stop>
     requires { length bytes.now < 2 ^ 32 }
-    ensures { Gives items_of result (noted_pairs_in file [] 1 (lines bytes.now)) }
+    ensures items { Gives items_of result (noted_pairs_in file [] 1 (lines bytes.now)) }
+    ensures file { IfOk result (λ is. are_in file is ≡ true) }
 {
     let mut items: NotedItems = Items::new(alloc);
     let mut rest = bytes;
@@ -43,9 +45,10 @@ fn read_items(alloc: Global, bytes: &[u8], file: u32) -> Result<NotedItems, Stop
     Ok(items)
 }
 
-#[tactic(auto, using(crate::proofs::Noting::noting))]
+#[tactic(auto, using(crate::proofs::Noting::noting, crate::proofs::Files::files))]
 fn one_map(alloc: Global, pairs: NotedItems, file: u32) -> Result<NotedDocs, Memory>
-    ensures { IfOk result (λ d. documents_of d ≡ in_documents (item document_note (noted_map (items_of pairs)) no_items)) }
+    ensures documents { IfOk result (λ d. documents_of d ≡ in_documents (item document_note (noted_map (items_of pairs)) no_items)) }
+    ensures file { IfOk result (λ d. are_in file pairs ≡ true → are_in file d.items ≡ true) }
 {
     let mut items: NotedItems = Items::new(alloc);
     items.push(NotedItem {
@@ -73,11 +76,12 @@ fn one_map(alloc: Global, pairs: NotedItems, file: u32) -> Result<NotedDocs, Mem
 /// A line outside this form, and one whose key an earlier line has, is a fault of the kind
 /// NotBuilt at the line, counted from 1, without a detail; but a VALUE of an optional minus,
 /// digits, a point and digits is FloatScalar there. The first such line decides. Want of memory
-/// is `Stop::Memory`.
+/// is `Stop::Memory`. Each item that is read, at every depth, is in the file of that number.
 #[tactic(auto, using(crate::proofs::NotedReading::reading))]
 pub fn read_noted(alloc: Global, bytes: &[u8], file: u32) -> Result<NotedDocs, Stop>
     requires { length bytes.now < 2 ^ 32 }
-    ensures { Gives documents_of result (noted_documents file bytes.now) }
+    ensures documents { Gives documents_of result (noted_documents file bytes.now) }
+    ensures file { IfOk result (λ d. are_in file d.items ≡ true) }
 {
     if bytes.is_empty() {
         return Ok(NotedDocs {

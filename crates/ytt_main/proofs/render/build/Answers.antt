@@ -16,7 +16,7 @@ pub returns-in_err-ran : goal.returns-in_err-ran
 returns-in_err-ran c = λ r reads.
     let t = template_of c.in_ok-template.template in
     let p = err_from_is_err_and c.from_residual-in_err-ran.result c.from_residual-in_err-ran.ensures.1 in
-    let placed_as = both_read (placed r 1) (noted_documents 1 c.args.bytes.now) (documents_of c.in_ok-documents.documents) t c.in_ok-documents.ensures (c.in_ok-template.ensures.template r reads) in
+    let placed_as = both_read (placed r 1) (noted_documents 1 c.args.bytes.now) (documents_of c.in_ok-documents.documents) t c.in_ok-documents.ensures.documents (c.in_ok-template.ensures.template r reads) in
     let s = c.in_err-ran.field-0.0 in
     let g = gives_built c.args.steps t (program_of c.in_ok-program.program) (Err s) c.in_ok-template.ensures.stands c.in_ok-program.ensures.meaning c.in_err-ran.ensures.meaning in
     rw (p.1, p.2) (gives_next trees_of (built c.args.steps) (Err s) t _ placed_as (gives_alike (λ (ran : FlatResult). trees_of ran.documents) trees_of s _ g))
@@ -24,6 +24,6 @@ returns-in_err-ran c = λ r reads.
 pub returns : goal.returns
 returns c = λ r reads.
     let t = template_of c.in_ok-template.template in
-    let placed_as = both_read (placed r 1) (noted_documents 1 c.args.bytes.now) (documents_of c.in_ok-documents.documents) t c.in_ok-documents.ensures (c.in_ok-template.ensures.template r reads) in
+    let placed_as = both_read (placed r 1) (noted_documents 1 c.args.bytes.now) (documents_of c.in_ok-documents.documents) t c.in_ok-documents.ensures.documents (c.in_ok-template.ensures.template r reads) in
     let g = gives_built c.args.steps t (program_of c.in_ok-program.program) (Ok c.in_ok-ran.ran) c.in_ok-template.ensures.stands c.in_ok-program.ensures.meaning c.in_ok-ran.ensures.meaning in
     gives_next trees_of (built c.args.steps) (Ok c.in_ok-ran.ran.documents) t _ placed_as g
