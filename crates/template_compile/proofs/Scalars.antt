@@ -1,5 +1,5 @@
 -- Instructions that are put behind others keep it that each written value is a scalar.
-use Rattle.std.proofs.Common.{◌≡◌, ℕ, zero, suc, ◌<◌, true, ◌&&◌, List, [], ◌∷◌, ◌++◌, length, get_or, sym, ap, ◌∙◌, arith, rules}
+use Rattle.std.proofs.Common.{◌≡◌, ℕ, zero, suc, ◌<◌, true, ◌&&◌, List, [], ◌∷◌, ◌++◌, length, get_or, sym, ap, ◌∙◌, arith}
 use Rattle.std.proofs.Math.Bool.{and-true}
 use Rattle.std.proofs.lemmas.List.Folds.{list_all-append}
 use Rattle.yaml_spec.proofs.Numerals.{both}
@@ -8,8 +8,6 @@ use Rattle.star_tree.specs.declared.program.Instr.{Instr}
 use Rattle.star_tree.specs.declared.program.Instr.TheVariants as instr
 use Rattle.star_tree.specs.declared.program.NodeOp.{NodeOp}
 use Rattle.template_spec.specs.Compiled.{item_code}
-use Rattle.template_tree.specs.declared.tree.TContent as content
-use Rattle.template_tree.specs.declared.tree.TContent.{the_lemmas}
 use Rattle.template_tree.specs.declared.tree.TItem as held
 use Rattle.template_tree.specs.declared.tree.TItem.{TItem}
 use Rattle.template_tree.specs.declared.tree.TNode.{TNode}
@@ -27,9 +25,6 @@ put_scalar old new op e h =
     ∙ list_all-append instruction_has_scalar old (instr.Node op ∷ [])
     ∙ ap (λ b. values_are_scalars old && (b && true)) h
     ∙ and-true (values_are_scalars old)
-
-pub content-List : (is : List TItem) → content_has_scalars (content.List is) ≡ have_scalars is
-content-List is = search (rules, the_lemmas)
 
 -- where all items have scalars, so has the one at an index
 pub have_at : (is : List TItem) (j : ℕ) (i : TItem) → j < length is → i ≡ get_or is j i → have_scalars is ≡ true → item_has_scalars i ≡ true
