@@ -1,3 +1,4 @@
 pub mod Emitting
 pub mod Items
 pub mod PlacedItems
+pub mod Scalars
