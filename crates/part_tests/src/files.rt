@@ -121,7 +121,7 @@ fn the_machine_has_its_files(rt: HostRuntime) -> Result<(), Fail> {
     assert_eq!(rt; files.kind(folder.as_str())?, PathKind::Folder);
     let listed = files.list(alloc, folder.as_str())?;
     let read = shown(alloc, files.read(alloc, folder.as_str(), 3)?)?;
-    assert_eq!(rt; read.as_slice(), b"missing", "of the folder");
+    assert_eq!(rt; read.as_slice(), b"missing".as_slice(), "of the folder");
     fs::remove_dir_all(&rt, folder.as_str())?;
     assert_eq!(rt; joined(alloc, &listed)?.as_str(), "B,b.yml,é,");
     Ok(())
