@@ -21,7 +21,7 @@ item_place file [] true line = not_built (place_at file line)
 item_place file (c ∷ cs) flow line = not_built (place_at file c.line)
 
 abbrev pub own_place : ℕ → Note → Outcome Place
-own_place file n = item_place file n.before n.flow n.line
+own_place file n = item_place file n.before n.flow n.place.line
 
 abbrev pub before_items : Item → Items → Outcome Items
 before_items i is = Ok (an_item i is)

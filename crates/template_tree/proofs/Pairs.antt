@@ -7,10 +7,10 @@ use Rattle.ytt_base.specs.declared.tree.Tree as held_tree
 use Rattle.ytt_base.specs.Trees.{Scalar, Tree, scalar, list, map}
 use Rattle.ytt_base.specs.View.{key_of}
 use Rattle.yaml_spec.specs.Noted.{noted_scalar}
-use Rattle.yaml_read.specs.declared.noted.NotedItem.{NotedItem}
-use Rattle.yaml_read.specs.View as held
-use Rattle.yaml_read.specs.View.{comment_of, note_of}
-use Rattle.yaml_read.specs.declared.noted.RawComment.{RawComment}
+use Rattle.yaml_noted.specs.declared.noted.NotedItem.{NotedItem}
+use Rattle.yaml_noted.specs.View as held
+use Rattle.yaml_noted.specs.View.{comment_of, note_of}
+use Rattle.yaml_noted.specs.declared.noted.RawComment.{RawComment}
 use Rattle.star_spec.specs.Program.{document_item, pair_item}
 use Rattle.star_spec.specs.Reading.{Reader}
 use Rattle.star_tree.specs.declared.expr.Expr.{Expr}

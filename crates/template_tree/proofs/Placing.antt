@@ -6,10 +6,10 @@ use Rattle.ytt_base.specs.declared.fault.Stop.TheVariants as stop
 use Rattle.ytt_base.specs.Outcomes.{Outcome, Gives, ◌>>=◌}
 use Rattle.yaml_spec.specs.Noted as noted
 use Rattle.yaml_spec.specs.Noted.{Note}
-use Rattle.yaml_read.specs.declared.noted.NotedItem.{NotedItem}
-use Rattle.yaml_read.specs.View as held
-use Rattle.yaml_read.specs.View.{note_of, noted_of}
-use Rattle.yaml_read.proofs.Views.{noted_of-item}
+use Rattle.yaml_noted.specs.declared.noted.NotedItem.{NotedItem}
+use Rattle.yaml_noted.specs.View as held
+use Rattle.yaml_noted.specs.View.{note_of, noted_of}
+use Rattle.yaml_noted.proofs.Views.{noted_of-item}
 use Rattle.star_spec.specs.Program.{ItemKind}
 use Rattle.star_spec.specs.Reading.{IsReader, Reader}
 use Rattle.template_spec.specs.Placing.{before_items, placed_each}

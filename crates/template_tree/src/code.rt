@@ -3,7 +3,7 @@ ghost use Rattle.std.specs.Prelude.{◌≡◌, false, true, MatchOption};
 ghost use Rattle.ytt_base.specs.Outcomes.{Gives, fault_at};
 ghost use Rattle.ytt_base.specs.declared.fault.FaultKind.TheVariants as kind;
 ghost use Rattle.ytt_base.specs.declared.fault.Stop.TheVariants as stop;
-ghost use Rattle.yaml_read.specs.View.{comment_of};
+ghost use Rattle.yaml_noted.specs.View.{comment_of};
 ghost use Rattle.yaml_spec.specs.Noted.{code_in, is_code};
 ghost use Rattle.star_spec.specs.Reading.{IsReader, Reader};
 ghost use Rattle.template_spec.specs.Placing.{code_value};
@@ -12,7 +12,7 @@ ghost use Rattle.template_tree.specs.Parts.{value_of};
 use star_read::read_flat;
 use star_tree::Expr;
 use std::alloc::Global;
-use yaml_read::RawComment;
+use yaml_noted::RawComment;
 use ytt_base::fault::{Fault, FaultKind, Place, Stop};
 use ytt_base::text::Text;
 

@@ -1,8 +1,8 @@
 // Placing documents.
 ghost use Rattle.std.specs.Prelude.{◌≡◌, IfOk, option_map, true};
 ghost use Rattle.ytt_base.specs.Outcomes.{Gives};
-ghost use Rattle.yaml_read.specs.View as held;
-ghost use Rattle.yaml_read.specs.View.{documents_of, note_of};
+ghost use Rattle.yaml_noted.specs.View as held;
+ghost use Rattle.yaml_noted.specs.View.{documents_of, note_of};
 ghost use Rattle.star_spec.specs.Program.{document_item};
 ghost use Rattle.star_spec.specs.Reading.{IsReader, Reader};
 ghost use Rattle.template_spec.specs.Placed.{Placed, free};
@@ -17,11 +17,11 @@ use crate::place::{place_of, place_pairs, push_item, turned};
 use crate::tree::{TContent, TItem, TItems, TNode, Template};
 use sqlite_items::Items;
 use std::alloc::Global;
-use yaml_read::{Content, NotedDocs, NotedItem, NotedItems};
+use yaml_noted::{Content, NotedDocs, NotedItem, NotedItems};
 use ytt_base::fault::{Place, Stop};
 
 /// The items of the map that an item holds, or `None` for a scalar or a list.
-#[tactic(auto, using(yaml_read::proofs::Views::views))]
+#[tactic(auto, using(yaml_noted::proofs::Views::views))]
 fn map_in(content: Content) -> Option<NotedItems>
     ensures { option_map held.items_of result ≡ map_in (held.content_of content) }
 {

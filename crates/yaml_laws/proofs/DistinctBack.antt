@@ -76,9 +76,9 @@ mutual
   among-none no_items ks h n = refl
   among-none (item m c is) ks h n = rw (n.0, twice_among, twice-none c h.1) (among-none is (key_of m ∷ ks) h.3 (all_new-cons (key_of m) ks (keys (bare_pairs is)) h.2 n.1))
 
-pub distinct-back : (file : ℕ) (ds : Documents) (ts : Trees) → bare_trees ds.items ≡ ts → AreTrees ts → distinct file ds ≡ Ok ds
+pub distinct-back : (ds : Documents) (ts : Trees) → bare_trees ds.items ≡ ts → AreTrees ts → distinct ds ≡ Ok ds
 unfolding distinct
-distinct-back file ds ts e h = rw (below-none ds.items (subst AreTrees (sym e) h), distinct) refl
+distinct-back ds ts e h = rw (below-none ds.items (subst AreTrees (sym e) h), distinct) refl
 
 pub drop-back : (ts : Trees) → Writable ts → drop_null ts ≡ ts
 drop-back no_trees w = refl

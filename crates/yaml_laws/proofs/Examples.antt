@@ -252,7 +252,7 @@ abbrev comment : ℕ → Bool → List ℕ → Comment
 comment line own_line text = record { line = line; own_line = own_line; text = text }
 
 abbrev note : ℕ → Option Scalar → List Comment → Option Comment → Note
-note line key before trailing = record { line = line; key = key; before = before; trailing = trailing; flow = false }
+note line key before trailing = record { place = place_at 1 line; key = key; before = before; trailing = trailing; flow = false }
 
 -- A comment on its own line belongs to the next item, one behind content to the innermost item that starts there, and what no item follows stands after them.
 comments_read :

@@ -169,12 +169,12 @@ mutual
 abbrev AreRead : Documents → Type 0
 AreRead ds = AreTrees (bare_trees ds.items)
 
-distinct_held : (file : ℕ) (ds : Documents) → DocumentsHeld ds → Yields AreRead (distinct file ds)
+distinct_held : (ds : Documents) → DocumentsHeld ds → Yields AreRead (distinct ds)
 unfolding distinct
-distinct_held file ds h = go (twice_below ds.items) refl
+distinct_held ds h = go (twice_below ds.items) refl
   where
     go : (o : Option Note) → twice_below ds.items ≡ o → Yields AreRead (elim o as (λ _. Outcome Documents) [
-      | Some n ↦ Err (record { kind = kind.KeyTwice; place = place_at file n.line; detail = key_text (key_of n) })
+      | Some n ↦ Err (record { kind = kind.KeyTwice; place = n.place; detail = key_text (key_of n) })
       | None ↦ Ok ds
     ])
     go None e x p = yields_ok AreRead ds (trees_held ds.items h e) x p
@@ -193,4 +193,4 @@ pub reads_trees : (file : ℕ) (bytes : List ℕ) (ts : Trees) → read_trees fi
 unfolding read_trees
 reads_trees file bytes ts e =
     yields_bind DocumentsHeld AreTrees (Read file bytes) _ (good_read file bytes) (λ ds p.
-    yields_bind AreRead AreTrees (distinct file ds) _ (distinct_held file ds p) (λ es q. yields_ok _ _ (drop_trees (bare_trees es.items) q))) ts e
+    yields_bind AreRead AreTrees (distinct ds) _ (distinct_held ds p) (λ es q. yields_ok _ _ (drop_trees (bare_trees es.items) q))) ts e

@@ -84,7 +84,7 @@ abbrev segment_of : Place → ℕ → Tree → Segment
 segment_of k stop t = record { marker = record { place = k; text = codes "---" }; lines = numbered (place_below k 1) (document_lines t); stop = stop }
 
 explicit-back : (k : Place) (stop : ℕ) (t : Tree) (b : DocumentBack stop false (place_below k 1) t) →
-    explicit [] (segment_of k stop t) ≡ Ok (document_note k.line [] (row_comment (marker_row (segment_of k stop t))), (b.content, None), [])
+    explicit [] (segment_of k stop t) ≡ Ok (document_note k [] (row_comment (marker_row (segment_of k stop t))), (b.content, None), [])
 unfolding explicit
 explicit-back k stop t b = rw (b.are, b.reads) refl
 
@@ -102,7 +102,7 @@ rest-cons t ts k h l b =
     let d = document-back stop false (place_below k 1) t h l in
     let more : segments (numbered (place_below k 1) (document_lines t ++ rest_lines ts)) ≡ (numbered (place_below k 1) (document_lines t) ++ [], b.parts) =
     rw (numbered-append (place_below k 1) (document_lines t) (rest_lines ts), segments-quiet (place_below k 1) (document_lines t) (numbered (place_below (place_below k 1) (length (document_lines t))) (rest_lines ts)) (fine-document t h), b.are) refl in
-    let note = document_note k.line [] (row_comment (marker_row (segment_of k stop t))) in
+    let note = document_note k [] (row_comment (marker_row (segment_of k stop t))) in
     record {
       parts = segment_of k stop t ∷ b.parts;
       documents_of = with_document note (d.content, None) b.documents_of;
@@ -130,7 +130,7 @@ first-content k x more b m = rw (b, m, first_content) refl
 
 implicit-back : (front : List Line) (parts : List Segment) (l : Line) (rs : List Row) (c : Content) (ds : Documents) → first_content front ≡ Some l → (first l.text == percent) ≡ false →
     rows (first_marker parts) true 0 0 [] front ≡ (rs, []) → document_content rs ≡ Ok (c, None) → documents false [] parts ≡ Ok ds →
-    implicit front parts ≡ Ok (with_document (document_note l.place.line [] None) (c, None) ds)
+    implicit front parts ≡ Ok (with_document (document_note l.place [] None) (c, None) ds)
 unfolding implicit
 implicit-back front parts l rs c ds f p r e d = rw (f, implicit, p, r, e, d) refl
 
@@ -157,7 +157,7 @@ text-cons file t ts h w =
     let more : segments (numbered k (document_lines t ++ rest_lines ts)) ≡ (numbered k (document_lines t) ++ [], b.parts) =
     rw (numbered-append k (document_lines t) (rest_lines ts), segments-quiet k (document_lines t) (numbered (place_below k (length (document_lines t))) (rest_lines ts)) (fine-document t h.0), b.are) refl in
     let f = content-first_line k t h.0 in
-    let note = document_note f.0.place.line [] None in
+    let note = document_note f.0.place [] None in
     record {
       documents_of = with_document note (d.content, None) b.documents_of;
       reads = rw (Lines-text file (tree t ts) h) (ap (λ (s : List Line × List Segment). implicit s.0 s.1) (more ∙ ap (λ (x : List Line). (x, b.parts)) (append-nil (numbered k (document_lines t))))
@@ -175,7 +175,7 @@ pub reads_back : (ts : Trees) → AreTrees ts → Writable ts → Reads (Text ts
 unfolding read_trees
 reads_back ts h w file =
     let b = text-back file ts h w in
-    rw (b.reads, distinct-back file b.documents_of ts b.trees h, b.trees) (ap (λ us. Ok us) (drop-back ts w))
+    rw (b.reads, distinct-back b.documents_of ts b.trees h, b.trees) (ap (λ us. Ok us) (drop-back ts w))
 
 given : Outcome Trees → Trees
 given (Ok ts) = ts

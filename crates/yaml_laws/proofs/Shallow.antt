@@ -242,12 +242,12 @@ drop_writable (tree t ts) h = go (omega arith) (drop_writable ts (omega arith)) 
     go l h true e = h
     go l h false e = (e, l, h)
 
-yields_distinct : (file : ℕ) (ds : Documents) → DocumentsIn ds → Yields DocumentsIn (distinct file ds)
+yields_distinct : (ds : Documents) → DocumentsIn ds → Yields DocumentsIn (distinct ds)
 unfolding distinct
-yields_distinct file ds h = go (twice_below ds.items)
+yields_distinct ds h = go (twice_below ds.items)
   where
     go : (o : Option Note) → Yields DocumentsIn (elim o as (λ _. Outcome Documents) [
-      | Some n ↦ Err (record { kind = kind.KeyTwice; place = place_at file n.line; detail = key_text (key_of n) })
+      | Some n ↦ Err (record { kind = kind.KeyTwice; place = n.place; detail = key_text (key_of n) })
       | None ↦ Ok ds
     ])
     go None x e = yields_ok DocumentsIn ds h x e
@@ -258,4 +258,4 @@ pub reads_writable : (file : ℕ) (bytes : List ℕ) (ts : Trees) → read_trees
 unfolding read_trees
 reads_writable file bytes ts e =
     yields_bind DocumentsIn Writable (Read file bytes) _ (shallow_read file bytes) (λ ds p.
-    yields_bind DocumentsIn Writable (distinct file ds) _ (yields_distinct file ds p) (λ ds q. yields_ok _ _ (drop_writable (bare_trees ds.items) q))) ts e
+    yields_bind DocumentsIn Writable (distinct ds) _ (yields_distinct ds p) (λ ds q. yields_ok _ _ (drop_writable (bare_trees ds.items) q))) ts e

@@ -1,16 +1,8 @@
-//! Reading a text into trees.
+//! Reading a text into noted documents and into trees.
 #![tactic(auto)]
 
-mod code;
-mod entry;
-mod lines;
-mod noted;
-mod noted_entry;
-mod noted_read;
+mod pass;
 mod read;
-mod value;
 
-pub use code::has_code;
-pub use noted::{Comments, Content, NotedDocs, NotedItem, NotedItems, RawComment};
-pub use noted_read::read_noted;
-pub use read::read_plain;
+pub use read::{has_code, plain_trees, read_noted, read_plain};
+pub use yaml_noted::{Comments, Content, NotedDocs, NotedItem, NotedItems, RawComment};

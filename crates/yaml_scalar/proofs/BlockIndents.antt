@@ -12,17 +12,8 @@ use Rattle.yaml_spec.specs.Refusals.{refused}
 use Rattle.yaml_spec.specs.Blocks.{is_spaces, found_indent, too_long}
 use Rattle.yaml_spec.specs.Bytes.{indent, space}
 use Rattle.yaml_scalar.specs.BlockLines.{content_at, indent_of}
-use Rattle.yaml_scalar.proofs.Whites.{cut_behind}
-
-pub indent-run : (t : List ℕ) → prefix_len (λ b. b == space) t ≡ indent t
-indent-run [] = refl
-indent-run (b ∷ t) = by (b == space) refl (indent-run t) where
-  by : (v : Bool) → (b == space) ≡ v → prefix_len (λ b. b == space) t ≡ indent t → prefix_len (λ b. b == space) (b ∷ t) ≡ indent (b ∷ t)
-  by true e more = rw (indent, e) (omega (arith, more))
-  by false e more = rw (indent, e) refl
-
-pub indent-le : (t : List ℕ) → indent t ≤ length t
-indent-le t = rw (← indent-run t) (prefix_len-le-length (λ b. b == space) t)
+use Rattle.yaml_text.proofs.Indents.{indent-run, indent-le}
+use Rattle.yaml_text.proofs.Whites.{cut_behind}
 
 spaces-all : (t : List ℕ) → is_spaces t ≡ true → indent t ≡ length t
 spaces-all [] h = refl

@@ -11,4 +11,3 @@ pub mod PlainValues
 pub mod QuotedChars
 pub mod QuotedLines
 pub mod StyleTests
-pub mod Whites

@@ -7,7 +7,7 @@ use Rattle.std.specs.List.{prefix_len}
 use Rattle.yaml_spec.specs.Bytes.{quote, apostrophe, backslash, is_white, is_hex_digit, digit_value, trim_end}
 use Rattle.yaml_spec.specs.Quotes.{Scan, open_end, closed, wrong, line_ends, prepend, normal, escape, digits, escaped, escape_digits, is_scalar_value, single, double, scan}
 use Rattle.yaml_scalar.specs.Turns.{Turn, ends, closes, gives, fails, is_plain, number_at, escape_at, turn_at, after_piece}
-use Rattle.yaml_scalar.proofs.Whites.{trim_end-middle, trim_end-white}
+use Rattle.yaml_text.proofs.Whites.{trim_end-middle, trim_end-white}
 
 pub prepend-nil : (s : Scan) → prepend [] s ≡ s
 prepend-nil (open_end p) = refl

@@ -18,7 +18,7 @@ use Rattle.yaml_spec.specs.Refusals.{refused}
 use Rattle.yaml_spec.proofs.HeldLines.{cursor_in, cursor_at-index, text_at-index, some_item, plain_lines-length, opens-line}
 use Rattle.yaml_scalar.specs.declared.folding.Folded.{Folded}
 use Rattle.yaml_scalar.specs.Joining.{with_parts, part_of}
-use Rattle.yaml_scalar.proofs.Whites.{skip_white-length}
+use Rattle.yaml_text.proofs.Whites.{skip_white-length}
 
 -- what the text so far and the parts that are left make
 abbrev pub folded_with : Folded → List Part × Cursor → Outcome (List ℕ × Cursor)

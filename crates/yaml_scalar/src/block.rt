@@ -14,10 +14,9 @@ use crate::blocktext::BlockText;
 use crate::header::{Chomp, Header, ends_header, read_header};
 use crate::indent::{content, content_indent, least_under};
 use crate::position::Quoted;
-use crate::quoted::wrong_form;
-use crate::white::behind;
 use std::alloc::Global;
-use ytt_base::fault::Stop;
+use yaml_text::{behind, refusal};
+use ytt_base::fault::{FaultKind, Stop};
 use ytt_base::line::{Line, Lines};
 use ytt_base::text::{Memory, Text};
 
@@ -88,7 +87,7 @@ fn read_at(
     let opener = &lines[start];
     let (is_literal, header) = opening(opener.text.as_str(), column);
     if !ends_header(header.rest) {
-        return Err(wrong_form(alloc, opener.place));
+        return Err(refusal(alloc, FaultKind::YamlForm, opener.place));
     }
     let below = &lines[start + 1..];
     let (text, size) = read_below(alloc, is_literal, header, least, below)?;

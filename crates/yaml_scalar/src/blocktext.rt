@@ -6,9 +6,9 @@ ghost use Rattle.yaml_spec.specs.Folding.{breaks};
 ghost use Rattle.yaml_scalar.specs.BlockView.{held_chomp};
 ghost use Rattle.yaml_scalar.specs.BlockLines.{before, break_after, with_contents};
 
-use crate::header::{Chomp, first};
-use crate::white::is_white;
+use crate::header::Chomp;
 use std::alloc::Global;
+use yaml_text::{first, is_white};
 use ytt_base::text::{Memory, Text};
 
 /// The break behind the last line with content.

@@ -6,7 +6,7 @@ ghost use Rattle.yaml_spec.specs.Quotes.{escape_digits, escaped};
 ghost use Rattle.yaml_scalar.specs.Turns.{LeavesBelow, double_at, escape_at, is_plain, number_at, single_at, turn_at};
 ghost use Rattle.yaml_scalar.specs.View.{turn_of};
 
-use crate::white::behind;
+use yaml_text::behind;
 
 /// What comes behind bytes that stand for themselves.
 #[derive(Clone, Copy)]

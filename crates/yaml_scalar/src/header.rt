@@ -4,7 +4,7 @@ ghost use Rattle.yaml_spec.specs.Blocks.{chomp_of, digit_of, ends_header, header
 ghost use Rattle.yaml_spec.specs.Bytes.{first};
 ghost use Rattle.yaml_scalar.specs.BlockView.{header_of, held_chomp};
 
-use crate::white::{behind, is_white, skip_white};
+use yaml_text::{behind, first, is_white, skip_white};
 
 /// What becomes of the breaks at the end of a block scalar.
 #[derive(Clone, Copy)]
@@ -25,16 +25,6 @@ pub struct Header<'a> {
     pub chomp: Chomp,
     /// What stands behind them.
     pub rest: &'a str,
-}
-
-/// The first byte, and 0 for a text without one.
-pub fn first(text: &str) -> u8
-    ensures { result ≡ first text.now }
-{
-    match text.as_bytes().first() {
-        Some(byte) => *byte,
-        None => 0,
-    }
 }
 
 /// An optional chomping indicator, and what stands behind it.

@@ -9,32 +9,10 @@ ghost use Rattle.yaml_spec.specs.Held.{plain_lines};
 ghost use Rattle.yaml_spec.specs.Positions.{least_under};
 ghost use Rattle.yaml_scalar.specs.BlockLines.{content_at, indent_of};
 
-use crate::quoted::wrong_form;
 use std::alloc::Global;
-use ytt_base::fault::{Place, Stop};
+use yaml_text::{indent, refusal};
+use ytt_base::fault::{FaultKind, Place, Stop};
 use ytt_base::line::Line;
-
-fn is_space(byte: u8) -> bool
-    ensures { result ≡ (byte == space) }
-{
-    byte == b' '
-}
-
-fn space_len(bytes: &[u8]) -> usize
-    ensures len { result ≡ prefix_len (λ b. b == space) bytes.now }
-    ensures within { result ≤ length bytes.now }
-{
-    bytes.iter().take_while(|byte| is_space(**byte)).count()
-}
-
-/// The number of leading spaces.
-#[tactic(auto, using(crate::proofs::BlockIndents::spaces))]
-fn indent(text: &str) -> usize
-    ensures indent { result ≡ indent text.now }
-    ensures within { result ≤ length text.now }
-{
-    space_len(text.as_bytes())
-}
 
 /// Whether the text is nothing but spaces.
 #[tactic(auto, using(crate::proofs::BlockIndents::spaces))]
@@ -102,7 +80,7 @@ pub fn content_indent(
         return Ok(None);
     };
     match too_long(found, below) {
-        Some(place) => Err(wrong_form(alloc, place)),
+        Some(place) => Err(refusal(alloc, FaultKind::YamlForm, place)),
         None => Ok(Some(found)),
     }
 }

@@ -12,22 +12,10 @@ ghost use Rattle.yaml_scalar.specs.View.{quoted_of};
 use crate::folding::Folded;
 use crate::position::Quoted;
 use crate::scan::{Scan, scan_line};
-use crate::white::{behind, skip_white};
 use std::alloc::Global;
-use ytt_base::fault::{Fault, FaultKind, Place, Stop};
+use yaml_text::{behind, refusal, skip_white};
+use ytt_base::fault::{FaultKind, Stop};
 use ytt_base::line::Lines;
-use ytt_base::text::Text;
-
-/// The refusal of a text that is no YAML of this profile.
-pub fn wrong_form(alloc: Global, place: Place) -> Stop
-    ensures { result ≡ stop.Fault (fault_at kind.YamlForm place) }
-{
-    Stop::Fault(Fault {
-        kind: FaultKind::YamlForm,
-        place,
-        detail: Text::new(alloc),
-    })
-}
 
 /// Whether the quote at a column of a text is a double one, and what stands behind it.
 fn opening(text: &str, column: usize) -> (bool, &str)
@@ -59,7 +47,7 @@ pub fn read_quoted(alloc: Global, lines: &Lines, line: u64, column: u64) -> Resu
     let mut folded = Folded::new(alloc);
     'lines: loop {
         match scan_line(alloc, is_double, rest)? {
-            Scan::Wrong => return Err(wrong_form(alloc, all[at].place)),
+            Scan::Wrong => return Err(refusal(alloc, FaultKind::YamlForm, all[at].place)),
             Scan::Closed { text, behind } => {
                 return Ok(Quoted {
                     text: folded.finish(text.as_str())?,
@@ -71,7 +59,7 @@ pub fn read_quoted(alloc: Global, lines: &Lines, line: u64, column: u64) -> Resu
         }
         at += 1;
         if at == all.len() {
-            return Err(wrong_form(alloc, all[line as usize].place));
+            return Err(refusal(alloc, FaultKind::YamlForm, all[line as usize].place));
         }
         rest = skip_white(all[at].text.as_str());
     }

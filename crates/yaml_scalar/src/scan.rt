@@ -6,8 +6,8 @@ ghost use Rattle.yaml_scalar.specs.Turns.{LeavesWithin, is_plain};
 ghost use Rattle.yaml_scalar.specs.View.{scan_of};
 
 use crate::escapes::{Turn, turn_here};
-use crate::white::trim_end;
 use std::alloc::Global;
+use yaml_text::trim_end;
 use ytt_base::text::Memory;
 
 /// What a line holds of a quoted scalar.

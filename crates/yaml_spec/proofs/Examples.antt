@@ -146,7 +146,7 @@ prints_escapes = refl
 -- ---- noted documents
 
 abbrev pair_on : ℕ → List ℕ → Option Comment → Note
-pair_on line key trailing = record { line = line; key = Some (string key); before = []; trailing = trailing; flow = false }
+pair_on line key trailing = record { place = place_at 1 line; key = Some (string key); before = []; trailing = trailing; flow = false }
 
 abbrev code_on : ℕ → List ℕ → Option Comment
 code_on line text = Some (record { line = line; own_line = false; text = text })
@@ -156,7 +156,7 @@ notes_nothing = refl
 
 notes_code :
     noted_documents 1 (codes "a: 1\nb: #@ 2 + 3\n")
-    ≡ Ok (in_documents (item document_note (noted_map (item (pair_on 1 (codes "a") None) (noted_scalar (scalar (integer (pos 1)))) (item (pair_on 2 (codes "b") (code_on 2 (codes "#@ 2 + 3"))) (noted_scalar (scalar null)) no_items))) no_items))
+    ≡ Ok (in_documents (item (document_note 1) (noted_map (item (pair_on 1 (codes "a") None) (noted_scalar (scalar (integer (pos 1)))) (item (pair_on 2 (codes "b") (code_on 2 (codes "#@ 2 + 3"))) (noted_scalar (scalar null)) no_items))) no_items))
 unfolding chars encode is_utf8
 notes_code = refl
 

@@ -64,13 +64,13 @@ plain_pairs file n (l ∷ ls) h earlier =
 
 -- ---- documents
 
-in_one_map : (o : Outcome Items) → (o >>= one_noted_map >>= bare) ≡ (o >>= as_pairs >>= one_map)
-in_one_map (Ok is) = refl
-in_one_map (Err f) = refl
+in_one_map : (file : ℕ) (o : Outcome Items) → (o >>= one_noted_map file >>= bare) ≡ (o >>= as_pairs >>= one_map)
+in_one_map file (Ok is) = refl
+in_one_map file (Err f) = refl
 
 plain_documents : (file : ℕ) (ls : List (List ℕ)) → list_all is_plain_line ls ≡ true → (noted_in file ls >>= bare) ≡ documents_in value_at file ls
 plain_documents file [] h = refl
-plain_documents file (l ∷ ls) h = in_one_map (noted_pairs_in file [] 1 (l ∷ ls)) ∙ ap (λ o. o >>= one_map) (plain_pairs file 1 (l ∷ ls) h [])
+plain_documents file (l ∷ ls) h = in_one_map file (noted_pairs_in file [] 1 (l ∷ ls)) ∙ ap (λ o. o >>= one_map) (plain_pairs file 1 (l ∷ ls) h [])
 
 -- the noted documents of a text without comments, without their notes, are its documents; and the refusals are the same
 pub noted_without_comments : (file : ℕ) (bytes : List ℕ) → is_plain_text bytes ≡ true → (noted_documents file bytes >>= bare) ≡ read_trees file bytes

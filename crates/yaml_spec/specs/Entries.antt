@@ -62,7 +62,7 @@ row_comment r = if is_empty r.text then None else Some (record { line = r.place.
 
 -- the note of an item that begins in a row
 abbrev pub note_of : Row → Option Scalar → Option Comment → Note
-note_of r k trailing = record { line = r.place.line; key = k; before = r.before; trailing = trailing; flow = false }
+note_of r k trailing = record { place = r.place; key = k; before = r.before; trailing = trailing; flow = false }
 
 -- the row of what stands behind its first head
 abbrev pub behind_head : ℕ → List Head → Row → Row

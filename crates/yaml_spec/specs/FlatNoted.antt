@@ -26,7 +26,7 @@ beside_at place v = if is_code v && is_utf8 v then Ok (code_beside place v) else
 
 -- the note of a pair at a place
 abbrev pub pair_note : Place → Scalar × Beside → Note
-pair_note place e = record { line = place.line; key = Some e.0; before = []; trailing = e.1.1; flow = false }
+pair_note place e = record { place = place; key = Some e.0; before = []; trailing = e.1.1; flow = false }
 
 abbrev pub before_items : Place → Scalar × Beside → Items → Outcome Items
 before_items place e is = Ok (item (pair_note place e) e.1.0 is)
@@ -39,20 +39,20 @@ noted_pairs_in file earlier n (l ∷ ls) =
     >>= (λ e. noted_pairs_in file (earlier ++ e.0 ∷ []) (n + 1) ls >>= before_items (place_at file n) e)
 
 -- the note of the document, which begins on the first line
-abbrev pub document_note : Note
-document_note = record { line = 1; key = None; before = []; trailing = None; flow = false }
+abbrev pub document_note : ℕ → Note
+document_note file = record { place = place_at file 1; key = None; before = []; trailing = None; flow = false }
 
 -- documents without a comment after the last item
 abbrev pub in_documents : Items → Documents
 in_documents is = record { items = is; after = [] }
 
-abbrev pub one_noted_map : Items → Outcome Documents
-one_noted_map is = Ok (in_documents (item document_note (noted_map is) no_items))
+abbrev pub one_noted_map : ℕ → Items → Outcome Documents
+one_noted_map file is = Ok (in_documents (item (document_note file) (noted_map is) no_items))
 
 -- no document for a text without a line, else one map
 abbrev pub noted_in : ℕ → List (List ℕ) → Outcome Documents
 noted_in file [] = Ok (in_documents no_items)
-noted_in file (l ∷ ls) = noted_pairs_in file [] 1 (l ∷ ls) >>= one_noted_map
+noted_in file (l ∷ ls) = noted_pairs_in file [] 1 (l ∷ ls) >>= one_noted_map file
 
 -- the noted documents of the text of this file, or its first refusal
 abbrev pub noted_documents : ℕ → List ℕ → Outcome Documents

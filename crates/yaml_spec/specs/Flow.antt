@@ -69,13 +69,13 @@ abbrev pub is_single_pair : Cursor → Cursor → Bool
 is_single_pair here there =
     here.place.line == there.place.line && is_key_end (starts_quote here.text || starts_collection here.text) (skip_white there.text)
 
--- the note of an element that begins on this line
-abbrev pub element_note : ℕ → List Comment → Note
-element_note n comments = record { line = n; key = None; before = comments; trailing = None; flow = true }
+-- the note of an element that begins here
+abbrev pub element_note : Place → List Comment → Note
+element_note p comments = record { place = p; key = None; before = comments; trailing = None; flow = true }
 
--- the note of a pair whose key begins on this line
-abbrev pub pair_note : ℕ → Scalar → List Comment → Note
-pair_note n k comments = record { line = n; key = Some k; before = comments; trailing = None; flow = true }
+-- the note of a pair whose key begins here
+abbrev pub pair_note : Place → Scalar → List Comment → Note
+pair_note p k comments = record { place = p; key = Some k; before = comments; trailing = None; flow = true }
 
 -- the members with one before them
 abbrev pub with_item : Note → Content → Members → Members
@@ -118,7 +118,7 @@ module _ (open_place : Place) (read : List Comment → Cursor → Outcome Node) 
             elim (is_single_pair here m.2) [
               | true ↦ refused kind.YamlOut m.2.place
               | false ↦ next_token open_place m.2 >>= (λ e.
-                  let add = with_item (element_note here.place.line before) m.0 in
+                  let add = with_item (element_note here.place before) m.0 in
                   elim (first e.1.text == comma) [
                     | true ↦ elements n (m.1 ++ e.0) (after 1 e.1) >>= (λ more. Ok (add more))
                     | false ↦ elim (first e.1.text == right_bracket) [
@@ -157,7 +157,7 @@ module _ (open_place : Place) (read : List Comment → Cursor → Outcome Node) 
       elim (first here.text == right_brace) [
         | true ↦ Ok (no_more before here)
         | false ↦ flow_key here >>= (λ k. value_behind k here >>= (λ m. next_token open_place m.2 >>= (λ e.
-            let add = with_item (pair_note here.place.line k.0 before) m.0 in
+            let add = with_item (pair_note here.place k.0 before) m.0 in
             elim (first e.1.text == comma) [
               | true ↦ pairs n (m.1 ++ e.0) (after 1 e.1) >>= (λ more. Ok (add more))
               | false ↦ elim (first e.1.text == right_brace) [

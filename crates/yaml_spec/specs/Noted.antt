@@ -1,6 +1,7 @@
--- Noted documents: trees with a line for each item and with the comments that belong to it (YAML 1.2.2, 3.1 and 6.6).
-use Rattle.std.specs.Prelude.{ℕ, Bool, true, false, ◌&&◌, ◌==◌, List, [], ◌∷◌, slice_index, Option, Some, None, unwrap_or, codes, drop}
+-- Noted documents: trees with a place for each item and with the comments that belong to it (YAML 1.2.2, 3.1 and 6.6).
+use Rattle.std.specs.Prelude.{ℕ, Bool, true, false, ◌&&◌, ◌||◌, ◌==◌, List, [], ◌∷◌, slice_index, Option, Some, None, unwrap_or, codes, drop}
 use Rattle.std.specs.List.{starts_with}
+use Rattle.ytt_base.specs.declared.fault.Place.{Place}
 use Rattle.ytt_base.specs.Trees.{Scalar, null, Tree, list, map, Trees, no_trees, tree, Pairs, no_pairs, pair, has_key, is_null}
 use Rattle.yaml_spec.specs.Bytes.{hash, at_sign}
 
@@ -12,7 +13,7 @@ pub record Comment : Type 0 where
 
 -- an item besides its content; an item is a document, a pair of a map or an element of a list, and a pair has a key
 pub record Note : Type 0 where
-  pub line : ℕ
+  pub place : Place
   pub key : Option Scalar
   pub before : List Comment
   pub trailing : Option Comment
@@ -98,3 +99,26 @@ is_code text = starts_with (λ a b. a == b) text code_mark
 -- the code behind the mark
 abbrev pub code_in : List ℕ → List ℕ
 code_in text = drop 3 text
+
+-- one of the comments begins with `#@`
+abbrev pub code_in_some : List Comment → Bool
+code_in_some [] = false
+code_in_some (c ∷ cs) = is_note c.text || code_in_some cs
+
+abbrev pub code_beside : Option Comment → Bool
+code_beside None = false
+code_beside (Some c) = is_note c.text
+
+abbrev mutual
+  pub code_within : Content → Bool
+  code_within (noted_scalar t) = false
+  code_within (noted_list is) = code_among is
+  code_within (noted_map is) = code_among is
+
+  pub code_among : Items → Bool
+  code_among no_items = false
+  code_among (item n c is) = code_in_some n.before || code_beside n.trailing || code_within c || code_among is
+
+-- a comment that begins with `#@` makes a text a template
+abbrev pub has_code : Documents → Bool
+has_code ds = code_among ds.items || code_in_some ds.after

@@ -2,7 +2,8 @@
 use Rattle.std.specs.Prelude.{◌≡◌, ℕ, Bool, true, false, ◌&&◌, ◌||◌, ◌==◌, if◌then◌else◌, List, [], ◌∷◌, ◌++◌, take, drop, codes, bytes_eq, Option, Some, None, Ok, Err}
 use Rattle.yaml_spec.specs.Bytes.{hash, percent, first, is_empty, is_blank, is_gap, skip_white}
 use Rattle.ytt_base.specs.declared.fault.FaultKind.TheVariants as kind
-use Rattle.ytt_base.specs.Outcomes.{Outcome, ◌>>=◌, place_at}
+use Rattle.ytt_base.specs.declared.fault.Place.{Place}
+use Rattle.ytt_base.specs.Outcomes.{Outcome, ◌>>=◌}
 use Rattle.yaml_spec.specs.Refusals.{refused}
 use Rattle.yaml_spec.specs.Lines.{Line, Lines}
 use Rattle.ytt_base.specs.Trees.{Trees, max_depth}
@@ -57,8 +58,8 @@ abbrev pub document_content : List Row → Outcome Found
 document_content rs = content_of max_depth (Doc max_depth) rs
 
 -- the note of a document, which has no key
-abbrev pub document_note : ℕ → List Comment → Option Comment → Note
-document_note n before trailing = record { line = n; key = None; before = before; trailing = trailing; flow = false }
+abbrev pub document_note : Place → List Comment → Option Comment → Note
+document_note p before trailing = record { place = p; key = None; before = before; trailing = trailing; flow = false }
 
 -- what stands behind `---`, as a row without a head
 abbrev pub marker_row : Segment → Row
@@ -93,10 +94,10 @@ explicit before s =
     elim (has_value r) [
       | true ↦
           let rs = rows_behind s r in
-          document_content rs.0 >>= (λ f. Ok (document_note r.place.line before f.1, f, rs.1))
+          document_content rs.0 >>= (λ f. Ok (document_note r.place before f.1, f, rs.1))
       | false ↦
           let rs = rows s.stop false 0 0 [] s.lines in
-          document_content rs.0 >>= (λ f. Ok (document_note r.place.line before (row_comment r), f, rs.1))
+          document_content rs.0 >>= (λ f. Ok (document_note r.place before (row_comment r), f, rs.1))
     ]
 
 -- comments on their own lines
@@ -151,7 +152,7 @@ implicit front ss =
         | true ↦ refused kind.YamlOut l.place
         | false ↦
             let rs = rows (first_marker ss) true 0 0 [] front in
-            document_content rs.0 >>= (λ f. documents false rs.1 ss >>= (λ ds. Ok (with_document (document_note l.place.line [] f.1) f ds)))
+            document_content rs.0 >>= (λ f. documents false rs.1 ss >>= (λ ds. Ok (with_document (document_note l.place [] f.1) f ds)))
       ]
     ]
 
@@ -161,17 +162,21 @@ implicit front ss =
 unfoldable pub Read : ℕ → List ℕ → Outcome Documents
 Read file bytes = Lines file bytes >>= (λ ls. let s = segments ls in implicit s.0 s.1)
 
--- the documents of this file where no map has a key twice, or else the first later item
-unfoldable pub distinct : ℕ → Documents → Outcome Documents
-distinct file ds =
+-- the documents where no map has a key twice, or else the first later item
+unfoldable pub distinct : Documents → Outcome Documents
+distinct ds =
     elim (twice_below ds.items) [
-      | Some n ↦ Err (record { kind = kind.KeyTwice; place = place_at file n.line; detail = key_text (key_of n) })
+      | Some n ↦ Err (record { kind = kind.KeyTwice; place = n.place; detail = key_text (key_of n) })
       | None ↦ Ok ds
     ]
 
+-- the trees of documents where no map has a key twice, without the null ones
+abbrev pub plain_trees : Documents → Outcome Trees
+plain_trees ds = distinct ds >>= (λ es. Ok (drop_null (bare_trees es.items)))
+
 -- the trees of the text of this file without the null ones, or its refusal
 unfoldable pub read_trees : ℕ → List ℕ → Outcome Trees
-read_trees file bytes = Read file bytes >>= (λ ds. distinct file ds >>= (λ es. Ok (drop_null (bare_trees es.items))))
+read_trees file bytes = Read file bytes >>= (λ ds. plain_trees ds)
 
 -- the text reads as these trees and no others, whichever file it is
 abbrev pub Reads : List ℕ → Trees → Type 0

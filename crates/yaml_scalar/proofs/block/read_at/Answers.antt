@@ -14,7 +14,7 @@ opening-is_literal-requires c =
 pub returns-then-not-ends_header : goal.returns-then-not-ends_header
 returns-then-not-ends_header c =
     let header = rw c.as_str.ensures at c.opening-is_literal.ensures.header in
-    rw c.wrong_form.ensures
+    rw c.refusal.ensures
     (block-refused c.args.lines.now c.args.start c.args.column c.args.least c.index-lines-start.result (header_of c.opening-is_literal.result.1) c.requires.there c.index-lines-start.is header (sym c.ends_header.ensures ∙ c.if-not-ends_header.true))
 
 pub returns-in_err-text : goal.returns-in_err-text

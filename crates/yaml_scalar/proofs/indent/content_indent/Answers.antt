@@ -11,7 +11,7 @@ returns-in_default c = indent_of-none c.args.least c.args.digit (plain_lines c.a
 
 pub returns-in-Some-too_long : goal.returns-in-Some-too_long
 returns-in-Some-too_long c =
-    rw c.wrong_form.ensures
+    rw c.refusal.ensures
     (indent_of-long c.args.least c.args.digit (plain_lines c.args.below.now) c.in-Some.found c.in-Some-too_long.place (omega arith) (sym c.found_indent.ensures ∙ c.in-Some.is) (sym c.too_long.ensures ∙ c.in-Some-too_long.is))
 
 pub returns-in-None : goal.returns-in-None

@@ -39,7 +39,7 @@ pub returns-in-Wrong : goal.returns-in-Wrong
 returns-in-Wrong c =
     let l = c.lines in
     let found = sym c.in_ok-scan_line.ensures.held ∙ ap scan_of c.in-Wrong.is in
-    rw (c.wrong_form.ensures, ← c.index-all-at-in-Wrong.is, ← c.as_slice-all.ensures)
+    rw (c.refusal.ensures, ← c.index-all-at-in-Wrong.is, ← c.as_slice-all.ensures)
     (reading-wrong c.as_slice-all.result.now c.args.line c.args.column l.at c.index-all-at-in-Wrong.result c.opening-is_double.result.0 l.folded l.rest.now l.invariant.reading c.index-all-at-in-Wrong.is found)
 
 pub overflow_sub-result : goal.overflow_sub-result
@@ -60,7 +60,7 @@ pub returns-then-at-all : goal.returns-then-at-all
 returns-then-at-all c =
     let l = c.lines in
     let found = sym c.in_ok-scan_line.ensures.held ∙ ap scan_of c.in-Open.is in
-    rw (c.wrong_form-then-at-all.ensures, ← c.index-all-line.is, ← c.as_slice-all.ensures)
+    rw (c.refusal-then-at-all.ensures, ← c.index-all-line.is, ← c.as_slice-all.ensures)
     (reading-end c.as_slice-all.result.now c.args.line c.args.column l.at c.index-all-line.result c.opening-is_double.result.0 l.folded l.rest.now (part_of (string_bytes c.in-Open.text) c.in-Open.joined) l.invariant.reading l.invariant.opened c.index-all-line.is c.if-at-all.true found)
 
 pub lines-preserved : goal.lines-preserved

@@ -1,5 +1,5 @@
 use Rattle.yaml_scalar.proofs.Pieces.{stop_ascii}
-use Rattle.yaml_scalar.proofs.Whites.{cut_before}
+use Rattle.yaml_text.proofs.Whites.{cut_before}
 use Rattle.yaml_scalar.specs.Turns.{is_plain}
 use Rattle.yaml_scalar.proofs.scan.split_plain.Goals as goal
 

@@ -1,0 +1,6 @@
+//! Flow collections, over any number of lines.
+#![tactic(auto)]
+
+mod flow;
+
+pub use flow::read_flow;

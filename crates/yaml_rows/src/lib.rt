@@ -1,0 +1,10 @@
+//! Logical lines: what begins an entry on a line, and the value behind it.
+#![tactic(auto)]
+
+mod row;
+mod rows;
+mod values;
+
+pub use row::{Head, Heads, Mark, Row, has_value};
+pub use rows::{row_at, row_value};
+pub use values::{Value, read_value};

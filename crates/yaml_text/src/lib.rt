@@ -1,0 +1,16 @@
+//! Places in a text, and what stands there: white space, marks, and the refusal of what is wrong there.
+#![tactic(auto)]
+
+mod cursor;
+mod look;
+mod refusals;
+mod spaces;
+mod white;
+
+pub use cursor::Cursor;
+pub use look::{
+    first, is_blank, is_flow_indicator, is_gap, starts_block, starts_collection, starts_quote,
+};
+pub use refusals::refusal;
+pub use spaces::indent;
+pub use white::{behind, is_white, skip_white, trim_end};
