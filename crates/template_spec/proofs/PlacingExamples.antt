@@ -1,12 +1,25 @@
 -- What some noted documents are placed as, by computing, with a reader that knows two texts.
 use Rattle.std.proofs.Common.{◌≡◌, ℕ, Bool, true, false, if◌then◌else◌, List, [], ◌∷◌, Option, Some, None, Ok, refl, codes, bytes_eq, pos}
+use Rattle.std.specs.Fmt.{digits}
 use Rattle.std.specs.Str.{chars, is_utf8}
 use lib.Utf8.{encode}
 use Rattle.ytt_base.specs.declared.fault.Place.{Place}
+use Rattle.ytt_base.specs.declared.fault.FaultKind.TheVariants as kind
 use Rattle.ytt_base.specs.Outcomes.{Outcome, ◌>>=◌, place_at}
 use Rattle.ytt_base.specs.Trees.{integer, string, scalar}
-use Rattle.yaml_spec.specs.Flat.{not_built}
-use Rattle.yaml_spec.specs.FlatNoted.{document_note, in_documents, noted_documents}
+use Rattle.template_spec.specs.Placing.{not_built}
+use Rattle.yaml_spec.specs.Refusals.{refused}
+use Rattle.yaml_spec.specs.Lines.{cut, lines_of, checked, Lines}
+use Rattle.yaml_spec.specs.Scalars.{form, plain}
+use Rattle.yaml_spec.specs.Folding.{fold_parts}
+use Rattle.yaml_spec.specs.Quotes.{single, double, parts, Quote}
+use Rattle.yaml_spec.specs.Blocks.{header, body, block_text, Block}
+use Rattle.yaml_spec.specs.Plain.{start_fault, span, further, plain_lines}
+use Rattle.yaml_spec.specs.Flow.{gap, flow_key, elements, pair_value, pairs as flow_pairs, flow_scalar, flow}
+use Rattle.yaml_spec.specs.Values.{noted as with_comment, ended, value}
+use Rattle.yaml_spec.specs.Rows.{key_at, heads_of, row_at, taken, rows}
+use Rattle.yaml_spec.specs.Entries.{cut_after, content_of, entry_content, entry, entry_at, entries, Doc}
+use Rattle.yaml_spec.specs.Read.{segments, explicit, ended as read_ended, documents, document_note, implicit, Read}
 use Rattle.yaml_spec.specs.Noted as noted
 use Rattle.yaml_spec.specs.Noted.{Comment, Note, Documents, noted_list, noted_map, noted_scalar}
 use Rattle.star_spec.specs.Code.{Expr, addition, binary, int}
@@ -23,7 +36,7 @@ small_reader = record { expr = λ place text. if bytes_eq text (codes "2 + 3") t
 
 -- the template of a text of the fourth file
 abbrev placed_text : List ℕ → Outcome Items
-placed_text text = noted_documents 4 text >>= placed small_reader 4
+placed_text text = Read 4 text >>= placed small_reader 4
 
 abbrev pair_on : ℕ → List ℕ → Content → Item
 pair_on line key content = node (place_at 4 line) pair_item no_notes (written_key (string key)) content
@@ -32,29 +45,31 @@ abbrev document_of : Items → Items
 document_of is = an_item (node (place_at 4 1) document_item no_notes no_key (pairs is)) no_items
 
 places_nothing : placed_text [] ≡ Ok no_items
+unfolding is_utf8 chars encode digits cut lines_of checked Lines form plain fold_parts single double parts Quote header body block_text Block start_fault span further plain_lines gap flow_key elements pair_value flow_pairs flow_scalar flow with_comment ended value key_at heads_of row_at taken rows cut_after content_of entry_content entry entry_at entries Doc segments explicit read_ended documents implicit Read
 places_nothing = refl
 
 places_code :
     placed_text (codes "a: 1\nb: #@ 2 + 3\nc: #@ 5\n")
     ≡ Ok (document_of (an_item (pair_on 1 (codes "a") (written_value (integer (pos 1)))) (an_item (pair_on 2 (codes "b") (value_from (sum_at (place_at 4 2)))) (an_item (pair_on 3 (codes "c") (value_from (int (place_at 4 3) (pos 5)))) no_items))))
-unfolding chars encode is_utf8
+unfolding is_utf8 chars encode digits cut lines_of checked Lines form plain fold_parts single double parts Quote header body block_text Block start_fault span further plain_lines gap flow_key elements pair_value flow_pairs flow_scalar flow with_comment ended value key_at heads_of row_at taken rows cut_after content_of entry_content entry entry_at entries Doc segments explicit read_ended documents implicit Read
 places_code = refl
 
 refuses_other_code : placed_text (codes "a: #@ 5\nb: #@ x y\nc: #@ z\n") ≡ not_built (place_at 4 2)
-unfolding chars encode is_utf8
+unfolding is_utf8 chars encode digits cut lines_of checked Lines form plain fold_parts single double parts Quote header body block_text Block start_fault span further plain_lines gap flow_key elements pair_value flow_pairs flow_scalar flow with_comment ended value key_at heads_of row_at taken rows cut_after content_of entry_content entry entry_at entries Doc segments explicit read_ended documents implicit Read
 refuses_other_code = refl
 
-refuses_text_before_code : placed_text (codes "a: #@ x y\n[\n") ≡ not_built (place_at 4 2)
-unfolding chars encode is_utf8
-refuses_text_before_code = refl
+-- the text is read before anything of it is placed
+refuses_text_first : placed_text (codes "a: #@ x y\n[\n") ≡ refused kind.YamlForm (place_at 4 2)
+unfolding is_utf8 chars encode digits cut lines_of checked Lines form plain fold_parts single double parts Quote header body block_text Block start_fault span further plain_lines gap flow_key elements pair_value flow_pairs flow_scalar flow with_comment ended value key_at heads_of row_at taken rows cut_after content_of entry_content entry entry_at entries Doc segments explicit read_ended documents implicit Read
+refuses_text_first = refl
 
 -- ---- what no text of this form is read as
 
 abbrev plain_note : ℕ → List Comment → Option Comment → Bool → Note
-plain_note line before trailing flow = record { line = line; key = Some (string (codes "a")); before = before; trailing = trailing; flow = flow }
+plain_note line before trailing flow = record { place = place_at 4 line; key = Some (string (codes "a")); before = before; trailing = trailing; flow = flow }
 
 abbrev one_map : noted.Items → Documents
-one_map is = in_documents (noted.item document_note (noted_map is) noted.no_items)
+one_map is = record { items = noted.item (document_note (place_at 4 1) [] None) (noted_map is) noted.no_items; after = [] }
 
 abbrev seven : noted.Content
 seven = noted_scalar (scalar (integer (pos 7)))

@@ -3,7 +3,7 @@ use Rattle.std.proofs.Common.{◌≡◌, ℕ, Bool, true, false, if◌then◌els
 use Rattle.ytt_base.specs.declared.fault.Place.{Place}
 use Rattle.ytt_base.specs.Outcomes.{Outcome, ◌>>=◌}
 use Rattle.ytt_base.specs.Trees.{Scalar}
-use Rattle.yaml_spec.specs.Flat.{not_built}
+use Rattle.template_spec.specs.Placing.{not_built}
 use Rattle.yaml_spec.specs.Noted as noted
 use Rattle.yaml_spec.specs.Noted.{Comment, Note, Documents, noted_scalar, noted_list, noted_map, code_in, is_code}
 use Rattle.star_spec.specs.Code.{Expr}

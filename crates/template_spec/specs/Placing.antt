@@ -4,13 +4,18 @@ use Rattle.std.specs.Prelude.{ℕ, Bool, true, false, if◌then◌else◌, List,
 use Rattle.ytt_base.specs.declared.fault.Place.{Place}
 use Rattle.ytt_base.specs.Outcomes.{Outcome, ◌>>=◌, place_at}
 use Rattle.ytt_base.specs.Trees.{Scalar, scalar}
-use Rattle.yaml_spec.specs.Flat.{not_built}
+use Rattle.ytt_base.specs.declared.fault.FaultKind.TheVariants as kind
+use Rattle.yaml_spec.specs.Refusals.{refused}
 use Rattle.yaml_spec.specs.Noted as noted
 use Rattle.yaml_spec.specs.Noted.{Comment, Note, Documents, noted_scalar, noted_map, code_in, is_code}
 use Rattle.star_spec.specs.Code.{Expr}
 use Rattle.star_spec.specs.Program.{document_item, pair_item}
 use Rattle.star_spec.specs.Reading.{Reader}
 use Rattle.template_spec.specs.Template.{no_notes, no_key, written_key, Item, node, Items, no_items, an_item, Content, written_value, value_from, pairs}
+
+-- a form that isn't built yet
+abbrev pub not_built : {A : Type 0} → Place → Outcome A
+not_built place = refused kind.NotBuilt place
 
 -- ---- items
 

@@ -6,7 +6,7 @@ use Rattle.std.proofs.lemmas.Bool.{or_parts, or_from}
 use Rattle.std.proofs.lemmas.Str.{IsUtf8-from_is_utf8}
 use Rattle.ytt_base.specs.declared.fault.FaultKind.TheVariants as kind
 use Rattle.ytt_base.specs.declared.fault.Place.{Place}
-use Rattle.ytt_base.specs.Outcomes.{Outcome, place_at}
+use Rattle.ytt_base.specs.Outcomes.{Outcome}
 use Rattle.ytt_base.specs.Trees.{Scalar, IsScalar, same_key, has_key, keys, Trees, no_trees, tree, IsTree, AreTrees, ArePairs, is_null, max_depth}
 use Rattle.yaml_spec.specs.Refusals.{refused}
 use Rattle.yaml_spec.specs.Bytes.{percent, first}
@@ -68,7 +68,7 @@ good_segments (l ∷ ls) h = go (is_start l || is_stop l) refl (good_segments ls
     go true e g = (tt, (record { text = utf8_marker l e h.0; lines = g.0 }, g.1))
     go false e g = ((h.0, g.0), g.1)
 
-abbrev DocumentsHeld : Documents → Type 0
+abbrev pub DocumentsHeld : Documents → Type 0
 DocumentsHeld ds = AreHeld ds.items
 
 abbrev Explicit : Type 0
@@ -119,7 +119,7 @@ good_implicit front ss g h =
     (yields_bind GoodFound _ (document_content _) _ (good_document _ (good_rows (first_marker ss) true 0 0 [] front g)) (λ f p.
     yields_bind DocumentsHeld _ (documents false _ ss) _ (good_documents false _ ss h) (λ ds q. yields_ok _ _ (tt, p, q)))))
 
-good_read : (file : ℕ) (bytes : List ℕ) → Yields DocumentsHeld (Read file bytes)
+pub good_read : (file : ℕ) (bytes : List ℕ) → Yields DocumentsHeld (Read file bytes)
 unfolding Read
 good_read file bytes =
     yields_bind AreGoodLines _ (Lines file bytes) _ (good_lines file bytes) (λ ls h. let s = good_segments ls h in good_implicit (segments ls).0 (segments ls).1 s.0 s.1)

@@ -3,7 +3,7 @@ use Rattle.ytt_base.specs.declared.fault.Place.{Place}
 use Rattle.std.proofs.Common.{◌≡◌, ℕ, zero, suc, ◌≤◌, Bool, true, false, not, ◌&&◌, ◌||◌, ◌==◌, List, [], ◌∷◌, ◌++◌, Option, Some, None, Ok, Err, refl, arith, if◌then◌else◌}
 use Rattle.std.specs.Prelude.{nat_lt, length}
 use Rattle.yaml_spec.specs.Bytes.{percent, hash, bar, greater, comma, left_bracket, right_bracket, left_brace, right_brace, first, is_empty, skip_white}
-use Rattle.ytt_base.specs.Outcomes.{Outcome, place_at}
+use Rattle.ytt_base.specs.Outcomes.{Outcome}
 use Rattle.ytt_base.specs.Trees.{Trees, no_trees, tree, depth, trees_depth, pairs_depth, max_depth, is_null, Writable}
 use Rattle.yaml_spec.specs.Quotes.{Cursor, after, Quote, starts_quote}
 use Rattle.yaml_spec.specs.Noted.{Comment, Note, Content, noted_list, noted_map, Items, Documents, bare_tree, bare_trees, bare_pairs, drop_null, is_note}

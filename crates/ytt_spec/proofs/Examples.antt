@@ -3,7 +3,18 @@ use Rattle.std.proofs.Common.{◌≡◌, ℕ, List, [], ◌∷◌, Ok, refl, cod
 use Rattle.std.specs.Fmt.{digits}
 use Rattle.std.specs.Str.{chars, is_utf8}
 use lib.Utf8.{encode}
-use Rattle.yaml_spec.specs.Scalars.{form}
+use Rattle.yaml_spec.specs.Lines.{cut, lines_of, checked, Lines}
+use Rattle.yaml_spec.specs.Scalars.{form, plain}
+use Rattle.yaml_spec.specs.Folding.{fold_parts}
+use Rattle.yaml_spec.specs.Quotes.{single, double, parts, Quote}
+use Rattle.yaml_spec.specs.Blocks.{header, body, block_text, Block}
+use Rattle.yaml_spec.specs.Plain.{start_fault, span, further, plain_lines}
+use Rattle.yaml_spec.specs.Flow.{gap, flow_key, elements, pair_value, pairs, flow_scalar, flow}
+use Rattle.yaml_spec.specs.Values.{noted, ended, value}
+use Rattle.yaml_spec.specs.Rows.{key_at, heads_of, row_at, taken, rows}
+use Rattle.yaml_spec.specs.Entries.{cut_after, content_of, entry_content, entry, entry_at, entries, Doc}
+use Rattle.yaml_spec.specs.Read.{segments, explicit, ended as read_ended, documents, implicit, Read, distinct}
+use Rattle.yaml_spec.specs.Text.{fits_plain, fits_literal}
 use Rattle.star_spec.specs.Code.{Expr, binary, floor_division, int}
 use Rattle.star_spec.specs.Reading.{Reader}
 use Rattle.ytt_base.specs.Outcomes.{place_at}
@@ -18,22 +29,24 @@ abbrev due_of : Reader → List ℕ → Due
 due_of r text = due_over r (file text) (codes "render" ∷ codes "-f" ∷ codes "a.yml" ∷ [])
 
 prints_itself : (r : Reader) → due_of r (codes "name: web\nport: 80\n") ≡ done (codes "name: web\nport: 80\n")
-unfolding digits form
+unfolding digits chars encode is_utf8 cut lines_of checked Lines form plain fold_parts single double parts Quote header body block_text Block start_fault span further plain_lines gap flow_key elements pair_value pairs flow_scalar flow noted ended value key_at heads_of row_at taken rows cut_after content_of entry_content entry entry_at entries Doc segments explicit read_ended documents implicit Read distinct fits_plain fits_literal
 prints_itself r = refl
 
 reads_quoted : (r : Reader) → due_of r (codes "a: \"1\"\nb: \"yes\"\nc: \"\"\n") ≡ done (codes "a: \"1\"\nb: \"yes\"\nc: \"\"\n")
-unfolding chars encode form
+unfolding digits chars encode is_utf8 cut lines_of checked Lines form plain fold_parts single double parts Quote header body block_text Block start_fault span further plain_lines gap flow_key elements pair_value pairs flow_scalar flow noted ended value key_at heads_of row_at taken rows cut_after content_of entry_content entry entry_at entries Doc segments explicit read_ended documents implicit Read distinct fits_plain fits_literal
 reads_quoted r = refl
 
 refuses_float : (r : Reader) → due_of r (codes "v: 1.5\n") ≡ fault (codes "error: FloatScalar at a.yml:1\n")
-unfolding digits
+unfolding digits chars encode is_utf8 cut lines_of checked Lines form plain fold_parts single double parts Quote header body block_text Block start_fault span further plain_lines gap flow_key elements pair_value pairs flow_scalar flow noted ended value key_at heads_of row_at taken rows cut_after content_of entry_content entry entry_at entries Doc segments explicit read_ended documents implicit Read distinct fits_plain fits_literal
 refuses_float r = refl
 
 empty_file : (r : Reader) → due_of r [] ≡ done []
+unfolding digits chars encode is_utf8 cut lines_of checked Lines form plain fold_parts single double parts Quote header body block_text Block start_fault span further plain_lines gap flow_key elements pair_value pairs flow_scalar flow noted ended value key_at heads_of row_at taken rows cut_after content_of entry_content entry entry_at entries Doc segments explicit read_ended documents implicit Read distinct fits_plain fits_literal
 empty_file r = refl
 
-refuses_list : (r : Reader) → due_of r (codes "a: 1\nb: [1]\n") ≡ fault (codes "error: NotBuilt at a.yml:2\n")
-unfolding digits
+-- a list in a template isn't built yet
+refuses_list : (r : Reader) → due_of r (codes "a: 1\nb: [1]\nc: #@x\n") ≡ fault (codes "error: NotBuilt at a.yml:2\n")
+unfolding digits chars encode is_utf8 cut lines_of checked Lines form plain fold_parts single double parts Quote header body block_text Block start_fault span further plain_lines gap flow_key elements pair_value pairs flow_scalar flow noted ended value key_at heads_of row_at taken rows cut_after content_of entry_content entry entry_at entries Doc segments explicit read_ended documents implicit Read distinct fits_plain fits_literal
 refuses_list r = refl
 
 missing_file : (r : Reader) → due_over r nothing (codes "render" ∷ codes "-f" ∷ codes "lib/a.yml" ∷ []) ≡ fault (codes "error: FileMissing: lib/a.yml\n")
@@ -48,8 +61,8 @@ library_file r = refl
 a_folder : (r : Reader) → due_over r (folder []) (codes "render" ∷ codes "-f" ∷ codes "a.yml" ∷ []) ≡ fault (codes "error: NotBuilt\n")
 a_folder r = refl
 
-shown_by_last_part : (r : Reader) → due_over r (file (codes "a")) (codes "render" ∷ codes "-f" ∷ codes "x/y/a.yaml" ∷ []) ≡ fault (codes "error: NotBuilt at a.yaml:1\n")
-unfolding digits
+shown_by_last_part : (r : Reader) → due_over r (file (codes "{")) (codes "render" ∷ codes "-f" ∷ codes "x/y/a.yaml" ∷ []) ≡ fault (codes "error: YamlForm at a.yaml:1\n")
+unfolding digits chars encode is_utf8 cut lines_of checked Lines form plain fold_parts single double parts Quote header body block_text Block start_fault span further plain_lines gap flow_key elements pair_value pairs flow_scalar flow noted ended value key_at heads_of row_at taken rows cut_after content_of entry_content entry entry_at entries Doc segments explicit read_ended documents implicit Read distinct fits_plain fits_literal
 shown_by_last_part r = refl
 
 no_word : (r : Reader) → due_over r nothing [] ≡ usage (codes "error: usage at word 1\n")
@@ -97,19 +110,19 @@ abbrev one : Expr
 one = int (place_at 1 1) (pos 1)
 
 three_steps : (r : Reader) → r.expr (place_at 1 1) (codes "1") ≡ Ok one → steps_over r (codes "a: #@ 1\n") (codes "3") ≡ done (codes "a: 1\n")
-unfolding digits chars encode is_utf8 form
+unfolding digits chars encode is_utf8 cut lines_of checked Lines form plain fold_parts single double parts Quote header body block_text Block start_fault span further plain_lines gap flow_key elements pair_value pairs flow_scalar flow noted ended value key_at heads_of row_at taken rows cut_after content_of entry_content entry entry_at entries Doc segments explicit read_ended documents implicit Read distinct fits_plain fits_literal
 three_steps r read = rw read refl
 
 two_steps : (r : Reader) → r.expr (place_at 1 1) (codes "1") ≡ Ok one → steps_over r (codes "a: #@ 1\n") (codes "2") ≡ fault (codes "error: Steps at a.yml:1\n")
-unfolding digits chars encode is_utf8 form
+unfolding digits chars encode is_utf8 cut lines_of checked Lines form plain fold_parts single double parts Quote header body block_text Block start_fault span further plain_lines gap flow_key elements pair_value pairs flow_scalar flow noted ended value key_at heads_of row_at taken rows cut_after content_of entry_content entry entry_at entries Doc segments explicit read_ended documents implicit Read distinct fits_plain fits_literal
 two_steps r read = rw read refl
 
-no_divisor : (r : Reader) → r.expr (place_at 1 2) (codes "1 // 0") ≡ Ok (binary (place_at 1 2) floor_division (int (place_at 1 2) (pos 1)) (int (place_at 1 2) (pos 0)))
-    → due_of r (codes "b: 1\na: #@ 1 // 0\n") ≡ fault (codes "error: DivideZero at a.yml:2\n")
-unfolding digits chars encode is_utf8 form
+no_divisor : (r : Reader) → r.expr (place_at 1 1) (codes "1 // 0") ≡ Ok (binary (place_at 1 1) floor_division one (int (place_at 1 1) (pos 0)))
+    → due_of r (codes "a: #@ 1 // 0\n") ≡ fault (codes "error: DivideZero at a.yml:1\n")
+unfolding digits chars encode is_utf8 cut lines_of checked Lines form plain fold_parts single double parts Quote header body block_text Block start_fault span further plain_lines gap flow_key elements pair_value pairs flow_scalar flow noted ended value key_at heads_of row_at taken rows cut_after content_of entry_content entry entry_at entries Doc segments explicit read_ended documents implicit Read distinct fits_plain fits_literal
 no_divisor r read = rw read refl
 
 -- a file without code takes no steps
 plain_file : (r : Reader) → steps_over r (codes "a: 1\n") (codes "1") ≡ done (codes "a: 1\n")
-unfolding digits form
+unfolding digits chars encode is_utf8 cut lines_of checked Lines form plain fold_parts single double parts Quote header body block_text Block start_fault span further plain_lines gap flow_key elements pair_value pairs flow_scalar flow noted ended value key_at heads_of row_at taken rows cut_after content_of entry_content entry entry_at entries Doc segments explicit read_ended documents implicit Read distinct fits_plain fits_literal
 plain_file r = refl

@@ -4,7 +4,7 @@ use Rattle.ytt_base.specs.FaultText.{fault_line}
 use Rattle.ytt_base.specs.Outcomes.{Outcome}
 use Rattle.ytt_base.specs.Trees.{Trees}
 use Rattle.ytt_outside.specs.Standing.{Standing}
-use Rattle.yaml_spec.specs.FirstText.{Text}
+use Rattle.yaml_spec.specs.Text.{Text}
 use Rattle.star_spec.specs.Reading.{IsReader, Reader}
 use Rattle.ytt_spec.specs.Meaning.{meaning, last_part}
 use Rattle.ytt_spec.specs.Words.{Asked, render, wrong, asked}

@@ -7,8 +7,8 @@ use Rattle.ytt_base.specs.declared.fault.FaultKind.TheVariants as kind
 use Rattle.ytt_base.specs.Outcomes.{Outcome, ◌>>=◌, fault_at, place_at}
 use Rattle.ytt_base.specs.Trees.{Trees}
 use Rattle.ytt_outside.specs.Standing.{Standing, nothing, file, folder}
-use Rattle.yaml_spec.specs.Flat.{read_trees}
-use Rattle.yaml_spec.specs.FlatNoted.{is_plain_text, noted_documents}
+use Rattle.yaml_spec.specs.Noted.{Documents, has_code}
+use Rattle.yaml_spec.specs.Read.{Read, plain_trees}
 use Rattle.star_spec.specs.Calls.{no_natives}
 use Rattle.star_spec.specs.Eval.{starlark}
 use Rattle.star_spec.specs.Outcomes.{State, Ending, done, bad}
@@ -65,9 +65,13 @@ outcome_of (bad fault s) = Err fault
 abbrev pub built : (steps : ℕ) → Items → Outcome Trees
 built steps template = outcome_of (BuildFile starlark no_natives (λ file. template) default_depth template (started steps))
 
--- A text without code is its documents, which take no steps; a text with code is a template, which is built.
+-- Documents without code are what they are, which takes no steps; with code they are a template, which is built.
+abbrev pub documents_meaning : Reader → (steps : ℕ) → Documents → Outcome Trees
+documents_meaning r steps ds = if has_code ds then placed r 1 ds >>= built steps else plain_trees ds
+
+-- A text that reads as no documents has its first refusal.
 abbrev pub text_meaning : Reader → (steps : ℕ) → List ℕ → Outcome Trees
-text_meaning r steps bytes = if is_plain_text bytes then read_trees 1 bytes else ((noted_documents 1 bytes >>= placed r 1) >>= built steps)
+text_meaning r steps bytes = Read 1 bytes >>= documents_meaning r steps
 
 -- What a path means, by what stands at it: the documents of a template file. The reader of code is a parameter: each that reads as code reads gives the same.
 abbrev pub meaning : Reader → (path : List ℕ) → (steps : ℕ) → Standing → Outcome Trees
