@@ -1,0 +1,3 @@
+pub mod Behind
+pub mod Faults
+pub mod Seen
