@@ -1,0 +1,3 @@
+pub mod EndedBehind
+pub mod MarkerBytes
+pub mod Segmenting

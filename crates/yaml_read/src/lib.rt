@@ -1,8 +1,12 @@
 //! Reading a text into noted documents and into trees.
 #![tactic(auto)]
 
+mod between;
+mod markers;
 mod pass;
 mod read;
+mod segments;
 
-pub use read::{has_code, plain_trees, read_noted, read_plain};
+pub use read::{read_noted, read_plain};
 pub use yaml_noted::{Comments, Content, NotedDocs, NotedItem, NotedItems, RawComment};
+pub use yaml_trees::{has_code, plain_trees};
