@@ -126,7 +126,7 @@ step_ok left f (g ∷ gs) a h r y p =
 
 -- ---- the pass over the lines
 
-abbrev with_comments : List Comment → Found → Outcome Passed
+abbrev pub with_comments : List Comment → Found → Outcome Passed
 with_comments cs f = Ok (f, cs)
 
 abbrev pub run_rows : List Frame → Hole → List Row × List Comment → Outcome Passed
@@ -176,14 +176,19 @@ pass-rows stop o zero least cs fs a h (l ∷ ls) =
     by_line u v w x y z false true p q s = q
     by_line u v w x y z false false p q s = s
 
+-- the same where no block is open
+pub pass-from : (stop : ℕ) (is_owned : Bool) (skip least : ℕ) (cs : List Comment) (h : Hole) (ls : List Line) →
+    pass stop is_owned skip least cs [] h ls ≡ run_rows [] h (rows stop is_owned skip least cs ls)
+unfolding AllFit
+pass-from stop o skip least cs h ls = pass-rows stop o skip least cs [] none h ls
+  where
+    none : AllFit []
+    none = tt
+
 -- The lines of a document, gone over once with a stack, have the content that cutting them top down gives.
 pub pass-content_of : (stop : ℕ) (is_owned : Bool) (cs : List Comment) (ls : List Line) →
     pass stop is_owned 0 0 cs [] wanting ls
     ≡ content_of max_depth (Doc max_depth) (rows stop is_owned 0 0 cs ls).0 >>= with_comments (rows stop is_owned 0 0 cs ls).1
-unfolding AllFit
 pass-content_of stop o cs ls =
-    pass-rows stop o 0 0 cs [] none wanting ls
+    pass-from stop o 0 0 cs wanting ls
     ∙ ap (λ (p : Outcome Found). p >>= with_comments (rows stop o 0 0 cs ls).1) (run-content_of max_depth (rows stop o 0 0 cs ls).0)
-  where
-    none : AllFit []
-    none = tt

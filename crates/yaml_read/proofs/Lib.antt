@@ -1,3 +1,4 @@
 pub mod EndedBehind
+pub mod Explicit
 pub mod MarkerBytes
 pub mod Segmenting

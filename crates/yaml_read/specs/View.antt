@@ -1,8 +1,11 @@
 -- What was read of a document, seen as plain data.
-use Rattle.std.specs.Prelude.{Option, Some, None, option_map}
+use Rattle.std.specs.Prelude.{List, Option, Some, None, option_map}
 use Rattle.yaml_laws.specs.Machine as machine
 use Rattle.yaml_laws.specs.Machine.{Hole, wanting, filled}
-use Rattle.yaml_noted.specs.View.{content_of, comment_of, comments_of}
+use Rattle.yaml_noted.specs.declared.noted.NotedItem.{NotedItem}
+use Rattle.yaml_noted.specs.declared.noted.RawComment.{RawComment}
+use Rattle.yaml_noted.specs.View.{content_of, comment_of, comments_of, noted_of}
+use Rattle.yaml_read.specs.Documents.{Part}
 use Rattle.yaml_spec.specs.Entries as plain
 use Rattle.yaml_read.specs.declared.pass.Found.{Found}
 use Rattle.yaml_read.specs.declared.pass.Passed.{Passed}
@@ -16,3 +19,7 @@ hole_of (Some f) = filled (found_of f)
 
 abbrev pub passed_of : Passed → machine.Passed
 passed_of p = (found_of p.found, comments_of p.after)
+
+-- a document that stands by itself, if there is one, and the comments behind it
+abbrev pub part_of : Option NotedItem × List RawComment → Part
+part_of p = (option_map noted_of p.0, comments_of p.1)

@@ -2,6 +2,7 @@
 #![tactic(auto)]
 
 mod between;
+mod documents;
 mod markers;
 mod pass;
 mod read;

@@ -1,0 +1,154 @@
+// Documents, one after another.
+ghost use Rattle.std.specs.Prelude.{◌≡◌, ◌≤◌, ◌^◌, [], List, Ok, option_map, IfOk, true, false};
+ghost use Rattle.ytt_base.specs.Outcomes.{Gives};
+ghost use Rattle.yaml_laws.specs.Machine.{wanting};
+ghost use Rattle.yaml_noted.specs.View.{comment_of, comments_of, content_of, documents_of, items_of, noted_of};
+ghost use Rattle.yaml_rows.specs.View.{row_of};
+ghost use Rattle.yaml_spec.specs.Entries.{row_comment};
+ghost use Rattle.yaml_spec.specs.Held.{plain_line, plain_lines};
+ghost use Rattle.yaml_spec.specs.Noted.{Comment};
+ghost use Rattle.yaml_spec.specs.Read.{document_note, implicit, is_start, is_stop, marker_row, segments};
+ghost use Rattle.yaml_spec.specs.Rows.{has_value, open_place_of};
+ghost use Rattle.yaml_read.specs.Documents.{documents_behind, explicit_part, front_part, passed_behind, segment_part};
+ghost use Rattle.yaml_read.specs.Lines.{FitLines};
+ghost use Rattle.yaml_read.specs.Segments.{BeginsWithMarker, FitSegment, segment_of};
+ghost use Rattle.yaml_read.specs.View.{part_of, passed_of};
+
+use crate::between::{first_content, push_comments, read_ended};
+use crate::markers::{behind_marker, is_start};
+use crate::pass::{Found, Passed, pass_lines};
+use crate::segments::{Segment, first_line, split_front, split_segment};
+use sqlite_items::Items;
+use std::alloc::Global;
+use yaml_noted::{Comments, Content, NotedDocs, NotedItem, NotedItems, RawComment};
+use yaml_rows::{Row, has_value, row_value};
+use yaml_text::{first, refusal};
+use ytt_base::fault::{FaultKind, Place, Stop};
+use ytt_base::line::Line;
+use ytt_base::text::{Memory, Text};
+
+/// How many collections may nest.
+const MAX_DEPTH: u32 = 100;
+
+/// Where what is left open is told: at its own place, or at the marker that ends its document.
+fn open_place_of(stop: u32, place: Place) -> Place
+    ensures { result ≡ open_place_of stop place }
+{
+    if stop == 0 {
+        place
+    } else {
+        Place {
+            file: place.file,
+            line: stop,
+        }
+    }
+}
+
+/// What stands behind `---`, as a row without a head.
+fn marker_row<'a>(alloc: Global, segment: Segment<'a>) -> Row<'a>
+    requires { is_start (plain_line segment.marker.now) ≡ true }
+    ensures row { row_of [] result ≡ marker_row (segment_of segment.entry) }
+    ensures bound { result.least ≤ 2 ^ 63 }
+{
+    let place = segment.marker.place;
+    Row {
+        place,
+        indent: 0,
+        heads: Items::new(alloc),
+        is_owned: true,
+        least: 0,
+        open_place: open_place_of(segment.stop, place),
+        text: behind_marker(segment.marker),
+        below: segment.lines,
+    }
+}
+
+/// The comment on a row without a value.
+fn row_comment(alloc: Global, row: &Row<'_>) -> Result<Option<RawComment>, Memory>
+    ensures { IfOk result (λ c. (before : List Comment) → option_map comment_of c ≡ row_comment (row_of before row.now)) }
+{
+    if row.text.is_empty() {
+        return Ok(None);
+    }
+    Ok(Some(RawComment {
+        line: row.place.line,
+        own_line: false,
+        text: Text::of(alloc, row.text)?,
+    }))
+}
+
+/// A document that begins at this place.
+fn document(
+    place: Place,
+    before: Comments,
+    trailing: Option<RawComment>,
+    content: Content,
+) -> NotedItem
+    ensures { noted_of result ≡ (document_note place (comments_of before) (option_map comment_of trailing), content_of content) }
+{
+    NotedItem {
+        place,
+        key: None,
+        before,
+        trailing,
+        flow: false,
+        content,
+    }
+}
+
+/// What a document holds that begins behind its marker.
+fn pass_behind(alloc: Global, segment: Segment<'_>, row: &Row<'_>) -> Result<Passed, Stop>
+    requires row { row_of [] row.now ≡ marker_row (segment_of segment) }
+    requires bound { row.now.least ≤ 2 ^ 63 }
+    requires some { has_value (marker_row (segment_of segment)) ≡ true }
+    requires fits { FitSegment segment }
+    ensures { Gives passed_of result (passed_behind (segment_of segment.entry) (marker_row (segment_of segment.entry))) }
+{
+    let value = row_value(alloc, MAX_DEPTH, row, Items::new(alloc))?;
+    let skip = value.last.saturating_sub(row.place.line);
+    let found = Found {
+        content: value.content,
+        trailing: value.trailing,
+    };
+    pass_lines(
+        alloc,
+        segment.stop,
+        false,
+        skip,
+        value.loose,
+        Some(found),
+        segment.lines,
+    )
+}
+
+/// A document with its marker, behind these comments.
+fn read_explicit(
+    alloc: Global,
+    before: Comments,
+    segment: Segment<'_>,
+) -> Result<(Option<NotedItem>, Comments), Stop>
+    requires start { is_start (plain_line segment.marker.now) ≡ true }
+    requires fits { FitSegment segment }
+    ensures { Gives part_of result (explicit_part (comments_of before) (segment_of segment.entry)) }
+{
+    let place = segment.marker.place;
+    let row = marker_row(alloc, segment);
+    if has_value(&row) {
+        let Passed { found, after } = pass_behind(alloc, segment, &row)?;
+        let item = document(place, before, found.trailing, found.content);
+        return Ok((Some(item), after));
+    }
+    let trailing = row_comment(alloc, &row)?;
+    let none: Comments = Items::new(alloc);
+    let Passed { found, after } = pass_lines(
+        alloc,
+        segment.stop,
+        false,
+        0,
+        none,
+        None,
+        segment.lines,
+    )?;
+    let item = document(place, before, trailing, found.content);
+    Ok((Some(item), after))
+}
