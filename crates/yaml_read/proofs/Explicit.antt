@@ -1,13 +1,13 @@
 -- Documents with a marker.
-use Rattle.std.proofs.Common.{◌≡◌, ℕ, ◌-◌, Bool, true, false, List, [], ◌∷◌, Some, None, Ok, Err, refl, sym, ap, ◌∙◌}
-use Rattle.ytt_base.specs.Outcomes.{Outcome, ◌>>=◌, and_then}
+use Rattle.std.proofs.Common.{◌≡◌, ℕ, ◌-◌, true, false, List, [], ◌∷◌, Some, None, Ok, Err, refl, sym, ap, ◌∙◌}
+use Rattle.ytt_base.specs.Outcomes.{Outcome, ◌>>=◌}
 use Rattle.ytt_base.specs.Trees.{max_depth}
 use Rattle.yaml_spec.specs.Noted.{Comment, Note}
 use Rattle.yaml_spec.specs.Values.{Value}
 use Rattle.yaml_spec.specs.Rows.{Head, Row, has_value, row_value, rows, taken}
 use Rattle.yaml_spec.specs.Entries.{Doc, Found, content_of, over, row_comment}
 use Rattle.yaml_spec.specs.Read.{Segment, document_content, document_note, explicit, marker_row, rows_behind}
-use Rattle.yaml_laws.specs.Machine.{Passed, filled, pass, passed_by, run, wanting}
+use Rattle.yaml_laws.specs.Machine.{Passed, filled, pass, run, wanting}
 use Rattle.yaml_laws.proofs.Pass.{pass-content_of, pass-from, with_comments}
 use Rattle.yaml_read.specs.Documents.{Part, explicit_part, passed_behind}
 

@@ -1,5 +1,5 @@
 -- Lines cut at the first marker.
-use Rattle.std.proofs.Common.{◌≡◌, ℕ, zero, suc, ◌+◌, ◌<◌, ◌≤◌, ◌^◌, Bool, true, false, ◌||◌, List, [], ◌∷◌, length, take, drop, get_or, refl, sym, ap, ◌∙◌, if◌then◌else◌, arith}
+use Rattle.std.proofs.Common.{◌≡◌, ℕ, zero, suc, ◌+◌, ◌<◌, ◌≤◌, Bool, true, false, ◌||◌, List, [], ◌∷◌, length, take, drop, get_or, refl, sym, ap, ◌∙◌, arith}
 use Rattle.std.proofs.Math.ListN.{drop_of_length-le}
 use Rattle.std.proofs.lemmas.List.{drop_more}
 use Rattle.ytt_base.specs.declared.line.Line as held
@@ -103,3 +103,10 @@ pub fit_next : (n : ℕ) (ls : List held.Line) → FitLines (plain_lines ls) →
 fit_next zero ls h = h
 fit_next (suc n) [] h = tt
 fit_next (suc n) (l ∷ ls) h = fit_next n ls h.1
+
+-- the first of lines that begin with a marker is one
+pub first_marked : (l : held.Line) (ls : List held.Line) → BeginsWithMarker (l ∷ ls) → marker (plain_line l) ≡ true
+first_marked l ls h = by (marker (plain_line l)) refl where
+  by : (b : Bool) → marker (plain_line l) ≡ b → marker (plain_line l) ≡ true
+  by true e = e
+  by false e = let wrong = rw (goes_on (plain_line l) (plain_lines ls) e) at h in cc

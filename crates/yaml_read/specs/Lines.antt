@@ -1,5 +1,5 @@
 -- Lines whose numbers a program can hold.
-use Rattle.std.specs.Prelude.{ℕ, ◌+◌, ◌<◌, ◌^◌, List, [], ◌∷◌, length}
+use Rattle.std.specs.Prelude.{◌+◌, ◌<◌, ◌^◌, List, [], ◌∷◌, length}
 use Rattle.yaml_spec.specs.Lines.{Line}
 
 -- from each line on, so many lines further down a line has a number of 32 bits

@@ -1,5 +1,5 @@
 // Documents, one after another.
-ghost use Rattle.std.specs.Prelude.{◌≡◌, ◌≤◌, ◌^◌, [], List, Ok, option_map, IfOk, true, false};
+ghost use Rattle.std.specs.Prelude.{◌≡◌, ◌≤◌, ◌^◌, [], List, Ok, option_map, IfOk, OnOk, true, false};
 ghost use Rattle.ytt_base.specs.Outcomes.{Gives};
 ghost use Rattle.yaml_laws.specs.Machine.{wanting};
 ghost use Rattle.yaml_noted.specs.View.{comment_of, comments_of, content_of, documents_of, items_of, noted_of};
@@ -9,7 +9,7 @@ ghost use Rattle.yaml_spec.specs.Held.{plain_line, plain_lines};
 ghost use Rattle.yaml_spec.specs.Noted.{Comment};
 ghost use Rattle.yaml_spec.specs.Read.{document_note, implicit, is_start, is_stop, marker_row, segments};
 ghost use Rattle.yaml_spec.specs.Rows.{has_value, open_place_of};
-ghost use Rattle.yaml_read.specs.Documents.{documents_behind, explicit_part, front_part, passed_behind, segment_part};
+ghost use Rattle.yaml_read.specs.Documents.{and_items, documents_behind, explicit_part, front_part, items_in, passed_behind, segment_part};
 ghost use Rattle.yaml_read.specs.Lines.{FitLines};
 ghost use Rattle.yaml_read.specs.Segments.{BeginsWithMarker, FitSegment, segment_of};
 ghost use Rattle.yaml_read.specs.View.{part_of, passed_of};
@@ -151,4 +151,98 @@ fn read_explicit(
     )?;
     let item = document(place, before, trailing, found.content);
     Ok((Some(item), after))
+}
+
+/// What a marker and the lines below it give, behind these comments: a document, or what closes one.
+/// `is_closed` says that a `...` stands before it.
+fn read_segment(
+    alloc: Global,
+    is_closed: bool,
+    before: Comments,
+    segment: Segment<'_>,
+) -> Result<(Option<NotedItem>, Comments), Stop>
+    requires { FitSegment segment }
+    ensures { Gives part_of result (segment_part is_closed (comments_of before) (segment_of segment.entry)) }
+{
+    if is_start(segment.marker) {
+        return read_explicit(alloc, before, segment);
+    }
+    if is_closed {
+        return Err(refusal(alloc, FaultKind::YamlForm, segment.marker.place));
+    }
+    let comments = read_ended(alloc, before, segment)?;
+    Ok((None, comments))
+}
+
+/// What the lines before the first marker give: a document, where they have content. `stop` is the
+/// line of the marker, or 0.
+fn read_front(
+    alloc: Global,
+    front: &[Line],
+    stop: u32,
+) -> Result<(Option<NotedItem>, Comments), Stop>
+    requires { FitLines (plain_lines front.now) }
+    ensures { Gives part_of result (front_part (plain_lines front.now) stop) }
+{
+    let none: Comments = Items::new(alloc);
+    let Some(line) = first_content(front) else {
+        return Ok((None, push_comments(alloc, none, front)?));
+    };
+    if first(line.text.as_str()) == b'%' {
+        return Err(refusal(alloc, FaultKind::YamlOut, line.place));
+    }
+    let Passed { found, after } = pass_lines(alloc, stop, true, 0, none, None, front)?;
+    let before: Comments = Items::new(alloc);
+    let item = document(line.place, before, found.trailing, found.content);
+    Ok((Some(item), after))
+}
+
+/// Puts a document behind others, if there is one.
+fn put_document(items: &mut NotedItems, item: Option<NotedItem>) -> Result<(), Memory>
+    ensures { OnOk result (items_of items.new ≡ and_items (items_of items.old) (items_in (option_map noted_of item))) }
+{
+    if let Some(item) = item {
+        items.push(item)?;
+    }
+    Ok(())
+}
+
+/// The documents of lines that begin with a marker, behind these items and comments.
+fn read_segments(
+    alloc: Global,
+    first_items: NotedItems,
+    before: Comments,
+    lines: &[Line],
+) -> Result<NotedDocs, Stop>
+    requires marked { BeginsWithMarker lines.now }
+    requires fits { FitLines (plain_lines lines.now) }
+    ensures { Gives documents_of result (let cut = segments (plain_lines lines.now) in documents_behind (items_of first_items) false (comments_of before) cut.1) }
+{
+    let mut items = first_items;
+    let mut comments = before;
+    let mut is_closed = false;
+    let mut rest = lines;
+    'segments: while let Some(segment) = split_segment(rest) {
+        let (item, after) = read_segment(alloc, is_closed, comments, segment)?;
+        is_closed = item.is_none();
+        put_document(&mut items, item)?;
+        comments = after;
+        rest = segment.next;
+    }
+    Ok(NotedDocs {
+        items,
+        after: comments,
+    })
+}
+
+/// The documents of the lines of a text (YAML 1.2.2, 9.1 and 9.2).
+pub fn read_documents(alloc: Global, lines: &[Line]) -> Result<NotedDocs, Stop>
+    requires { FitLines (plain_lines lines.now) }
+    ensures { Gives documents_of result (let cut = segments (plain_lines lines.now) in implicit cut.0 cut.1) }
+{
+    let (front, rest) = split_front(lines);
+    let (item, after) = read_front(alloc, front, first_line(rest))?;
+    let mut items: NotedItems = Items::new(alloc);
+    put_document(&mut items, item)?;
+    read_segments(alloc, items, after, rest)
 }

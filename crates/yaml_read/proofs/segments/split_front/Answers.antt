@@ -1,4 +1,4 @@
-use Rattle.std.proofs.Common.{ap, ◌∙◌}
+use Rattle.std.proofs.Common.{ap}
 use Rattle.yaml_read.proofs.Segmenting.{front_is, next_is, fit_front, fit_next}
 use Rattle.yaml_read.proofs.segments.split_front.Goals as goal
 
