@@ -3,9 +3,11 @@
 
 mod blocks;
 mod indent;
+mod literal;
 mod pending;
 mod print;
 mod quoted;
 mod scalar;
+mod style;
 
 pub use print::print_to;
