@@ -4,3 +4,4 @@ pub mod LineText
 pub mod Pending
 pub mod Puts
 pub mod Waiting
+pub mod Growing

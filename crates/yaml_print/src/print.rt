@@ -78,8 +78,9 @@ fn write_more<O: Sink>(
     Ok(())
 }
 
+/// The documents, with a line `---` between two.
 #[tactic(auto, using(crate::proofs::Putting::putting))]
-fn write_documents<O: Sink>(
+pub fn write_documents<O: Sink>(
     trees: &[Tree],
     out: &mut O,
     waiting: &mut Pending<'_>,
@@ -98,7 +99,7 @@ fn write_documents<O: Sink>(
 }
 
 /// Writes the text of the documents through the buffer.
-fn write_text<O: Sink>(
+pub fn write_text<O: Sink>(
     trees: &Trees,
     out: &mut O,
     buffer: &mut [u8; 4096],
