@@ -8,7 +8,7 @@ ghost use Rattle.yaml_print.specs.Indent.{width};
 ghost use Rattle.yaml_print.specs.LineText.{line_text};
 ghost use Rattle.yaml_print.specs.Pending.{pending};
 ghost use Rattle.yaml_print.specs.Puts.{Puts};
-ghost use Rattle.yaml_spec.specs.Text.{key_text, line_end, scalar_text, string_text};
+ghost use Rattle.yaml_spec.specs.Text.{key_text, line_end, quoted_text, scalar_text, string_text};
 
 use crate::indent::Indent;
 use crate::literal::write_literal;
@@ -114,16 +114,30 @@ fn write_int_line<O: Sink>(
 }
 
 #[tactic(auto, using(crate::proofs::Putting::putting))]
-fn write_string_line<O: Sink>(
+fn write_plain_line<O: Sink>(
     text: &str,
     out: &mut O,
     waiting: &mut Pending<'_>,
 ) -> Result<(), SinkFailed>
-    ensures bytes { Puts (O.held out.old) (O.held out.new) (pending waiting.old) (pending waiting.new) (string_text text.now ++ line_end) result }
+    ensures bytes { Puts (O.held out.old) (O.held out.new) (pending waiting.old) (pending waiting.new) (text.now ++ line_end) result }
     ensures cause { SinkCounts (O.faults out.old) (O.faults out.new) result }
     ensures same_buffer { waiting.new.bytes.ghost_name ≡ waiting.old.bytes.ghost_name }
 {
-    write_string(text, out, waiting)?;
+    waiting.put(out, text)?;
+    write_break(out, waiting)
+}
+
+#[tactic(auto, using(crate::proofs::Putting::putting))]
+fn write_quoted_line<O: Sink>(
+    text: &str,
+    out: &mut O,
+    waiting: &mut Pending<'_>,
+) -> Result<(), SinkFailed>
+    ensures bytes { Puts (O.held out.old) (O.held out.new) (pending waiting.old) (pending waiting.new) (quoted_text text.now ++ line_end) result }
+    ensures cause { SinkCounts (O.faults out.old) (O.faults out.new) result }
+    ensures same_buffer { waiting.new.bytes.ghost_name ≡ waiting.old.bytes.ghost_name }
+{
+    write_quoted(text, out, waiting)?;
     write_break(out, waiting)
 }
 
@@ -139,10 +153,13 @@ fn write_string_value<O: Sink>(
     ensures cause { SinkCounts (O.faults out.old) (O.faults out.new) result }
     ensures same_buffer { waiting.new.bytes.ghost_name ≡ waiting.old.bytes.ghost_name }
 {
-    if !fits_plain(text) && fits_literal(text) {
+    if fits_plain(text) {
+        return write_plain_line(text, out, waiting);
+    }
+    if fits_literal(text) {
         return write_literal(text, indent, out, waiting);
     }
-    write_string_line(text, out, waiting)
+    write_quoted_line(text, out, waiting)
 }
 
 /// A scalar, or an empty list or map, with the break at its end. Of another list or map it writes
