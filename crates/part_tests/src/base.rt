@@ -40,7 +40,7 @@ fn copies_and_parts_of_a_tree(rt: HostRuntime) -> Result<(), Fail> {
     let tree = list_of_three(alloc)?;
     let mut path: Path = Items::new(alloc);
     for (step, text) in [
-        (Step::Index(1), "- true\n- k: 7\n  null: -9\n- \"é\"\n"),
+        (Step::Index(1), "- true\n- k: 7\n  null: -9\n- é\n"),
         (
             Step::Key(Key::Str(Text::of(alloc, "k")?)),
             "k: 7\nnull: -9\n",

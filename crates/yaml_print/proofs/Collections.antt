@@ -7,7 +7,7 @@ use Rattle.ytt_base.specs.declared.tree.Tree.{Tree}
 use Rattle.ytt_base.specs.View.{key_of, pairs_of, tree_of, trees_of}
 use Rattle.ytt_base.proofs.Views.{tree_of-List, tree_of-Map}
 use Rattle.yaml_print.specs.LineText.{line_text}
-use Rattle.yaml_spec.specs.FirstText.{key_text, list_text, map_text, node_text, pair_text, spaces}
+use Rattle.yaml_spec.specs.Text.{key_text, list_text, map_text, node_text, pair_text, spaces}
 
 -- the elements of a list, and the pairs of a map, each from the start of a line
 abbrev pub elements : ℕ → List Tree → List ℕ
@@ -72,21 +72,21 @@ pub behind-map : (n : ℕ) (t : Tree) (ps : List (Key × Tree)) → t ≡ held.M
 behind-map n t [] e h = absurd (omega arith)
 behind-map n t (p ∷ ps) e h = rw (e, tree_of-Map) refl
 
-pub behind-no_list : (n : ℕ) (t : Tree) (ts : List Tree) → t ≡ held.List ts → length ts ≡ 0 → pair_text n (tree_of t) ≡ 32 ∷ line_text (tree_of t)
+pub behind-no_list : (n : ℕ) (t : Tree) (ts : List Tree) → t ≡ held.List ts → length ts ≡ 0 → pair_text n (tree_of t) ≡ 32 ∷ line_text (n + 2) (tree_of t)
 behind-no_list n t [] e h = rw (e, tree_of-List) refl
 behind-no_list n t (u ∷ us) e h = absurd (omega arith)
 
-pub behind-no_map : (n : ℕ) (t : Tree) (ps : List (Key × Tree)) → t ≡ held.Map ps → length ps ≡ 0 → pair_text n (tree_of t) ≡ 32 ∷ line_text (tree_of t)
+pub behind-no_map : (n : ℕ) (t : Tree) (ps : List (Key × Tree)) → t ≡ held.Map ps → length ps ≡ 0 → pair_text n (tree_of t) ≡ 32 ∷ line_text (n + 2) (tree_of t)
 behind-no_map n t [] e h = rw (e, tree_of-Map) refl
 behind-no_map n t (p ∷ ps) e h = absurd (omega arith)
 
 -- ---- what stands behind a dash
 
-pub node-no_list : (n : ℕ) (t : Tree) (ts : List Tree) → t ≡ held.List ts → length ts ≡ 0 → node_text n (tree_of t) ≡ line_text (tree_of t)
+pub node-no_list : (n : ℕ) (t : Tree) (ts : List Tree) → t ≡ held.List ts → length ts ≡ 0 → node_text n (tree_of t) ≡ line_text n (tree_of t)
 node-no_list n t [] e h = rw (e, tree_of-List) refl
 node-no_list n t (u ∷ us) e h = absurd (omega arith)
 
-pub node-no_map : (n : ℕ) (t : Tree) (ps : List (Key × Tree)) → t ≡ held.Map ps → length ps ≡ 0 → node_text n (tree_of t) ≡ line_text (tree_of t)
+pub node-no_map : (n : ℕ) (t : Tree) (ps : List (Key × Tree)) → t ≡ held.Map ps → length ps ≡ 0 → node_text n (tree_of t) ≡ line_text n (tree_of t)
 node-no_map n t [] e h = rw (e, tree_of-Map) refl
 node-no_map n t (p ∷ ps) e h = absurd (omega arith)
 

@@ -6,7 +6,7 @@ use Rattle.ytt_base.specs.Trees as plain
 use Rattle.ytt_base.specs.declared.tree.Tree.{Tree}
 use Rattle.ytt_base.specs.View.{tree_of, trees_of}
 use Rattle.yaml_print.specs.Documents.{more_text}
-use Rattle.yaml_spec.specs.FirstText.{Text, document_text}
+use Rattle.yaml_spec.specs.Text.{Text, document_text}
 
 -- the first document, and each other behind a line `---`
 pub Text-first : (t : plain.Tree) (ts : Trees) → Text (tree t ts) ≡ document_text t ++ more_text ts

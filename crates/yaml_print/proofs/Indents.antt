@@ -2,7 +2,7 @@
 use Rattle.std.proofs.Common.{◌≡◌, ℕ, ◌+◌, ◌∷◌, Some, ap, ◌∙◌, Bor, arith, suc}
 use Rattle.yaml_print.specs.declared.indent.Indent.{Indent, out-Indent, fold_out-Indent}
 use Rattle.yaml_print.specs.Indent.{width, width_step}
-use Rattle.yaml_spec.specs.FirstText.{spaces}
+use Rattle.yaml_spec.specs.Text.{spaces}
 
 width-inside : (i : Indent) (o : Bor Indent) → (out-Indent i).outer ≡ Some o → width i ≡ width o.now + 2
 width-inside i o e = rw (fold_out-Indent ℕ width_step i, e)

@@ -4,3 +4,6 @@ pub mod Documents
 pub mod Indents
 pub mod Members
 pub mod Putting
+pub mod Shifting
+pub mod Pieces
+pub mod Literals

@@ -1,7 +1,7 @@
 -- The documents behind the first.
 use Rattle.std.specs.Prelude.{ℕ, List, [], ◌++◌, codes}
 use Rattle.ytt_base.specs.Trees.{Trees, no_trees, tree}
-use Rattle.yaml_spec.specs.FirstText.{document_text}
+use Rattle.yaml_spec.specs.Text.{document_text}
 
 -- each behind a line `---`
 abbrev pub more_text : Trees → List ℕ

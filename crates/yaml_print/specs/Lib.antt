@@ -1,6 +1,7 @@
 pub mod Documents
 pub mod Indent
 pub mod LineText
-pub mod Numbered
 pub mod Pending
 pub mod Puts
+pub mod Waiting
+pub mod Growing

@@ -1,10 +1,10 @@
--- The text of a tree that stands on one line.
+-- The text of a tree that has no members to write.
 use Rattle.std.specs.Prelude.{ℕ, List, codes}
 use Rattle.ytt_base.specs.Trees.{Tree, scalar, list, map}
-use Rattle.yaml_spec.specs.FirstText.{scalar_text}
+use Rattle.yaml_spec.specs.Text.{scalar_text}
 
--- a scalar, or an empty list or map, with the break at its end
-abbrev pub line_text : Tree → List ℕ
-line_text (scalar s) = scalar_text 0 s
-line_text (list ts) = codes "[]\n"
-line_text (map ps) = codes "{}\n"
+-- a scalar, whose lines stand at this indent, or an empty list or map, with the break at its end
+abbrev pub line_text : ℕ → Tree → List ℕ
+line_text n (scalar s) = scalar_text n s
+line_text n (list ts) = codes "[]\n"
+line_text n (map ps) = codes "{}\n"

@@ -7,46 +7,27 @@ ghost use Rattle.yaml_print.specs.LineText.{line_text};
 ghost use Rattle.yaml_print.specs.Pending.{pending};
 ghost use Rattle.yaml_print.specs.Puts.{Puts};
 ghost use Rattle.yaml_spec.specs.Bytes.{colon, space};
-ghost use Rattle.yaml_spec.specs.FirstText.{key_text, list_text, map_text, node_text, pair_text, spaces};
+ghost use Rattle.yaml_spec.specs.Text.{key_text, list_text, map_text, node_text, pair_text, spaces};
 
-use crate::indent::Indent;
+use crate::indent::{Indent, write_indent};
 use crate::pending::Pending;
 use crate::scalar::{write_key, write_line};
 use ytt_base::tree::{Key, Tree};
 use ytt_outside::sink::{Sink, SinkFailed};
 
-/// The spaces of an indent.
 #[tactic(auto, using(crate::proofs::Putting::putting))]
-fn write_indent<O: Sink>(
+fn write_line_behind_key<O: Sink>(
+    tree: &Tree,
     indent: &Indent<'_>,
     out: &mut O,
     waiting: &mut Pending<'_>,
 ) -> Result<(), SinkFailed>
-    ensures bytes { Puts (O.held out.old) (O.held out.new) (pending waiting.old) (pending waiting.new) (spaces (width indent.now)) result }
+    ensures bytes { Puts (O.held out.old) (O.held out.new) (pending waiting.old) (pending waiting.new) (space ∷ line_text (width indent.now + 2) (tree_of tree.now)) result }
     ensures cause { SinkCounts (O.faults out.old) (O.faults out.new) result }
     ensures same_buffer { waiting.new.bytes.ghost_name ≡ waiting.old.bytes.ghost_name }
 {
-    match indent.outer() {
-        None => Ok(()),
-        Some(outer) => {
-            waiting.put(out, b"  ")?;
-            write_indent(outer, out, waiting)
-        }
-    }
-}
-
-#[tactic(auto, using(crate::proofs::Putting::putting))]
-fn write_line_behind_key<O: Sink>(
-    tree: &Tree,
-    out: &mut O,
-    waiting: &mut Pending<'_>,
-) -> Result<(), SinkFailed>
-    ensures bytes { Puts (O.held out.old) (O.held out.new) (pending waiting.old) (pending waiting.new) (space ∷ line_text (tree_of tree.now)) result }
-    ensures cause { SinkCounts (O.faults out.old) (O.faults out.new) result }
-    ensures same_buffer { waiting.new.bytes.ghost_name ≡ waiting.old.bytes.ghost_name }
-{
-    waiting.put(out, b" ")?;
-    write_line(tree, out, waiting)
+    waiting.put(out, " ")?;
+    write_line(tree, &Indent::inside(&*indent), out, waiting)
 }
 
 /// What stands behind a key and its colon, in a map at this indent.
@@ -63,22 +44,22 @@ fn write_behind_key<O: Sink>(
     ensures same_buffer { waiting.new.bytes.ghost_name ≡ waiting.old.bytes.ghost_name }
 {
     match tree {
-        Tree::Null => write_line_behind_key(tree, out, waiting),
-        Tree::Bool(_) => write_line_behind_key(tree, out, waiting),
-        Tree::Int(_) => write_line_behind_key(tree, out, waiting),
-        Tree::Str(_) => write_line_behind_key(tree, out, waiting),
+        Tree::Null => write_line_behind_key(tree, indent, out, waiting),
+        Tree::Bool(_) => write_line_behind_key(tree, indent, out, waiting),
+        Tree::Int(_) => write_line_behind_key(tree, indent, out, waiting),
+        Tree::Str(_) => write_line_behind_key(tree, indent, out, waiting),
         Tree::List(trees) => {
             if trees.len() == 0 {
-                return write_line_behind_key(tree, out, waiting);
+                return write_line_behind_key(tree, indent, out, waiting);
             }
-            waiting.put(out, b"\n")?;
+            waiting.put(out, "\n")?;
             write_elements(trees.as_slice(), indent, out, waiting)
         }
         Tree::Map(pairs) => {
             if pairs.len() == 0 {
-                return write_line_behind_key(tree, out, waiting);
+                return write_line_behind_key(tree, indent, out, waiting);
             }
-            waiting.put(out, b"\n")?;
+            waiting.put(out, "\n")?;
             write_pairs(pairs.as_slice(), &Indent::inside(&*indent), out, waiting)
         }
     }
@@ -99,19 +80,19 @@ pub fn write_node<O: Sink>(
     ensures same_buffer { waiting.new.bytes.ghost_name ≡ waiting.old.bytes.ghost_name }
 {
     match tree {
-        Tree::Null => write_line(tree, out, waiting),
-        Tree::Bool(_) => write_line(tree, out, waiting),
-        Tree::Int(_) => write_line(tree, out, waiting),
-        Tree::Str(_) => write_line(tree, out, waiting),
+        Tree::Null => write_line(tree, indent, out, waiting),
+        Tree::Bool(_) => write_line(tree, indent, out, waiting),
+        Tree::Int(_) => write_line(tree, indent, out, waiting),
+        Tree::Str(_) => write_line(tree, indent, out, waiting),
         Tree::List(trees) => match trees.as_slice().split_first() {
-            None => write_line(tree, out, waiting),
+            None => write_line(tree, indent, out, waiting),
             Some((first, rest)) => {
                 write_element(first, indent, out, waiting)?;
                 write_elements(rest, indent, out, waiting)
             }
         },
         Tree::Map(pairs) => match pairs.as_slice().split_first() {
-            None => write_line(tree, out, waiting),
+            None => write_line(tree, indent, out, waiting),
             Some(((key, value), rest)) => {
                 write_pair(key, value, indent, out, waiting)?;
                 write_pairs(rest, indent, out, waiting)
@@ -133,7 +114,7 @@ fn write_element<O: Sink>(
     ensures cause { SinkCounts (O.faults out.old) (O.faults out.new) result }
     ensures same_buffer { waiting.new.bytes.ghost_name ≡ waiting.old.bytes.ghost_name }
 {
-    waiting.put(out, b"- ")?;
+    waiting.put(out, "- ")?;
     write_node(tree, &Indent::inside(&*indent), out, waiting)
 }
 
@@ -150,7 +131,7 @@ fn write_value<O: Sink>(
     ensures cause { SinkCounts (O.faults out.old) (O.faults out.new) result }
     ensures same_buffer { waiting.new.bytes.ghost_name ≡ waiting.old.bytes.ghost_name }
 {
-    waiting.put(out, b":")?;
+    waiting.put(out, ":")?;
     write_behind_key(tree, indent, out, waiting)
 }
 

@@ -1,7 +1,7 @@
 // Pieces on their way to a sink, through a buffer.
 ghost use Rattle.std.specs.Prelude.{◌≡◌, ◌+◌, ◌≤◌, ◌<◌, ◌++◌, [], List, length, take, OnOk};
 ghost use Rattle.ytt_outside.specs.Sink.{SinkCounts};
-ghost use Rattle.yaml_print.specs.Puts.{Puts};
+ghost use Rattle.yaml_print.specs.Puts.{Puts, PutsBytes};
 
 use ytt_outside::sink::{Sink, SinkFailed};
 
@@ -10,18 +10,32 @@ use ytt_outside::sink::{Sink, SinkFailed};
 pub struct Pending<'a> {
     bytes: &'a mut [u8],
     filled: usize,
+    count: u64,
     ghost within: { filled ≤ length bytes.now },
 }
 
+#[tactic(auto, unfolding(crate::specs::Pending::pending))]
 impl<'a> Pending<'a> {
     ghost use Rattle.yaml_print.specs.Pending.{pending};
 
     /// Nothing waits. What the buffer held is overwritten.
     pub fn new(bytes: &'a mut [u8]) -> Pending<'a>
-        ensures empty { pending result ≡ [] }
+        ensures empty { (pending result).bytes ≡ [] }
+        ensures count { (pending result).count ≡ 0 }
         ensures same_buffer { result.bytes.ghost_name ≡ bytes.entry.ghost_name }
     {
-        Pending { bytes, filled: 0 }
+        Pending {
+            bytes,
+            filled: 0,
+            count: 0,
+        }
+    }
+
+    /// How many bytes were put in all. Past `u64::MAX` it is `u64::MAX`.
+    pub fn count(&self) -> u64
+        ensures { result ≡ (pending self.now).count }
+    {
+        self.count
     }
 
     fn room(&self) -> usize
@@ -32,7 +46,8 @@ impl<'a> Pending<'a> {
 
     fn add(&mut self, piece: &[u8])
         requires { self.old.filled + length piece.now ≤ length self.old.bytes.now }
-        ensures bytes { pending self.new ≡ pending self.old ++ piece.now }
+        ensures bytes { (pending self.new).bytes ≡ (pending self.old).bytes ++ piece.now }
+        ensures same_count { self.new.count ≡ self.old.count }
         ensures same_buffer { self.new.bytes.ghost_name ≡ self.old.bytes.ghost_name }
     {
         let at = self.filled;
@@ -43,9 +58,10 @@ impl<'a> Pending<'a> {
 
     /// Writes what waits.
     pub fn flush<O: Sink>(&mut self, out: &mut O) -> Result<(), SinkFailed>
-        ensures bytes { Puts (O.held out.old) (O.held out.new) (pending self.old) (pending self.new) [] result }
-        ensures empty { OnOk result (pending self.new ≡ []) }
+        ensures bytes { PutsBytes (O.held out.old) (O.held out.new) (pending self.old).bytes (pending self.new).bytes [] result }
+        ensures empty { OnOk result ((pending self.new).bytes ≡ []) }
         ensures cause { SinkCounts (O.faults out.old) (O.faults out.new) result }
+        ensures same_count { self.new.count ≡ self.old.count }
         ensures same_buffer { self.new.bytes.ghost_name ≡ self.old.bytes.ghost_name }
     {
         let filled = self.filled;
@@ -54,18 +70,30 @@ impl<'a> Pending<'a> {
         Ok(())
     }
 
-    /// Puts a piece behind what waits. What doesn't fit into the buffer is written.
-    pub fn put<O: Sink>(&mut self, out: &mut O, piece: &[u8]) -> Result<(), SinkFailed>
+    fn put_bytes<O: Sink>(&mut self, out: &mut O, bytes: &[u8]) -> Result<(), SinkFailed>
+        ensures bytes { PutsBytes (O.held out.old) (O.held out.new) (pending self.old).bytes (pending self.new).bytes bytes.now result }
+        ensures cause { SinkCounts (O.faults out.old) (O.faults out.new) result }
+        ensures same_count { self.new.count ≡ self.old.count }
+        ensures same_buffer { self.new.bytes.ghost_name ≡ self.old.bytes.ghost_name }
+    {
+        if bytes.len() <= self.room() {
+            self.add(bytes);
+            return Ok(());
+        }
+        self.flush(out)?;
+        out.write_piece(bytes)
+    }
+
+    /// Puts a piece behind what waits, and counts its bytes. What doesn't fit into the buffer is
+    /// written.
+    pub fn put<O: Sink>(&mut self, out: &mut O, piece: &str) -> Result<(), SinkFailed>
         ensures bytes { Puts (O.held out.old) (O.held out.new) (pending self.old) (pending self.new) piece.now result }
         ensures cause { SinkCounts (O.faults out.old) (O.faults out.new) result }
         ensures same_buffer { self.new.bytes.ghost_name ≡ self.old.bytes.ghost_name }
     {
-        if piece.len() <= self.room() {
-            self.add(piece);
-            return Ok(());
-        }
-        self.flush(out)?;
-        out.write_piece(piece)
+        self.put_bytes(out, piece.as_bytes())?;
+        self.count = self.count.saturating_add(piece.len() as u64);
+        Ok(())
     }
 }
 

@@ -1,60 +1,71 @@
 // A string in double quotes, on one line.
 ghost use Rattle.std.specs.Prelude.{◌≡◌, ◌<◌, ◌/◌, ◌∷◌, ◌++◌, [], List, chars, codes};
 ghost use Rattle.ytt_outside.specs.Sink.{SinkCounts};
-ghost use Rattle.yaml_print.specs.Numbered.{is_long_escaped, is_short_escaped, numbered_char};
 ghost use Rattle.yaml_print.specs.Pending.{pending};
 ghost use Rattle.yaml_print.specs.Puts.{Puts};
+ghost use Rattle.yaml_scalar.specs.Numbered.{numbered_char};
 ghost use Rattle.yaml_spec.specs.Bytes.{quote};
-ghost use Rattle.yaml_spec.specs.FirstText.{hex2, hex_digit, quoted_char, quoted_chars, quoted_text};
+ghost use Rattle.yaml_spec.specs.Text.{hex2, hex_digit, quoted_char, quoted_chars, quoted_text};
 
 use crate::pending::Pending;
+use yaml_scalar::{hex_digit, is_long_escaped, is_short_escaped, short_escape};
 use ytt_outside::sink::{Sink, SinkFailed};
 
-fn hex_digit(n: u32) -> u8
+#[tactic(auto, using(crate::proofs::Chars::digits))]
+fn write_digit<O: Sink>(n: u32, out: &mut O, waiting: &mut Pending<'_>) -> Result<(), SinkFailed>
     requires { n < 16 }
-    ensures { result ≡ hex_digit n }
+    ensures bytes { Puts (O.held out.old) (O.held out.new) (pending waiting.old) (pending waiting.new) (hex_digit n ∷ []) result }
+    ensures cause { SinkCounts (O.faults out.old) (O.faults out.new) result }
+    ensures same_buffer { waiting.new.bytes.ghost_name ≡ waiting.old.bytes.ghost_name }
 {
-    if n < 10 {
-        b'0' + n as u8
-    } else {
-        b'A' + (n - 10) as u8
-    }
+    let mut buffer = [0u8; 4];
+    waiting.put(out, hex_digit(n).encode_utf8(&mut buffer))
 }
 
-fn short_escape(code: u32) -> [u8; 4]
-    ensures { result ≡ codes "\\x" ++ hex2 code }
+#[tactic(auto, using(crate::proofs::Putting::putting))]
+fn write_hex2<O: Sink>(code: u32, out: &mut O, waiting: &mut Pending<'_>) -> Result<(), SinkFailed>
+    ensures bytes { Puts (O.held out.old) (O.held out.new) (pending waiting.old) (pending waiting.new) (hex2 code) result }
+    ensures cause { SinkCounts (O.faults out.old) (O.faults out.new) result }
+    ensures same_buffer { waiting.new.bytes.ghost_name ≡ waiting.old.bytes.ghost_name }
 {
-    [b'\\', b'x', hex_digit(code / 16 % 16), hex_digit(code % 16)]
+    write_digit(code / 16 % 16, out, waiting)?;
+    write_digit(code % 16, out, waiting)
 }
 
-fn long_escape(code: u32) -> [u8; 6]
-    ensures { result ≡ codes "\\u" ++ (hex2 (code / 256) ++ hex2 code) }
+#[tactic(auto, using(crate::proofs::Putting::putting))]
+fn write_hex4<O: Sink>(code: u32, out: &mut O, waiting: &mut Pending<'_>) -> Result<(), SinkFailed>
+    ensures bytes { Puts (O.held out.old) (O.held out.new) (pending waiting.old) (pending waiting.new) (hex2 (code / 256) ++ hex2 code) result }
+    ensures cause { SinkCounts (O.faults out.old) (O.faults out.new) result }
+    ensures same_buffer { waiting.new.bytes.ghost_name ≡ waiting.old.bytes.ghost_name }
 {
-    let high = code / 256;
-    [
-        b'\\',
-        b'u',
-        hex_digit(high / 16 % 16),
-        hex_digit(high % 16),
-        hex_digit(code / 16 % 16),
-        hex_digit(code % 16),
-    ]
+    write_hex2(code / 256, out, waiting)?;
+    write_hex2(code, out, waiting)
 }
 
-fn is_short_escaped(code: u32) -> bool
-    ensures { result ≡ is_short_escaped code }
+/// An escape of two digits.
+#[tactic(auto, using(crate::proofs::Putting::putting))]
+fn write_short<O: Sink>(code: u32, out: &mut O, waiting: &mut Pending<'_>) -> Result<(), SinkFailed>
+    ensures bytes { Puts (O.held out.old) (O.held out.new) (pending waiting.old) (pending waiting.new) (codes "\\x" ++ hex2 code) result }
+    ensures cause { SinkCounts (O.faults out.old) (O.faults out.new) result }
+    ensures same_buffer { waiting.new.bytes.ghost_name ≡ waiting.old.bytes.ghost_name }
 {
-    code < 0x20 || (code >= 0x7F && code <= 0xA0)
+    waiting.put(out, "\\x")?;
+    write_hex2(code, out, waiting)
 }
 
-fn is_long_escaped(code: u32) -> bool
-    ensures { result ≡ is_long_escaped code }
+/// An escape of four digits.
+#[tactic(auto, using(crate::proofs::Putting::putting))]
+fn write_long<O: Sink>(code: u32, out: &mut O, waiting: &mut Pending<'_>) -> Result<(), SinkFailed>
+    ensures bytes { Puts (O.held out.old) (O.held out.new) (pending waiting.old) (pending waiting.new) (codes "\\u" ++ (hex2 (code / 256) ++ hex2 code)) result }
+    ensures cause { SinkCounts (O.faults out.old) (O.faults out.new) result }
+    ensures same_buffer { waiting.new.bytes.ghost_name ≡ waiting.old.bytes.ghost_name }
 {
-    code == 0x2028 || code == 0x2029 || code == 0xFEFF || code == 0xFFFE || code == 0xFFFF
+    waiting.put(out, "\\u")?;
+    write_hex4(code, out, waiting)
 }
 
 /// A character as itself, or where it is no character to show, by its number.
-fn write_by_number<O: Sink>(
+fn write_numbered<O: Sink>(
     c: char,
     out: &mut O,
     waiting: &mut Pending<'_>,
@@ -65,13 +76,13 @@ fn write_by_number<O: Sink>(
 {
     let code = c as u32;
     if is_short_escaped(code) {
-        return waiting.put(out, &short_escape(code));
+        return write_short(code, out, waiting);
     }
     if is_long_escaped(code) {
-        return waiting.put(out, &long_escape(code));
+        return write_long(code, out, waiting);
     }
     let mut buffer = [0u8; 4];
-    waiting.put(out, c.encode_utf8(&mut buffer).as_bytes())
+    waiting.put(out, c.encode_utf8(&mut buffer))
 }
 
 fn write_char<O: Sink>(c: char, out: &mut O, waiting: &mut Pending<'_>) -> Result<(), SinkFailed>
@@ -79,18 +90,9 @@ fn write_char<O: Sink>(c: char, out: &mut O, waiting: &mut Pending<'_>) -> Resul
     ensures cause { SinkCounts (O.faults out.old) (O.faults out.new) result }
     ensures same_buffer { waiting.new.bytes.ghost_name ≡ waiting.old.bytes.ghost_name }
 {
-    if c == '"' {
-        waiting.put(out, b"\\\"")
-    } else if c == '\\' {
-        waiting.put(out, b"\\\\")
-    } else if c == '\n' {
-        waiting.put(out, b"\\n")
-    } else if c == '\t' {
-        waiting.put(out, b"\\t")
-    } else if c == '\r' {
-        waiting.put(out, b"\\r")
-    } else {
-        write_by_number(c, out, waiting)
+    match short_escape(c) {
+        Some(escape) => waiting.put(out, escape),
+        None => write_numbered(c, out, waiting),
     }
 }
 
@@ -120,7 +122,7 @@ fn write_closed_chars<O: Sink>(
     ensures same_buffer { waiting.new.bytes.ghost_name ≡ waiting.old.bytes.ghost_name }
 {
     write_chars(text, out, waiting)?;
-    waiting.put(out, b"\"")
+    waiting.put(out, "\"")
 }
 
 /// The string in double quotes.
@@ -134,6 +136,6 @@ pub fn write_quoted<O: Sink>(
     ensures cause { SinkCounts (O.faults out.old) (O.faults out.new) result }
     ensures same_buffer { waiting.new.bytes.ghost_name ≡ waiting.old.bytes.ghost_name }
 {
-    waiting.put(out, b"\"")?;
+    waiting.put(out, "\"")?;
     write_closed_chars(text, out, waiting)
 }

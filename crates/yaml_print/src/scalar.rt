@@ -1,17 +1,22 @@
 // Scalars and keys.
 ghost use Rattle.std.specs.Prelude.{◌≡◌, ◌∷◌, ◌++◌, [], List, if◌then◌else◌, codes};
 ghost use Rattle.std.specs.Fmt.{signed_decimal};
+ghost use Rattle.ytt_base.specs.Trees.{string};
 ghost use Rattle.ytt_base.specs.View.{key_of, tree_of};
 ghost use Rattle.ytt_outside.specs.Sink.{SinkCounts};
+ghost use Rattle.yaml_print.specs.Indent.{width};
 ghost use Rattle.yaml_print.specs.LineText.{line_text};
 ghost use Rattle.yaml_print.specs.Pending.{pending};
 ghost use Rattle.yaml_print.specs.Puts.{Puts};
-ghost use Rattle.yaml_spec.specs.FirstText.{fits_plain, key_text, line_end, string_text};
+ghost use Rattle.yaml_spec.specs.Text.{key_text, line_end, quoted_text, scalar_text, string_text};
 
+use crate::indent::Indent;
+use crate::literal::write_literal;
 use crate::pending::Pending;
 use crate::quoted::write_quoted;
+use crate::style::fits_literal;
 use itoa::Buffer;
-use yaml_scalar::{all_letters_or_digits, is_string};
+use yaml_scalar::fits_plain;
 use ytt_base::tree::{Key, Tree};
 use ytt_outside::sink::{Sink, SinkFailed};
 
@@ -21,9 +26,9 @@ fn write_bool<O: Sink>(b: bool, out: &mut O, waiting: &mut Pending<'_>) -> Resul
     ensures same_buffer { waiting.new.bytes.ghost_name ≡ waiting.old.bytes.ghost_name }
 {
     if b {
-        waiting.put(out, b"true")
+        waiting.put(out, "true")
     } else {
-        waiting.put(out, b"false")
+        waiting.put(out, "false")
     }
 }
 
@@ -33,18 +38,10 @@ fn write_int<O: Sink>(n: i128, out: &mut O, waiting: &mut Pending<'_>) -> Result
     ensures same_buffer { waiting.new.bytes.ghost_name ≡ waiting.old.bytes.ghost_name }
 {
     let mut buffer = Buffer::new();
-    waiting.put(out, buffer.format(n).as_bytes())
+    waiting.put(out, buffer.format(n))
 }
 
-/// Whether the string is written as it stands: ASCII letters and digits that are read as this
-/// string.
-fn fits_plain(text: &[u8]) -> bool
-    ensures { result ≡ fits_plain text.now }
-{
-    !text.is_empty() && all_letters_or_digits(text) && is_string(text)
-}
-
-/// The string in the first style that fits: as it stands, else in double quotes.
+/// The string in the first style of one line that fits: as it stands, else in double quotes.
 fn write_string<O: Sink>(
     text: &str,
     out: &mut O,
@@ -54,8 +51,8 @@ fn write_string<O: Sink>(
     ensures cause { SinkCounts (O.faults out.old) (O.faults out.new) result }
     ensures same_buffer { waiting.new.bytes.ghost_name ≡ waiting.old.bytes.ghost_name }
 {
-    if fits_plain(text.as_bytes()) {
-        waiting.put(out, text.as_bytes())
+    if fits_plain(text) {
+        waiting.put(out, text)
     } else {
         write_quoted(text, out, waiting)
     }
@@ -72,7 +69,7 @@ pub fn write_key<O: Sink>(
     ensures same_buffer { waiting.new.bytes.ghost_name ≡ waiting.old.bytes.ghost_name }
 {
     match key {
-        Key::Null => waiting.put(out, b"null"),
+        Key::Null => waiting.put(out, "null"),
         Key::Bool(b) => write_bool(*b, out, waiting),
         Key::Int(n) => write_int(*n, out, waiting),
         Key::Str(s) => write_string(s.as_str(), out, waiting),
@@ -85,7 +82,7 @@ fn write_break<O: Sink>(out: &mut O, waiting: &mut Pending<'_>) -> Result<(), Si
     ensures cause { SinkCounts (O.faults out.old) (O.faults out.new) result }
     ensures same_buffer { waiting.new.bytes.ghost_name ≡ waiting.old.bytes.ghost_name }
 {
-    waiting.put(out, b"\n")
+    waiting.put(out, "\n")
 }
 
 #[tactic(auto, using(crate::proofs::Putting::putting))]
@@ -117,36 +114,72 @@ fn write_int_line<O: Sink>(
 }
 
 #[tactic(auto, using(crate::proofs::Putting::putting))]
-fn write_string_line<O: Sink>(
+fn write_plain_line<O: Sink>(
     text: &str,
     out: &mut O,
     waiting: &mut Pending<'_>,
 ) -> Result<(), SinkFailed>
-    ensures bytes { Puts (O.held out.old) (O.held out.new) (pending waiting.old) (pending waiting.new) (string_text text.now ++ line_end) result }
+    ensures bytes { Puts (O.held out.old) (O.held out.new) (pending waiting.old) (pending waiting.new) (text.now ++ line_end) result }
     ensures cause { SinkCounts (O.faults out.old) (O.faults out.new) result }
     ensures same_buffer { waiting.new.bytes.ghost_name ≡ waiting.old.bytes.ghost_name }
 {
-    write_string(text, out, waiting)?;
+    waiting.put(out, text)?;
     write_break(out, waiting)
+}
+
+#[tactic(auto, using(crate::proofs::Putting::putting))]
+fn write_quoted_line<O: Sink>(
+    text: &str,
+    out: &mut O,
+    waiting: &mut Pending<'_>,
+) -> Result<(), SinkFailed>
+    ensures bytes { Puts (O.held out.old) (O.held out.new) (pending waiting.old) (pending waiting.new) (quoted_text text.now ++ line_end) result }
+    ensures cause { SinkCounts (O.faults out.old) (O.faults out.new) result }
+    ensures same_buffer { waiting.new.bytes.ghost_name ≡ waiting.old.bytes.ghost_name }
+{
+    write_quoted(text, out, waiting)?;
+    write_break(out, waiting)
+}
+
+/// A string as a value, in the first style that fits: as it stands, in literal style, else in double
+/// quotes.
+fn write_string_value<O: Sink>(
+    text: &str,
+    indent: &Indent<'_>,
+    out: &mut O,
+    waiting: &mut Pending<'_>,
+) -> Result<(), SinkFailed>
+    ensures bytes { Puts (O.held out.old) (O.held out.new) (pending waiting.old) (pending waiting.new) (scalar_text (width indent.now) (string text.now)) result }
+    ensures cause { SinkCounts (O.faults out.old) (O.faults out.new) result }
+    ensures same_buffer { waiting.new.bytes.ghost_name ≡ waiting.old.bytes.ghost_name }
+{
+    if fits_plain(text) {
+        return write_plain_line(text, out, waiting);
+    }
+    if fits_literal(text) {
+        return write_literal(text, indent, out, waiting);
+    }
+    write_quoted_line(text, out, waiting)
 }
 
 /// A scalar, or an empty list or map, with the break at its end. Of another list or map it writes
 /// the empty one.
 pub fn write_line<O: Sink>(
     tree: &Tree,
+    indent: &Indent<'_>,
     out: &mut O,
     waiting: &mut Pending<'_>,
 ) -> Result<(), SinkFailed>
-    ensures bytes { Puts (O.held out.old) (O.held out.new) (pending waiting.old) (pending waiting.new) (line_text (tree_of tree.now)) result }
+    ensures bytes { Puts (O.held out.old) (O.held out.new) (pending waiting.old) (pending waiting.new) (line_text (width indent.now) (tree_of tree.now)) result }
     ensures cause { SinkCounts (O.faults out.old) (O.faults out.new) result }
     ensures same_buffer { waiting.new.bytes.ghost_name ≡ waiting.old.bytes.ghost_name }
 {
     match tree {
-        Tree::Null => waiting.put(out, b"null\n"),
+        Tree::Null => waiting.put(out, "null\n"),
         Tree::Bool(b) => write_bool_line(*b, out, waiting),
         Tree::Int(n) => write_int_line(*n, out, waiting),
-        Tree::Str(s) => write_string_line(s.as_str(), out, waiting),
-        Tree::List(_) => waiting.put(out, b"[]\n"),
-        Tree::Map(_) => waiting.put(out, b"{}\n"),
+        Tree::Str(s) => write_string_value(s.as_str(), indent, out, waiting),
+        Tree::List(_) => waiting.put(out, "[]\n"),
+        Tree::Map(_) => waiting.put(out, "{}\n"),
     }
 }

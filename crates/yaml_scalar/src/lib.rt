@@ -33,5 +33,6 @@ pub use plain::type_plain;
 pub use position::Quoted;
 pub use quote::{quote_on_line, read_quote};
 pub use quoted::read_quoted;
-pub use style::fits_plain;
+pub use quoting::{hex_digit, is_long_escaped, is_short_escaped, short_escape};
+pub use style::{fits_plain, is_shown};
 pub use words::{is_plain_word, is_reserved};

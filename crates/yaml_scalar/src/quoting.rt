@@ -6,7 +6,8 @@ ghost use Rattle.yaml_scalar.specs.Numbered.{is_long_escaped, is_short_escaped, 
 use std::alloc::Global;
 use ytt_base::text::{Memory, Text};
 
-fn hex_digit(n: u32) -> char
+/// A digit of base 16, in capitals.
+pub fn hex_digit(n: u32) -> char
     requires { n < 16 }
     ensures { result ≡ hex_digit n }
 {
@@ -40,20 +41,22 @@ fn push_long(out: &mut String, code: u32) -> Result<(), Memory>
     push_hex2(out, code)
 }
 
-fn is_short_escaped(code: u32) -> bool
+/// Whether the character of this number has an escape of two digits, where it has none of its own.
+pub fn is_short_escaped(code: u32) -> bool
     ensures { result ≡ is_short_escaped code }
 {
     code < 0x20 || (code >= 0x7F && code <= 0xA0)
 }
 
-fn is_long_escaped(code: u32) -> bool
+/// Whether the character of this number has an escape of four digits.
+pub fn is_long_escaped(code: u32) -> bool
     ensures { result ≡ is_long_escaped code }
 {
     code == 0x2028 || code == 0x2029 || code == 0xFEFF || code == 0xFFFE || code == 0xFFFF
 }
 
 /// The escape of a character that has one of its own.
-fn short_escape(c: char) -> Option<&'static str>
+pub fn short_escape(c: char) -> Option<&'static str>
     ensures { MatchOption result (quoted_char c ≡ numbered_char c) (λ t. quoted_char c ≡ t.now) }
 {
     match c {

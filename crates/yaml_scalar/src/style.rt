@@ -13,7 +13,8 @@ fn is_hidden(c: char) -> bool
     c == '\u{85}' || c == '\u{A0}' || c == '\u{2028}' || c == '\u{2029}' || c == '\u{FEFF}'
 }
 
-fn is_shown(c: char) -> bool
+/// Whether the character is written as itself.
+pub fn is_shown(c: char) -> bool
     ensures { result ≡ is_shown c }
 {
     is_printable(c) && !is_hidden(c)

@@ -1,7 +1,7 @@
 use Rattle.std.proofs.Common.{map-id, sym, ap, ◌∙◌, chars}
 use Rattle.std.proofs.lemmas.Iterator.{YieldsList-from_chars}
 use Rattle.std.proofs.lemmas.Iterator.Consumers.{YieldsList-so_far, YieldsList-turn, YieldsList-end}
-use Rattle.yaml_spec.specs.FirstText.{quoted_char, quoted_chars}
+use Rattle.yaml_spec.specs.Text.{quoted_char, quoted_chars}
 use Rattle.yaml_print.proofs.Chars.{quoted_chars-next, quoted_chars-split}
 use Rattle.yaml_print.proofs.Members.{put_more, put_stop, put_all}
 use Rattle.yaml_print.proofs.quoted.write_chars.Goals as goal

@@ -1,5 +1,5 @@
 use Rattle.yaml_print.proofs.Members.{IsPut}
-use Rattle.yaml_spec.specs.FirstText.{quoted_chars}
+use Rattle.yaml_spec.specs.Text.{quoted_chars}
 use Rattle.yaml_print.proofs.quoted.write_chars.Given as goal
 
 abbrev pub invariant-loop-c : goal.invariant-loop-c

@@ -1,7 +1,7 @@
 use Rattle.std.specs.Fmt.{signed_decimal}
 use Rattle.std.proofs.lemmas.Int.{to_z-of_z}
 use Rattle.std.specs.Int.{w128}
-use Rattle.yaml_spec.specs.FirstText.{line_end}
+use Rattle.yaml_spec.specs.Text.{line_end}
 use Rattle.yaml_print.proofs.Putting.{puts_then}
 use Rattle.yaml_print.proofs.scalar.write_int_line.Goals as goal
 

@@ -1,9 +1,9 @@
 use Rattle.std.proofs.Common.{◌∷◌, [], sym}
-use Rattle.yaml_spec.specs.FirstText.{spaces}
+use Rattle.yaml_spec.specs.Text.{spaces}
 use Rattle.yaml_print.specs.Indent.{width}
 use Rattle.yaml_print.proofs.Indents.{spaces-inside}
 use Rattle.yaml_print.proofs.Putting.{puts_then, puts_stop}
-use Rattle.yaml_print.proofs.blocks.+write_indent.Goals as goal
+use Rattle.yaml_print.proofs.indent.+write_indent.Goals as goal
 
 pub returns-in_err-put-in-Some-clause-bytes : goal.returns-in_err-put-in-Some-clause-bytes
 returns-in_err-put-in-Some-clause-bytes g t c =
