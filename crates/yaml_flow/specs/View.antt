@@ -1,12 +1,26 @@
 -- Nodes in brackets as the program holds them, seen as plain data.
 use Rattle.std.specs.Prelude.{List}
+use Rattle.yaml_flow.specs.declared.looks.Look as held
+use Rattle.yaml_flow.specs.declared.looks.Look.TheVariants as look
 use Rattle.yaml_noted.specs.declared.noted.Content.{Content}
 use Rattle.yaml_noted.specs.declared.noted.RawComment.{RawComment}
-use Rattle.yaml_noted.specs.View.{content_of, comments_of}
-use Rattle.yaml_spec.specs.Flow.{Node}
+use Rattle.yaml_noted.specs.View.{content_of, comment_of, comments_of}
+use Rattle.yaml_spec.specs.Flow.{Look, line_over, comment, note_comment, token, Node}
+use Rattle.yaml_spec.specs.Noted.{Comment}
+use Rattle.yaml_spec.specs.Quotes as plain
 use Rattle.yaml_text.specs.declared.cursor.Cursor.{Cursor}
 use Rattle.yaml_text.specs.View.{cursor_of}
 
 -- the content, the comments that no item of it has, and the place behind it
 abbrev pub node_of : Content × List RawComment × Cursor → Node
 node_of n = (content_of n.0, comments_of n.1, cursor_of n.2)
+
+abbrev pub look_of : held.Look → Look
+look_of look.LineOver = line_over
+look_of (look.Comment c) = comment (comment_of c)
+look_of look.NoteComment = note_comment
+look_of look.Token = token
+
+-- comments, and the place behind them
+abbrev pub comments_and_place : List RawComment × Cursor → List Comment × plain.Cursor
+comments_and_place g = (comments_of g.0, cursor_of g.1)

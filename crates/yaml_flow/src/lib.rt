@@ -2,5 +2,7 @@
 #![tactic(auto)]
 
 mod flow;
+mod looks;
+mod token;
 
 pub use flow::read_flow;
