@@ -1,12 +1,12 @@
 -- Where a plain scalar ends on a line.
-use Rattle.std.proofs.Common.{◌≡◌, ℕ, ◌+◌, ◌<◌, ◌≤◌, Bool, true, false, ◌&&◌, List, [], ◌∷◌, ◌++◌, length, get_or, take, drop, IsUtf8, refl, ap, arith, append_assoc, append-nil, length-take, add-one}
+use Rattle.std.proofs.Common.{◌≡◌, ℕ, ◌+◌, ◌<◌, ◌≤◌, Bool, true, false, ◌&&◌, List, [], ◌∷◌, ◌++◌, length, get_or, take, drop, IsUtf8, refl, ap, arith, append_assoc, append-nil, length-take, add-one, ◌-◌, ◌==◌, suc}
 use Rattle.std.proofs.lemmas.Str.{IsCharBoundary-from_take}
 use Rattle.std.proofs.lemmas.List.{drop_more, take-take}
 use Rattle.std.proofs.Math.ListN.{drop_of_length-le}
 use Rattle.std.proofs.Math.Seq.{take-suc}
 use Rattle.std.specs.Str.{IsCharBoundary}
-use Rattle.yaml_spec.specs.Bytes.{is_white, is_empty, trim_end}
-use Rattle.yaml_spec.specs.Plain.{ends_before, span}
+use Rattle.yaml_spec.specs.Bytes.{colon, is_white, is_empty, trim_end}
+use Rattle.yaml_spec.specs.Plain.{ends_before, ends_with_colon, span}
 
 span-on : (in_flow white : Bool) (b : ℕ) (bs : List ℕ) → ends_before in_flow white b bs ≡ false → span in_flow white (b ∷ bs) ≡ b ∷ span in_flow (is_white b) bs
 unfolding span
@@ -64,3 +64,15 @@ part-cut t part n within utf8 whole h =
     IsCharBoundary-from_take t (length part) utf8 shorter (rw same whole)
 
 pub ruleset spans = (span-more, span-ended, span-whole, part-take, part-cut)
+
+-- ---- the last byte
+
+pub ends_with_colon-last : (t : List ℕ) → ends_with_colon t ≡ (get_or t (length t - 1) 0 == colon)
+ends_with_colon-last [] = refl
+ends_with_colon-last (b ∷ []) = refl
+ends_with_colon-last (b ∷ c ∷ t) =
+    let less : suc (suc (length t)) - 1 ≡ suc (length t) = omega arith in
+    let less_too : suc (length t) - 1 ≡ length t = omega arith in
+    rw (ends_with_colon-last (c ∷ t), less, less_too) refl
+
+pub ruleset colons = (ends_with_colon-last)

@@ -1,7 +1,8 @@
 // Where plain scalars end on a line.
-ghost use Rattle.std.specs.Prelude.{◌≡◌, ◌+◌, ◌<◌, ◌≤◌, drop, length, slice_index, take, true};
+ghost use Rattle.std.specs.Prelude.{◌≡◌, ◌+◌, ◌<◌, ◌≤◌, ◌&&◌, drop, length, slice_index, take, true};
 ghost use Rattle.std.specs.Str.{IsCharBoundary};
-ghost use Rattle.yaml_spec.specs.Plain.{behind, ends_before, part, span};
+ghost use Rattle.yaml_spec.specs.Bytes.{first, is_white};
+ghost use Rattle.yaml_spec.specs.Plain.{behind, ends_before, ends_with_colon, part, span};
 
 use yaml_text::{behind, first, is_flow_indicator, is_gap, is_white, trim_end};
 
@@ -48,4 +49,21 @@ pub fn split_plain(in_flow: bool, text: &str) -> (&str, &str)
 {
     let part = trim_end(&text[..span_len(in_flow, text)]);
     text.split_at(part.len())
+}
+
+#[tactic(auto, using(crate::proofs::Spans::colons))]
+fn ends_with_colon(text: &str) -> bool
+    ensures { result ≡ ends_with_colon text.now }
+{
+    match text.as_bytes().last() {
+        Some(byte) => *byte == b':',
+        None => false,
+    }
+}
+
+/// Whether a part of a line ends in `:` before white space, as no scalar and no key does.
+pub fn hangs(part: &str, behind: &str) -> bool
+    ensures { result ≡ (ends_with_colon part.now && is_white (first behind.now)) }
+{
+    ends_with_colon(part) && is_white(first(behind))
 }
