@@ -1,13 +1,15 @@
 -- Lists and maps in brackets, read member by member.
-use Rattle.std.specs.Prelude.{ℕ, Bool, List, [], ◌∷◌, ◌++◌, Ok}
+use Rattle.std.specs.Prelude.{ℕ, Bool, true, false, List, [], ◌∷◌, ◌++◌, Some, None, Ok}
 use Rattle.ytt_base.specs.declared.fault.FaultKind.TheVariants as kind
 use Rattle.ytt_base.specs.declared.fault.Place.{Place}
+use Rattle.ytt_base.specs.Trees.{Scalar, string}
 use Rattle.ytt_base.specs.Outcomes.{Outcome, ◌>>=◌}
 use Rattle.yaml_spec.specs.Bytes.{skip_white}
-use Rattle.yaml_spec.specs.Flow.{gap, next_token}
+use Rattle.yaml_spec.specs.Flow.{gap, next_token, flow_key}
+use Rattle.yaml_spec.specs.Plain.{behind, plain_key, typed}
 use Rattle.yaml_spec.specs.Lines.{Line}
 use Rattle.yaml_spec.specs.Noted.{Comment}
-use Rattle.yaml_spec.specs.Quotes.{Cursor}
+use Rattle.yaml_spec.specs.Quotes.{Cursor, quote_on_line}
 use Rattle.yaml_spec.specs.Refusals.{refused}
 
 -- the start of the line below
@@ -28,3 +30,19 @@ token_from open_place fresh comments c = gap open_place fresh c.place c.text c.b
 -- the next token, with the comments before it behind those that stood there already
 abbrev pub token_behind : Place → List Comment → Cursor → Outcome (List Comment × Cursor)
 token_behind open_place comments c = next_token open_place c >>= (λ g. Ok (comments ++ g.0, g.1))
+
+-- a key, whether it is in quotes, and the place behind it
+abbrev pub Key_and_place : Type 0
+Key_and_place = Scalar × Bool × Cursor
+
+-- the key in quotes that begins here
+abbrev pub quoted_key_at : Cursor → Outcome Key_and_place
+quoted_key_at c = elim (quote_on_line c.text) [ Some q ↦ Ok (string q.0, true, record c { text = q.1 }) | None ↦ refused kind.YamlForm c.place ]
+
+-- the plain key that begins here
+abbrev pub plain_key_at : Cursor → Outcome Key_and_place
+plain_key_at c = typed c.place (plain_key true c.text) >>= (λ s. Ok (s, false, record c { text = behind true c.text }))
+
+-- the key that begins here
+abbrev pub key_at : Cursor → Outcome Key_and_place
+key_at c = flow_key c >>= (λ k. Ok (k.0, k.2, record c { text = k.1 }))

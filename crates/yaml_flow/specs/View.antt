@@ -1,5 +1,8 @@
 -- Nodes in brackets as the program holds them, seen as plain data.
-use Rattle.std.specs.Prelude.{List}
+use Rattle.std.specs.Prelude.{Bool, List}
+use Rattle.ytt_base.specs.declared.tree.Key.{Key}
+use Rattle.ytt_base.specs.Trees.{Scalar}
+use Rattle.ytt_base.specs.View.{key_of}
 use Rattle.yaml_flow.specs.declared.looks.Look as held
 use Rattle.yaml_flow.specs.declared.looks.Look.TheVariants as look
 use Rattle.yaml_noted.specs.declared.noted.Content.{Content}
@@ -24,3 +27,7 @@ look_of look.Token = token
 -- comments, and the place behind them
 abbrev pub comments_and_place : List RawComment × Cursor → List Comment × plain.Cursor
 comments_and_place g = (comments_of g.0, cursor_of g.1)
+
+-- a key, whether it is in quotes, and the place behind it
+abbrev pub key_and_place : Key × Bool × Cursor → Scalar × Bool × plain.Cursor
+key_and_place k = (key_of k.0, k.1, cursor_of k.2)

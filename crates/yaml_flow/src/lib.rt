@@ -2,7 +2,9 @@
 #![tactic(auto)]
 
 mod flow;
+mod key;
 mod looks;
+mod scalar;
 mod token;
 
 pub use flow::read_flow;
