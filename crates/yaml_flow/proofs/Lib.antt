@@ -1,2 +1,3 @@
 pub mod Gaps
+pub mod Scalars
 pub mod Stops

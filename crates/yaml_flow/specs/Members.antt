@@ -2,14 +2,15 @@
 use Rattle.std.specs.Prelude.{ℕ, Bool, true, false, List, [], ◌∷◌, ◌++◌, Some, None, Ok}
 use Rattle.ytt_base.specs.declared.fault.FaultKind.TheVariants as kind
 use Rattle.ytt_base.specs.declared.fault.Place.{Place}
-use Rattle.ytt_base.specs.Trees.{Scalar, string}
-use Rattle.ytt_base.specs.Outcomes.{Outcome, ◌>>=◌}
+use Rattle.ytt_base.specs.Trees.{Scalar, string, scalar}
+use Rattle.ytt_base.specs.Outcomes.{Outcome, and_then, ◌>>=◌}
+use Rattle.yaml_plain.specs.Trees.{as_tree}
 use Rattle.yaml_spec.specs.Bytes.{skip_white}
-use Rattle.yaml_spec.specs.Flow.{gap, next_token, flow_key}
-use Rattle.yaml_spec.specs.Plain.{behind, plain_key, typed}
+use Rattle.yaml_spec.specs.Flow.{gap, next_token, flow_key, Node}
+use Rattle.yaml_spec.specs.Plain.{behind, plain_key, plain_lines, typed}
 use Rattle.yaml_spec.specs.Lines.{Line}
-use Rattle.yaml_spec.specs.Noted.{Comment}
-use Rattle.yaml_spec.specs.Quotes.{Cursor, quote_on_line}
+use Rattle.yaml_spec.specs.Noted.{Comment, noted_scalar}
+use Rattle.yaml_spec.specs.Quotes.{Cursor, Quote, quote_on_line}
 use Rattle.yaml_spec.specs.Refusals.{refused}
 
 -- the start of the line below
@@ -46,3 +47,11 @@ plain_key_at c = typed c.place (plain_key true c.text) >>= (λ s. Ok (s, false, 
 -- the key that begins here
 abbrev pub key_at : Cursor → Outcome Key_and_place
 key_at c = flow_key c >>= (λ k. Ok (k.0, k.2, record c { text = k.1 }))
+
+-- the scalar in quotes that begins here
+abbrev pub quoted_scalar : Place → List Comment → Cursor → Outcome Node
+quoted_scalar open_place comments c = Quote open_place c >>= (λ q. Ok (noted_scalar (scalar (string q.0)), comments, q.1))
+
+-- the plain scalar that begins here
+abbrev pub plain_scalar : List Comment → Cursor → Outcome Node
+plain_scalar comments c = and_then as_tree (plain_lines true 0 c) >>= (λ t. Ok (noted_scalar t.0, comments, t.1))

@@ -1,6 +1,7 @@
 // Scalars in brackets.
-ghost use Rattle.std.specs.Prelude.{◌≡◌, ◌≤◌, IfOk, false, true};
+ghost use Rattle.std.specs.Prelude.{◌≡◌, ◌≤◌, IfOk, true};
 ghost use Rattle.ytt_base.specs.Outcomes.{Gives};
+ghost use Rattle.yaml_flow.specs.Members.{plain_scalar, quoted_scalar};
 ghost use Rattle.yaml_flow.specs.View.{node_of};
 ghost use Rattle.yaml_noted.specs.View.{comments_of};
 ghost use Rattle.yaml_spec.specs.Flow.{flow_scalar, size};
@@ -16,6 +17,7 @@ use ytt_base::fault::{Place, Stop};
 use ytt_base::tree::Tree;
 
 /// A scalar in quotes.
+#[tactic(auto, using(yaml_noted::proofs::Views::views))]
 fn read_quoted_scalar<'a>(
     alloc: Global,
     open_place: Place,
@@ -23,7 +25,7 @@ fn read_quoted_scalar<'a>(
     cursor: Cursor<'a>,
 ) -> Result<(Content, Comments, Cursor<'a>), Stop>
     requires { starts_quote cursor.text.now ≡ true }
-    ensures node { Gives node_of result (flow_scalar open_place (comments_of comments) (cursor_of cursor.entry)) }
+    ensures node { Gives node_of result (quoted_scalar open_place (comments_of comments) (cursor_of cursor.entry)) }
     ensures within { IfOk result (λ n. size (cursor_of n.2) ≤ size (cursor_of cursor.entry)) }
 {
     let (text, behind) = read_quote(alloc, open_place, cursor)?;
@@ -31,14 +33,13 @@ fn read_quoted_scalar<'a>(
 }
 
 /// A plain scalar.
+#[tactic(auto, using(yaml_noted::proofs::Views::views))]
 fn read_plain<'a>(
     alloc: Global,
-    open_place: Place,
     comments: Comments,
     cursor: Cursor<'a>,
 ) -> Result<(Content, Comments, Cursor<'a>), Stop>
-    requires { starts_quote cursor.text.now ≡ false }
-    ensures node { Gives node_of result (flow_scalar open_place (comments_of comments) (cursor_of cursor.entry)) }
+    ensures node { Gives node_of result (plain_scalar (comments_of comments) (cursor_of cursor.entry)) }
     ensures within { IfOk result (λ n. size (cursor_of n.2) ≤ size (cursor_of cursor.entry)) }
 {
     let (tree, behind) = read_plain_scalar(alloc, true, 0, cursor)?;
@@ -59,6 +60,6 @@ pub(crate) fn read_scalar<'a>(
     if starts_quote(cursor.text) {
         read_quoted_scalar(alloc, open_place, comments, cursor)
     } else {
-        read_plain(alloc, open_place, comments, cursor)
+        read_plain(alloc, comments, cursor)
     }
 }
