@@ -1,16 +1,16 @@
 -- Lists and maps in brackets, read member by member.
-use Rattle.std.specs.Prelude.{ℕ, Bool, true, false, List, [], ◌∷◌, ◌++◌, Some, None, Ok}
+use Rattle.std.specs.Prelude.{ℕ, zero, suc, Bool, true, false, not, ◌&&◌, ◌||◌, ◌==◌, if◌then◌else◌, List, [], ◌∷◌, ◌++◌, Option, Some, None, Ok}
 use Rattle.ytt_base.specs.declared.fault.FaultKind.TheVariants as kind
 use Rattle.ytt_base.specs.declared.fault.Place.{Place}
 use Rattle.ytt_base.specs.Trees.{Scalar, string, scalar}
 use Rattle.ytt_base.specs.Outcomes.{Outcome, and_then, ◌>>=◌}
 use Rattle.yaml_plain.specs.Trees.{as_tree}
-use Rattle.yaml_spec.specs.Bytes.{skip_white}
-use Rattle.yaml_spec.specs.Flow.{gap, next_token, flow_key, Node}
+use Rattle.yaml_spec.specs.Bytes.{comma, right_brace, right_bracket, first, skip_white}
+use Rattle.yaml_spec.specs.Flow.{gap, next_token, flow_key, is_key_end, is_single_pair, Node}
 use Rattle.yaml_spec.specs.Plain.{behind, plain_key, plain_lines, typed}
 use Rattle.yaml_spec.specs.Lines.{Line}
 use Rattle.yaml_spec.specs.Noted.{Comment, noted_scalar}
-use Rattle.yaml_spec.specs.Quotes.{Cursor, Quote, quote_on_line}
+use Rattle.yaml_spec.specs.Quotes.{Cursor, after, Quote, quote_on_line}
 use Rattle.yaml_spec.specs.Refusals.{refused}
 
 -- the start of the line below
@@ -55,3 +55,49 @@ quoted_scalar open_place comments c = Quote open_place c >>= (λ q. Ok (noted_sc
 -- the plain scalar that begins here
 abbrev pub plain_scalar : List Comment → Cursor → Outcome Node
 plain_scalar comments c = and_then as_tree (plain_lines true 0 c) >>= (λ t. Ok (noted_scalar t.0, comments, t.1))
+
+-- ---- members
+
+-- the mark that closes a map or a list
+abbrev pub closing : Bool → ℕ
+closing is_map = if is_map then right_brace else right_bracket
+
+-- where the node of a member begins, with its key and the comments behind the key; a key alone has no node
+pub record Start : Type 0 where
+  pub key : Option Scalar
+  pub has_node : Bool
+  pub comments : List Comment
+  pub here : Cursor
+
+-- no value stands before this text
+abbrev pub ends_pair : List ℕ → Bool
+ends_pair t = first t == comma || first t == right_brace
+
+-- whether a key has a value, the comments before it, and its place
+unfoldable pub value_place : Place → Bool → Cursor → Outcome (Bool × List Comment × Cursor)
+value_place open_place is_closed c =
+    token_behind open_place [] c >>= (λ g.
+    elim (is_key_end is_closed g.1.text) [
+      | true ↦ token_behind open_place g.0 (after 1 g.1) >>= (λ v. Ok (not (ends_pair v.1.text), v.0, v.1))
+      | false ↦ Ok (false, g.0, g.1)
+    ])
+
+-- where the value of a pair begins, with its key
+unfoldable pub pair_start : Place → Cursor → Outcome Start
+pair_start open_place c =
+    key_at c >>= (λ k. value_place open_place k.1 k.2 >>= (λ v.
+    Ok (record { key = Some k.0; has_node = v.0; comments = v.1; here = v.2 })))
+
+-- where the node of a member begins
+unfoldable pub member_start : Place → Bool → Cursor → Outcome Start
+member_start open_place is_map c =
+    elim is_map [ true ↦ pair_start open_place c | false ↦ Ok (record { key = None; has_node = true; comments = []; here = c }) ]
+
+-- what follows a member: whether it was the last, the comments behind it, and the place behind the mark
+unfoldable pub ending : Place → Bool → List Comment → Cursor → Outcome (Bool × List Comment × Cursor)
+ending open_place is_map comments c =
+    token_behind open_place comments c >>= (λ e.
+    elim (first e.1.text == comma) [
+      | true ↦ Ok (false, e.0, after 1 e.1)
+      | false ↦ elim (first e.1.text == closing is_map) [ true ↦ Ok (true, e.0, after 1 e.1) | false ↦ refused kind.YamlForm e.1.place ]
+    ])

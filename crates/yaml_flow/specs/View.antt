@@ -1,10 +1,12 @@
 -- Nodes in brackets as the program holds them, seen as plain data.
-use Rattle.std.specs.Prelude.{Bool, List}
+use Rattle.std.specs.Prelude.{Bool, List, option_map}
 use Rattle.ytt_base.specs.declared.tree.Key.{Key}
 use Rattle.ytt_base.specs.Trees.{Scalar}
 use Rattle.ytt_base.specs.View.{key_of}
+use Rattle.yaml_flow.specs.declared.member.Start as member
 use Rattle.yaml_flow.specs.declared.looks.Look as held
 use Rattle.yaml_flow.specs.declared.looks.Look.TheVariants as look
+use Rattle.yaml_flow.specs.Members.{Start}
 use Rattle.yaml_noted.specs.declared.noted.Content.{Content}
 use Rattle.yaml_noted.specs.declared.noted.RawComment.{RawComment}
 use Rattle.yaml_noted.specs.View.{content_of, comment_of, comments_of}
@@ -31,3 +33,14 @@ comments_and_place g = (comments_of g.0, cursor_of g.1)
 -- a key, whether it is in quotes, and the place behind it
 abbrev pub key_and_place : Key × Bool × Cursor → Scalar × Bool × plain.Cursor
 key_and_place k = (key_of k.0, k.1, cursor_of k.2)
+
+-- whether a value is there, the comments before it, and its place
+abbrev pub value_start : Bool × List RawComment × Cursor → Bool × List Comment × plain.Cursor
+value_start v = (v.0, comments_of v.1, cursor_of v.2)
+
+-- whether a member was the last, the comments behind it, and the place behind its mark
+abbrev pub end_of : Bool × List RawComment × Cursor → Bool × List Comment × plain.Cursor
+end_of e = (e.0, comments_of e.1, cursor_of e.2)
+
+abbrev pub start_of : member.Start → Start
+start_of s = record { key = option_map key_of s.key; has_node = s.has_node; comments = comments_of s.comments; here = cursor_of s.cursor }

@@ -4,6 +4,7 @@
 mod flow;
 mod key;
 mod looks;
+mod member;
 mod scalar;
 mod token;
 
