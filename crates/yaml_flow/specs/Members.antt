@@ -2,14 +2,14 @@
 use Rattle.std.specs.Prelude.{ℕ, zero, suc, Bool, true, false, not, ◌&&◌, ◌||◌, ◌==◌, if◌then◌else◌, List, [], ◌∷◌, ◌++◌, Option, Some, None, Ok}
 use Rattle.ytt_base.specs.declared.fault.FaultKind.TheVariants as kind
 use Rattle.ytt_base.specs.declared.fault.Place.{Place}
-use Rattle.ytt_base.specs.Trees.{Scalar, string, scalar}
+use Rattle.ytt_base.specs.Trees.{Scalar, null, string, scalar}
 use Rattle.ytt_base.specs.Outcomes.{Outcome, and_then, ◌>>=◌}
 use Rattle.yaml_plain.specs.Trees.{as_tree}
 use Rattle.yaml_spec.specs.Bytes.{comma, right_brace, right_bracket, first, skip_white}
-use Rattle.yaml_spec.specs.Flow.{gap, next_token, flow_key, is_key_end, is_single_pair, Node}
+use Rattle.yaml_spec.specs.Flow.{gap, next_token, flow_key, is_key_end, is_single_pair, Members, Node}
 use Rattle.yaml_spec.specs.Plain.{behind, plain_key, plain_lines, typed}
 use Rattle.yaml_spec.specs.Lines.{Line}
-use Rattle.yaml_spec.specs.Noted.{Comment, noted_scalar}
+use Rattle.yaml_spec.specs.Noted.{Comment, Content, Items, Note, item, no_items, noted_list, noted_map, noted_scalar}
 use Rattle.yaml_spec.specs.Quotes.{Cursor, after, Quote, quote_on_line}
 use Rattle.yaml_spec.specs.Refusals.{refused}
 
@@ -101,3 +101,66 @@ ending open_place is_map comments c =
       | true ↦ Ok (false, e.0, after 1 e.1)
       | false ↦ elim (first e.1.text == closing is_map) [ true ↦ Ok (true, e.0, after 1 e.1) | false ↦ refused kind.YamlForm e.1.place ]
     ])
+
+-- the note of a member that begins here, with its key if it has one
+abbrev pub member_note : Place → Option Scalar → List Comment → Note
+member_note p key comments = record { place = p; key = key; before = comments; trailing = None; flow = true }
+
+-- an item: its note, and its content
+abbrev pub Noted_item : Type 0
+Noted_item = Note × Content
+
+-- an item, the comments in it that no item has, and the place behind it
+abbrev pub Member : Type 0
+Member = Noted_item × List Comment × Cursor
+
+-- what stands before the next mark of a collection: an item or none, whether that mark closes it, the comments before it, and the place behind it
+pub record Turn : Type 0 where
+  pub found : Option Noted_item
+  pub is_over : Bool
+  pub comments : List Comment
+  pub here : Cursor
+
+-- a map or a list of these items
+abbrev pub collection : Bool → Items → Content
+collection is_map is = elim is_map [ true ↦ noted_map is | false ↦ noted_list is ]
+
+-- the items with one before them, if there is one
+abbrev pub some_item : Option Noted_item → Items → Items
+some_item None is = is
+some_item (Some i) is = item i.0 i.1 is
+
+-- the node that `read` reads here, or null where there is none
+abbrev pub node_at : (List Comment → Cursor → Outcome Node) → Bool → List Comment → Cursor → Outcome Node
+node_at read has_node comments c = elim has_node [ true ↦ read comments c | false ↦ Ok (noted_scalar (scalar null), comments, c) ]
+
+-- `read` reads a node at its first character, where these comments stand before it
+module _ (open_place : Place) (read : List Comment → Cursor → Outcome Node) where
+  -- the member that begins here, which these comments stand before
+  unfoldable pub member : Bool → List Comment → Cursor → Outcome Member
+  member is_map before c =
+      member_start open_place is_map c >>= (λ s. node_at read s.has_node s.comments s.here >>= (λ m.
+      elim (not is_map && is_single_pair c m.2) [
+        | true ↦ refused kind.YamlOut m.2.place
+        | false ↦ Ok ((member_note c.place s.key before, m.0), m.1, m.2)
+      ]))
+
+  -- what stands up to the next mark
+  unfoldable pub turn : Bool → List Comment → Cursor → Outcome Turn
+  turn is_map comments c =
+      token_behind open_place comments c >>= (λ g.
+      elim (first g.1.text == closing is_map) [
+        | true ↦ Ok (record { found = None; is_over = true; comments = g.0; here = after 1 g.1 })
+        | false ↦ member is_map g.0 g.1 >>= (λ m. ending open_place is_map m.1 m.2 >>= (λ e.
+            Ok (record { found = Some m.0; is_over = e.0; comments = e.1; here = e.2 })))
+      ])
+
+  -- the members behind the opening bracket or a comma, of which at most n are left
+  unfoldable pub members : Bool → ℕ → List Comment → Cursor → Outcome Members
+  members is_map zero comments c = refused kind.YamlForm c.place
+  members is_map (suc n) comments c =
+      turn is_map comments c >>= (λ t.
+      elim t.is_over [
+        | true ↦ Ok (some_item t.found no_items, t.comments, t.here)
+        | false ↦ members is_map n t.comments t.here >>= (λ more. Ok (some_item t.found more.0, more.1, more.2))
+      ])

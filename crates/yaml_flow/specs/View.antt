@@ -1,16 +1,18 @@
 -- Nodes in brackets as the program holds them, seen as plain data.
-use Rattle.std.specs.Prelude.{Bool, List, option_map}
+use Rattle.std.specs.Prelude.{Bool, List, [], ◌∷◌, ◌++◌, Option, Some, None, option_map}
 use Rattle.ytt_base.specs.declared.tree.Key.{Key}
 use Rattle.ytt_base.specs.Trees.{Scalar}
 use Rattle.ytt_base.specs.View.{key_of}
 use Rattle.yaml_flow.specs.declared.member.Start as member
+use Rattle.yaml_flow.specs.declared.flow.Turn as flow
 use Rattle.yaml_flow.specs.declared.looks.Look as held
 use Rattle.yaml_flow.specs.declared.looks.Look.TheVariants as look
-use Rattle.yaml_flow.specs.Members.{Start}
+use Rattle.yaml_flow.specs.Members.{Member, Start, Turn}
 use Rattle.yaml_noted.specs.declared.noted.Content.{Content}
 use Rattle.yaml_noted.specs.declared.noted.RawComment.{RawComment}
-use Rattle.yaml_noted.specs.View.{content_of, comment_of, comments_of}
-use Rattle.yaml_spec.specs.Flow.{Look, line_over, comment, note_comment, token, Node}
+use Rattle.yaml_noted.specs.declared.noted.NotedItem.{NotedItem}
+use Rattle.yaml_noted.specs.View.{content_of, comment_of, comments_of, items_of, noted_of}
+use Rattle.yaml_spec.specs.Flow.{Look, line_over, comment, note_comment, token, Members, Node}
 use Rattle.yaml_spec.specs.Noted.{Comment}
 use Rattle.yaml_spec.specs.Quotes as plain
 use Rattle.yaml_text.specs.declared.cursor.Cursor.{Cursor}
@@ -44,3 +46,19 @@ end_of e = (e.0, comments_of e.1, cursor_of e.2)
 
 abbrev pub start_of : member.Start → Start
 start_of s = record { key = option_map key_of s.key; has_node = s.has_node; comments = comments_of s.comments; here = cursor_of s.cursor }
+
+-- an item, the comments in it that no item has, and the place behind it
+abbrev pub member_of : NotedItem × List RawComment × Cursor → Member
+member_of m = (noted_of m.0, comments_of m.1, cursor_of m.2)
+
+-- items, the comments behind them, and the place behind their closing bracket
+abbrev pub members_of : List NotedItem × List RawComment × Cursor → Members
+members_of m = (items_of m.0, comments_of m.1, cursor_of m.2)
+
+abbrev pub turn_of : flow.Turn → Turn
+turn_of t = record { found = option_map noted_of t.item; is_over = t.is_over; comments = comments_of t.comments; here = cursor_of t.cursor }
+
+-- the items with one behind them, if there is one
+abbrev pub with_some : List NotedItem → Option NotedItem → List NotedItem
+with_some is None = is
+with_some is (Some i) = is ++ i ∷ []

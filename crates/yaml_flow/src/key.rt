@@ -38,10 +38,7 @@ fn read_quoted_key<'a>(alloc: Global, cursor: Cursor<'a>) -> Result<(Key, bool, 
 }
 
 /// The plain key.
-fn read_unquoted_key<'a>(
-    alloc: Global,
-    cursor: Cursor<'a>,
-) -> Result<(Key, bool, Cursor<'a>), Stop>
+fn read_unquoted_key<'a>(alloc: Global, cursor: Cursor<'a>) -> Result<(Key, bool, Cursor<'a>), Stop>
     ensures key { Gives key_and_place result (plain_key_at (cursor_of cursor.entry)) }
     ensures within { IfOk result (λ k. size (cursor_of k.2) ≤ size (cursor_of cursor.entry)) }
 {

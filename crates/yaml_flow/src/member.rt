@@ -87,11 +87,7 @@ fn value_place<'a>(
 
 /// Where the value of a pair begins, with its key.
 #[tactic(auto, unfolding(crate::specs::Members::pair_start))]
-fn pair_start<'a>(
-    alloc: Global,
-    open_place: Place,
-    cursor: Cursor<'a>,
-) -> Result<Start<'a>, Stop>
+fn pair_start<'a>(alloc: Global, open_place: Place, cursor: Cursor<'a>) -> Result<Start<'a>, Stop>
     ensures start { Gives start_of result (pair_start open_place (cursor_of cursor.entry)) }
     ensures within { IfOk result (λ s. size (cursor_of s.cursor) ≤ size (cursor_of cursor.entry)) }
 {

@@ -31,11 +31,7 @@ pub(crate) fn behind_mark<'a>(cursor: Cursor<'a>) -> Cursor<'a>
 }
 
 /// The start of the line below. What is left open is told at `open_place` where there is none.
-fn line_below<'a>(
-    alloc: Global,
-    open_place: Place,
-    cursor: Cursor<'a>,
-) -> Result<Cursor<'a>, Stop>
+fn line_below<'a>(alloc: Global, open_place: Place, cursor: Cursor<'a>) -> Result<Cursor<'a>, Stop>
     ensures { Gives cursor_of result (line_below open_place (cursor_of cursor.entry)) }
 {
     match cursor.below.split_first() {

@@ -1,8 +1,7 @@
 use Rattle.std.proofs.Common.{◌≡◌, Err, sym, ap, ◌∙◌, arith, rules}
 use Rattle.yaml_noted.specs.View.{comments_of}
-use Rattle.yaml_spec.specs.Flow.{look, size}
+use Rattle.yaml_spec.specs.Flow.{look}
 use Rattle.yaml_text.specs.View.{cursor_of}
-use Rattle.yaml_flow.specs.Members.{token_from}
 use Rattle.yaml_flow.specs.View.{look_of, comments_and_place}
 use Rattle.yaml_flow.proofs.Gaps.{from-token, from-note, from-last, from-below, size-below, size-trimmed, Passes, passed-end, passed-comment}
 use Rattle.yaml_flow.proofs.Stops.{stopped}
