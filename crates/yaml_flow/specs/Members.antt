@@ -121,6 +121,11 @@ pub record Turn : Type 0 where
   pub comments : List Comment
   pub here : Cursor
 
+-- how many collections may stand in each other inside one that stands here
+abbrev pub levels_inside : ℕ → Place → Outcome ℕ
+levels_inside zero p = refused kind.YamlDepth p
+levels_inside (suc left) p = Ok left
+
 -- a map or a list of these items
 abbrev pub collection : Bool → Items → Content
 collection is_map is = elim is_map [ true ↦ noted_map is | false ↦ noted_list is ]

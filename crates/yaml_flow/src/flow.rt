@@ -1,7 +1,7 @@
 // Nodes in brackets.
 ghost use Rattle.std.specs.Prelude.{◌≡◌, ◌<◌, ◌≤◌, IfOk, OnOk, true};
 ghost use Rattle.ytt_base.specs.Outcomes.{Gives};
-ghost use Rattle.yaml_flow.specs.Members.{collection, member, members, node_at, turn};
+ghost use Rattle.yaml_flow.specs.Members.{collection, levels_inside, member, members, node_at, turn};
 ghost use Rattle.yaml_flow.specs.View.{member_of, members_of, node_of, turn_of, with_some};
 ghost use Rattle.yaml_noted.specs.View.{comments_of, content_of, items_of};
 ghost use Rattle.yaml_spec.specs.Flow.{flow, size, starts_collection};
@@ -51,19 +51,23 @@ pub fn read_flow<'a>(
     if !starts_collection(cursor.text) {
         return read_scalar(alloc, open_place, comments, cursor);
     }
-    if left == 0 {
-        return Err(refusal(alloc, FaultKind::YamlDepth, cursor.place));
-    }
+    let inside = levels_inside(alloc, left, cursor.place)?;
     let is_map = first(cursor.text) == b'{';
     let (items, comments, behind) = read_members(
-        alloc,
-        left - 1,
-        open_place,
-        is_map,
-        comments,
-        cursor,
+        alloc, inside, open_place, is_map, comments, cursor,
     )?;
     Ok((collection(is_map, items), comments, behind))
+}
+
+/// How many collections may stand in each other inside one that stands here, where so many are left.
+fn levels_inside(alloc: Global, left: u32, place: Place) -> Result<u32, Stop>
+    ensures levels { Gives (λ n. n) result (levels_inside left place) }
+    ensures less { IfOk result (λ n. n < left) }
+{
+    if left == 0 {
+        return Err(refusal(alloc, FaultKind::YamlDepth, place));
+    }
+    Ok(left - 1)
 }
 
 /// A map or a list of these items.

@@ -48,17 +48,19 @@ pub read_flow-returns-then-not-starts_collection-clause-node : goal.read_flow-re
 read_flow-returns-then-not-starts_collection-clause-node t c =
     rw (flow-scalar c.args.left c.args.open_place (comments_of c.args.comments) (cursor_of c.args.cursor) (sym c.if-not-starts_collection.ensures)) c.read_scalar.ensures.node
 
-pub read_flow-returns-then-left-eq0-clause-node : goal.read_flow-returns-then-left-eq0-clause-node
-read_flow-returns-then-left-eq0-clause-node t c =
-    rw c.refusal.ensures (flow-deep c.args.left c.args.open_place (comments_of c.args.comments) (cursor_of c.args.cursor) (sym c.if-not-starts_collection.ensures) c.if-left-eq0.true)
+pub read_flow-returns-in_err-inside-clause-node : goal.read_flow-returns-in_err-inside-clause-node
+read_flow-returns-in_err-inside-clause-node t c =
+    let stop : c.from_residual.result ≡ Err c.in_err-inside.field-0.0 = search rules in
+    stopped (λ (n : ℕ). n) node_of _ _ _ _ stop c.in_err-inside.ensures.levels
+    (λ f e. flow-deep c.args.left c.args.open_place (comments_of c.args.comments) (cursor_of c.args.cursor) f (sym c.if-not-starts_collection.ensures) e)
 
 pub read_flow-returns-in_err-items-clause-node : goal.read_flow-returns-in_err-items-clause-node
 read_flow-returns-in_err-items-clause-node t c =
-    let stop : c.from_residual.result ≡ Err c.in_err-items.field-0.0 = search rules in
+    let stop : c.from_residual-in_err-items.result ≡ Err c.in_err-items.field-0.0 = search rules in
     stopped members_of node_of _ _ _ _ stop c.in_err-items.ensures.members
-    (λ f e. flow-collection c.args.left _ c.args.open_place (comments_of c.args.comments) (cursor_of c.args.cursor) (sym c.if-not-starts_collection.ensures) (omega arith) (ap (λ (b : ℕ). b == 123) c.first-is_map.ensures) ∙ ap (and_then (collected _)) e)
+    (λ f e. flow-collection c.args.left c.in_ok-inside.inside _ c.args.open_place (comments_of c.args.comments) (cursor_of c.args.cursor) (sym c.if-not-starts_collection.ensures) c.in_ok-inside.ensures.levels (ap (λ (b : ℕ). b == 123) c.first-is_map.ensures) ∙ ap (and_then (collected _)) e)
 
 pub read_flow-returns-clause-node : goal.read_flow-returns-clause-node
 read_flow-returns-clause-node t c =
-    flow-collection c.args.left _ c.args.open_place (comments_of c.args.comments) (cursor_of c.args.cursor) (sym c.if-not-starts_collection.ensures) (omega arith) (ap (λ (b : ℕ). b == 123) c.first-is_map.ensures) ∙ ap (and_then (collected _)) c.in_ok-items.ensures.members
+    flow-collection c.args.left c.in_ok-inside.inside _ c.args.open_place (comments_of c.args.comments) (cursor_of c.args.cursor) (sym c.if-not-starts_collection.ensures) c.in_ok-inside.ensures.levels (ap (λ (b : ℕ). b == 123) c.first-is_map.ensures) ∙ ap (and_then (collected _)) c.in_ok-items.ensures.members
     ∙ ap (λ (k : Content). Ok (k, comments_of c.in_ok-items.comments, cursor_of c.in_ok-items.behind)) (sym c.collection.ensures)
