@@ -22,6 +22,7 @@ use Rattle.yaml_text.specs.View.{cursor_of}
 abbrev pub node_of : Content × List RawComment × Cursor → Node
 node_of n = (content_of n.0, comments_of n.1, cursor_of n.2)
 
+-- what stands at a place between tokens
 abbrev pub look_of : held.Look → Look
 look_of look.LineOver = line_over
 look_of (look.Comment c) = comment (comment_of c)
@@ -44,6 +45,7 @@ value_start v = (v.0, comments_of v.1, cursor_of v.2)
 abbrev pub end_of : Bool × List RawComment × Cursor → Bool × List Comment × plain.Cursor
 end_of e = (e.0, comments_of e.1, cursor_of e.2)
 
+-- where the node of a member begins
 abbrev pub start_of : member.Start → Start
 start_of s = record { key = option_map key_of s.key; has_node = s.has_node; comments = comments_of s.comments; here = cursor_of s.cursor }
 
@@ -55,6 +57,7 @@ member_of m = (noted_of m.0, comments_of m.1, cursor_of m.2)
 abbrev pub members_of : List NotedItem × List RawComment × Cursor → Members
 members_of m = (items_of m.0, comments_of m.1, cursor_of m.2)
 
+-- what stands before the next mark
 abbrev pub turn_of : flow.Turn → Turn
 turn_of t = record { found = option_map noted_of t.item; is_over = t.is_over; comments = comments_of t.comments; here = cursor_of t.cursor }
 
