@@ -9,5 +9,6 @@ pub mod Integers
 pub mod Pieces
 pub mod PlainValues
 pub mod QuotedChars
+pub mod QuoteLines
 pub mod QuotedLines
 pub mod StyleTests
