@@ -1,6 +1,7 @@
 //! Logical lines: what begins an entry on a line, and the value behind it.
 #![tactic(auto)]
 
+mod keys;
 mod row;
 mod rows;
 mod values;

@@ -1,26 +1,17 @@
 -- A block scalar at a line and a column.
-use Rattle.std.proofs.Common.{◌≡◌, ℕ, zero, suc, ◌+◌, ◌-◌, ◌<◌, ◌≤◌, ℤ, Bool, true, false, ◌||◌, ◌==◌, nat_le, List, [], ◌∷◌, length, get_or, drop, map, Option, Some, None, Result, Ok, Err, refl, sym, ap, subst, ◌∙◌, inl, inr, arith, length-drop, get_or-drop, add-zero}
-use Rattle.std.proofs.lemmas.Bool.{cases_lt}
-use Rattle.std.proofs.lemmas.Bool.Decides.{nat_tests}
-use Rattle.std.proofs.lemmas.List.{get_or_past}
-use Rattle.std.specs.Result.{IsErrAnd}
+use Rattle.std.proofs.Common.{◌≡◌, ℕ, zero, suc, ◌+◌, ◌≤◌, ℤ, Bool, true, false, ◌||◌, ◌==◌, nat_le, List, [], ◌∷◌, length, drop, map, Option, Some, None, Ok, Err, refl, ap, ◌∙◌, arith}
 use Rattle.ytt_base.specs.declared.fault.FaultKind.TheVariants as kind
 use Rattle.ytt_base.specs.declared.fault.Place.{Place}
 use Rattle.ytt_base.specs.declared.line.Line as held
-use Rattle.ytt_base.specs.declared.fault.Stop.{Stop}
-use Rattle.ytt_base.specs.declared.fault.Stop.TheVariants as stop
-use Rattle.ytt_base.specs.Outcomes.{Outcome, Gives, ◌>>=◌}
+use Rattle.ytt_base.specs.Outcomes.{Outcome, ◌>>=◌}
 use Rattle.yaml_spec.specs.Blocks.{Chomp, Header, Body, is_spaces, lines_within, lines_of_spaces, found_indent, too_long, body_at, empty_body, body, header, ends_header, block_text, Block}
 use Rattle.yaml_spec.specs.Bytes.{indent, bar, first, skip_white}
 use Rattle.yaml_spec.specs.Held.{plain_lines}
 use Rattle.yaml_spec.specs.Lines.{Line}
-use Rattle.yaml_spec.specs.Openers.{starts_block}
-use Rattle.yaml_spec.specs.Positions.{read_up_to, block_at, least_under}
+use Rattle.yaml_spec.specs.Positions.{Quoted, cursor_at, read_up_to, block_at, least_under}
 use Rattle.yaml_spec.specs.Quotes.{Cursor}
 use Rattle.yaml_spec.specs.Refusals.{refused, place_below}
-use Rattle.yaml_scalar.specs.View.{quoted_of}
-use Rattle.yaml_scalar.specs.BlockLines.{indent_of, content_at, contents_of, lines_read, block_under}
-use Rattle.yaml_spec.proofs.HeldLines.{cursor_in, cursor_at-index, text_at-index, plain_lines-length}
+use Rattle.yaml_scalar.specs.BlockLines.{indent_of, content_at, contents_of, lines_read, block_lines}
 
 -- ---- lines one by one
 
@@ -80,16 +71,6 @@ contents-le o (l ∷ ls) = by (content_at o l.text) refl (contents-le o ls) wher
   by (Some t) e more = rw (contents_of, e) (omega arith)
   by None e more = rw (contents_of, e) (omega arith)
 
--- ---- where a block scalar begins
-
-pub block-byte : (t : List ℕ) (column : ℕ) → starts_block (drop column t) ≡ true → (column < length t) × (get_or t column 0 < 128)
-block-byte t column h =
-    let here : get_or (drop column t) 0 0 ≡ get_or t column 0 = rw (get_or-drop column t 0 0, add-zero) refl in
-    elim (cases_lt column (length t)) [
-      | inl within ↦ (within, grind (arith, nat_tests))
-      | inr past ↦ let none : get_or t column 0 ≡ 0 = get_or_past t column 0 past in absurd (grind (arith, nat_tests))
-    ]
-
 -- ---- what its header and its lines lead to
 
 tested : {A : Type 0} (v : Bool) (f x : Outcome A) → v ≡ true → (elim v as (λ w. Outcome A) [ false ↦ f | true ↦ x ]) ≡ x
@@ -100,69 +81,52 @@ untested : {A : Type 0} (v : Bool) (f x : Outcome A) → v ≡ false → (elim v
 untested true f x h = cc
 untested false f x h = refl
 
--- what the text of the lines, and how many they are, gives
-behind_header : Header → held.Line → List held.Line → List ℕ × ℕ → Outcome (List ℕ × List ℕ × Cursor)
-behind_header h l below r = Ok (r.0, skip_white h.rest, record { place = place_below l.place r.1; text = []; below = drop r.1 (plain_lines below) })
+-- the comment behind a header, between the text of the lines and how many they are
+abbrev with_comment : Header → List ℕ × ℕ → Outcome (List ℕ × List ℕ × ℕ)
+with_comment h r = Ok (r.0, skip_white h.rest, r.1)
 
-behind-body : (is_literal : Bool) (h : Header) (l : held.Line) (below : List held.Line) (o : Outcome Body)
-    → (o >>= (λ (b : Body). Ok (block_text is_literal h.chomp b.contents, skip_white h.rest, record { place = place_below l.place b.size; text = []; below = drop b.size (plain_lines below) })))
-    ≡ (o >>= text_and_size is_literal h.chomp >>= behind_header h l below)
-unfolding behind_header text_and_size
-behind-body is_literal h l below (Ok b) = refl
-behind-body is_literal h l below (Err f) = refl
+pub block_lines-refused : (least : ℕ) (c : Cursor) (h : Header) → h ≡ header (drop 1 c.text) → ends_header h.rest ≡ false → block_lines least c ≡ refused kind.YamlForm c.place
+unfolding block_lines
+block_lines-refused least c h e t = let ends = rw e at t in untested _ _ _ ends
 
-block-cursor : (is_literal : Bool) (h : Header) (least column : ℕ) (l : held.Line) (below : List held.Line) → is_literal ≡ (first (drop column l.text) == bar) → h ≡ header (drop 1 (drop column l.text)) → ends_header h.rest ≡ true
-    → Block least (cursor_in l column below) ≡ (lines_read is_literal h.chomp least h.digit (plain_lines below) >>= behind_header h l below)
-unfolding Block
-block-cursor is_literal h least column l below b e t =
-    let ends = rw e at t in
-    rw (b, e)
-    (tested _ _ _ ends ∙ behind-body (first (drop column l.text) == bar) (header (drop 1 (drop column l.text))) l below _
-    ∙ ap (λ (o : Outcome (List ℕ × ℕ)). o >>= behind_header (header (drop 1 (drop column l.text))) l below) (lines_read-body _ _ least _ (plain_lines below)))
+pub block_lines-read : (least : ℕ) (c : Cursor) (is_literal : Bool) (h : Header) → is_literal ≡ (first c.text == bar) → h ≡ header (drop 1 c.text) → ends_header h.rest ≡ true
+    → block_lines least c ≡ (lines_read is_literal h.chomp least h.digit c.below >>= with_comment h)
+unfolding block_lines
+block_lines-read least c is_literal h b e t = let ends = rw e at t in rw (b, e) (tested _ _ _ ends)
 
-pub block-refused : (lines : List held.Line) (line column least : ℕ) (l : held.Line) (h : Header) → line < length lines → l ≡ get_or lines line l → h ≡ header (drop 1 (drop column l.text)) → ends_header h.rest ≡ false
-    → block_under least (plain_lines lines) line column ≡ refused kind.YamlForm l.place
-unfolding block_under Block
-block-refused lines line column least l h there i e t =
-    let ends = rw e at t in
-    rw (cursor_at-index lines line column l there i)
-    (ap (λ (o : Outcome (List ℕ × List ℕ × Cursor)). o >>= (λ (b : List ℕ × List ℕ × Cursor). Ok (read_up_to (plain_lines lines) b.0 b.2))) (untested _ _ _ ends))
+-- ---- the place behind
 
-from-lines : (lines : List held.Line) (line column least : ℕ) (l : held.Line) (is_literal : Bool) (h : Header) (o : Outcome (List ℕ × ℕ)) → line < length lines → l ≡ get_or lines line l
-    → is_literal ≡ (first (drop column l.text) == bar) → h ≡ header (drop 1 (drop column l.text)) → ends_header h.rest ≡ true → lines_read is_literal h.chomp least h.digit (plain_lines (drop (line + 1) lines)) ≡ o
-    → block_under least (plain_lines lines) line column ≡ (o >>= behind_header h l (drop (line + 1) lines) >>= (λ (b : List ℕ × List ℕ × Cursor). Ok (read_up_to (plain_lines lines) b.0 b.2)))
-unfolding block_under
-from-lines lines line column least l is_literal h o there i b e t r =
-    rw (cursor_at-index lines line column l there i)
-    (ap (λ (v : Outcome (List ℕ × List ℕ × Cursor)). v >>= (λ (b : List ℕ × List ℕ × Cursor). Ok (read_up_to (plain_lines lines) b.0 b.2))) (block-cursor is_literal h least column l (drop (line + 1) lines) b e t ∙ rw r refl))
+-- the place so many lines below
+abbrev end_at : Cursor → ℕ → Cursor
+end_at c n = record { place = place_below c.place n; text = []; below = drop n c.below }
 
--- where the lines are refused
-pub block-stop : {X : Type 0} (view : X → List ℕ × ℕ) (lines : List held.Line) (line column least : ℕ) (l : held.Line) (is_literal : Bool) (h : Header) (s : Stop) → line < length lines → l ≡ get_or lines line l
-    → is_literal ≡ (first (drop column l.text) == bar) → h ≡ header (drop 1 (drop column l.text)) → ends_header h.rest ≡ true
-    → Gives view (Err s) (lines_read is_literal h.chomp least h.digit (plain_lines (drop (line + 1) lines))) → Gives quoted_of (Err s) (block_under least (plain_lines lines) line column)
-block-stop view lines line column least l is_literal h (stop.Fault f) there i b e t r = from-lines lines line column least l is_literal h (Err f) there i b e t r
-block-stop view lines line column least l is_literal h stop.Memory there i b e t r = tt
+abbrev pub block_end : Cursor → List ℕ × List ℕ × ℕ → Outcome (List ℕ × List ℕ × Cursor)
+block_end c b = Ok (b.0, b.1, end_at c b.2)
 
--- a stop that is passed on
-pub passed_on : {X Y : Type 0} (view : X → Y) (r : Result X Stop) (o : Outcome Y) (e : Stop) (Q : Stop → Type 0) → IsErrAnd r Q → ((y : Stop) → Q y → y ≡ e) → Gives view (Err e) o → Gives view r o
-passed_on view (Ok x) o e Q h same g = absurd h
-passed_on view (Err y) o e Q h same g = subst (λ (s : Stop). Gives view (Err s) o) (sym (same y h)) g
+end-body : (is_literal : Bool) (h : Header) (c : Cursor) (o : Outcome Body)
+    → (o >>= (λ (b : Body). Ok (block_text is_literal h.chomp b.contents, skip_white h.rest, end_at c b.size))) ≡ (o >>= text_and_size is_literal h.chomp >>= with_comment h >>= block_end c)
+unfolding text_and_size
+end-body is_literal h c (Ok b) = refl
+end-body is_literal h c (Err f) = refl
 
--- the position behind so many lines
-read_up_to-end : (lines : List held.Line) (line n : ℕ) (l : held.Line) (s : List ℕ) (place : Place) → line + n < length lines → l ≡ get_or lines (line + n) l
-    → read_up_to (plain_lines lines) s (record { place = place; text = []; below = drop n (plain_lines (drop (line + 1) lines)) }) ≡ record { text = s; line = line + n; column = length l.text }
-read_up_to-end lines line n l s place there i =
-    let here : length (plain_lines lines) - suc (length (drop n (plain_lines (drop (line + 1) lines)))) ≡ line + n = rw (plain_lines-length lines) (omega (arith, length-drop {A = Line}, length-drop {A = held.Line}, plain_lines-length (drop (line + 1) lines))) in
-    let whole : length l.text - 0 ≡ length l.text = omega arith in
-    rw (here, text_at-index lines (line + n) l there i, whole) refl
+pub Block-lines : (least : ℕ) (c : Cursor) → Block least c ≡ (block_lines least c >>= block_end c)
+unfolding Block block_lines
+Block-lines least c = by (ends_header (header (drop 1 c.text)).rest) refl where
+  by : (v : Bool) → ends_header (header (drop 1 c.text)).rest ≡ v → Block least c ≡ (block_lines least c >>= block_end c)
+  by false e = rw (Block, block_lines, e) refl
+  by true e =
+      let h : Header = header (drop 1 c.text) in
+      rw (Block, block_lines, e)
+      (end-body (first c.text == bar) h c (body least h.digit c.below)
+      ∙ ap (λ (o : Outcome (List ℕ × ℕ)). o >>= with_comment h >>= block_end c) (lines_read-body (first c.text == bar) h.chomp least h.digit c.below))
 
-pub block-read : (lines : List held.Line) (line column least : ℕ) (l k : held.Line) (is_literal : Bool) (h : Header) (s : List ℕ) (n : ℕ) → line < length lines → l ≡ get_or lines line l
-    → is_literal ≡ (first (drop column l.text) == bar) → h ≡ header (drop 1 (drop column l.text)) → ends_header h.rest ≡ true → lines_read is_literal h.chomp least h.digit (plain_lines (drop (line + 1) lines)) ≡ Ok (s, n)
-    → line + n < length lines → k ≡ get_or lines (line + n) k → block_under least (plain_lines lines) line column ≡ Ok (record { text = s; line = line + n; column = length k.text })
-unfolding behind_header
-block-read lines line column least l k is_literal h s n there i b e t r last j =
-    from-lines lines line column least l is_literal h (Ok (s, n)) there i b e t r ∙ ap Ok (read_up_to-end lines line n k s (place_below l.place n) last j)
+-- a string that was read up to a place so many lines below
+abbrev pub up_to_end : List Line → Cursor → List ℕ × List ℕ × ℕ → Outcome Quoted
+up_to_end lines c b = Ok (read_up_to lines b.0 (end_at c b.2))
 
-pub block_at-under : (ls : List Line) (line column : ℕ) (parent : ℤ) → block_at ls line column parent ≡ block_under (least_under parent) ls line column
-unfolding block_at block_under
-block_at-under ls line column parent = refl
+pub block_at-lines : (lines : List Line) (line column : ℕ) (parent : ℤ) (c : Cursor) → c ≡ cursor_at lines line column → block_at lines line column parent ≡ (block_lines (least_under parent) c >>= up_to_end lines c)
+unfolding block_at
+block_at-lines lines line column parent c e = rw (← e, Block-lines (least_under parent) c) (by (block_lines (least_under parent) c)) where
+  by : (o : Outcome (List ℕ × List ℕ × ℕ)) → (o >>= block_end c >>= (λ (b : List ℕ × List ℕ × Cursor). Ok (read_up_to lines b.0 b.2))) ≡ (o >>= up_to_end lines c)
+  by (Ok b) = refl
+  by (Err f) = refl

@@ -2,6 +2,7 @@ pub mod BlockIndents
 pub mod BlockTexts
 pub mod BlocksRead
 pub mod ByteTests
+pub mod Cursors
 pub mod Escaping
 pub mod Foldings
 pub mod FormTests
@@ -9,6 +10,5 @@ pub mod Integers
 pub mod Pieces
 pub mod PlainValues
 pub mod QuotedChars
-pub mod QuoteLines
 pub mod QuotedLines
 pub mod StyleTests

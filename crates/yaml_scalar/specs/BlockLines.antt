@@ -1,13 +1,13 @@
 -- The lines of a block scalar one by one (YAML 1.2.2, 8.1).
-use Rattle.std.specs.Prelude.{ℕ, zero, suc, ◌+◌, Bool, true, false, ◌||◌, nat_le, if◌then◌else◌, List, [], ◌∷◌, ◌++◌, length, drop, string_bytes, Option, Some, None, Ok}
+use Rattle.std.specs.Prelude.{ℕ, zero, suc, ◌+◌, Bool, true, false, ◌||◌, ◌==◌, nat_le, if◌then◌else◌, List, [], ◌∷◌, ◌++◌, length, drop, string_bytes, Option, Some, None, Ok}
 use Rattle.ytt_base.specs.declared.fault.FaultKind.TheVariants as kind
 use Rattle.ytt_base.specs.Outcomes.{Outcome, ◌>>=◌}
-use Rattle.yaml_spec.specs.Bytes.{is_empty, indent}
+use Rattle.yaml_spec.specs.Bytes.{bar, first, is_empty, indent, skip_white}
 use Rattle.yaml_spec.specs.Folding.{breaks}
 use Rattle.yaml_spec.specs.Lines.{Line}
-use Rattle.yaml_spec.specs.Positions.{Quoted, cursor_at, read_up_to}
 use Rattle.yaml_spec.specs.Refusals.{refused}
-use Rattle.yaml_spec.specs.Blocks.{Chomp, is_spaces, found_indent, too_long, starts_white, between, end_breaks, block_text, Block}
+use Rattle.yaml_spec.specs.Blocks.{Chomp, is_spaces, found_indent, too_long, starts_white, between, end_breaks, block_text, header, ends_header}
+use Rattle.yaml_spec.specs.Quotes.{Cursor}
 use Rattle.yaml_scalar.specs.declared.blocktext.BlockText.{BlockText}
 use Rattle.yaml_scalar.specs.declared.blocktext.Break.{Break}
 use Rattle.yaml_scalar.specs.declared.blocktext.Break.TheVariants as break
@@ -35,9 +35,14 @@ abbrev pub lines_read : Bool → Chomp → ℕ → ℕ → List Line → Outcome
 lines_read is_literal chomp least digit ls =
     indent_of least digit ls >>= (λ n. Ok (block_text is_literal chomp (contents_of n ls), length (contents_of n ls)))
 
--- the string of the block scalar at a line and a column, whose lines have at least this indent
-unfoldable pub block_under : ℕ → List Line → ℕ → ℕ → Outcome Quoted
-block_under least ls line column = Block least (cursor_at ls line column) >>= (λ b. Ok (read_up_to ls b.0 b.2))
+-- the text of a block scalar, the comment on the line of its header, and how many lines it has below that line
+unfoldable pub block_lines : ℕ → Cursor → Outcome (List ℕ × List ℕ × ℕ)
+block_lines least c =
+    let h = header (drop 1 c.text) in
+    elim (ends_header h.rest) [
+      | false ↦ refused kind.YamlForm c.place
+      | true ↦ lines_read (first c.text == bar) h.chomp least h.digit c.below >>= (λ r. Ok (r.0, skip_white h.rest, r.1))
+    ]
 
 -- no line with content has come
 abbrev pub is_start : Break → Bool

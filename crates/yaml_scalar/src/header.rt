@@ -1,7 +1,8 @@
 // The header of a block scalar.
-ghost use Rattle.std.specs.Prelude.{◌≡◌, ◌==◌, ◌≤◌};
-ghost use Rattle.yaml_spec.specs.Blocks.{chomp_of, digit_of, ends_header, header, is_chomp, is_indent_digit, skip_if};
+ghost use Rattle.std.specs.Prelude.{◌≡◌, ◌==◌, ◌≤◌, true};
+ghost use Rattle.yaml_spec.specs.Blocks.{chomp_of, digit_of, ends_header, header, header_rest, is_chomp, is_indent_digit, skip_if};
 ghost use Rattle.yaml_spec.specs.Bytes.{first};
+ghost use Rattle.yaml_spec.specs.Openers.{starts_block};
 ghost use Rattle.yaml_scalar.specs.BlockView.{header_of, held_chomp};
 
 use yaml_text::{behind, first, is_white, skip_white};
@@ -65,6 +66,14 @@ pub fn read_header(text: &str) -> Header<'_>
     let (digit, behind) = split_digit(text);
     let (chomp, rest) = split_chomp(behind);
     Header { digit, chomp, rest }
+}
+
+/// What stands behind the indicators of the header at `|` or `>`.
+pub fn header_rest(text: &str) -> &str
+    requires { starts_block text.now ≡ true }
+    ensures { result.now ≡ header_rest text.now }
+{
+    read_header(behind(text, 1)).rest
 }
 
 /// Whether a header may end here: only white space, or white space and a comment, is left.

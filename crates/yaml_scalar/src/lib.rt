@@ -27,6 +27,7 @@ pub use blocks::read_block_at;
 pub use bytes::{all_digits, all_letters_or_digits};
 pub use folding::{Folded, Joint, fold};
 pub use form::is_string;
+pub use header::{ends_header, header_rest};
 pub use key::key_text;
 pub use kind::{ScalarKind, plain_kind};
 pub use plain::type_plain;

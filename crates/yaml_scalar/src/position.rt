@@ -1,5 +1,14 @@
-// A string that was read, and where it ends.
+// Positions in lines.
+ghost use Rattle.std.specs.Prelude.{◌≡◌, ◌<◌, ◌==◌, drop, length};
+ghost use Rattle.std.specs.Str.{IsCharBoundary};
+ghost use Rattle.ytt_base.specs.declared.fault.Place.{Place};
+ghost use Rattle.yaml_spec.specs.Held.{plain_lines};
+ghost use Rattle.yaml_spec.specs.Positions.{cursor_at, read_up_to, text_at};
+ghost use Rattle.yaml_text.specs.View.{cursor_of};
+ghost use Rattle.yaml_scalar.specs.View.{quoted_of};
 
+use yaml_text::Cursor;
+use ytt_base::line::Line;
 use ytt_base::text::Text;
 
 /// A string that was read, and the position behind it.
@@ -11,4 +20,33 @@ pub struct Quoted {
     pub line: u64,
     /// The position in that line, in bytes from 0.
     pub column: u64,
+}
+
+/// The place at a column of a line, by their indexes.
+pub fn cursor_at(lines: &[Line], at: usize, column: usize) -> Cursor<'_>
+    requires there { at < length lines.now }
+    requires cut { IsCharBoundary (text_at (plain_lines lines.now) at) column }
+    ensures { cursor_of result ≡ cursor_at (plain_lines lines.now) at column }
+{
+    let line = &lines[at];
+    Cursor {
+        place: line.place,
+        text: &line.text.as_str()[column..],
+        below: &lines[at + 1..],
+    }
+}
+
+/// A string with the position of the place behind it, where this is left of a line and these lines
+/// stand below it.
+pub fn read_up_to(lines: &[Line], text: Text, rest: &str, below: &[Line]) -> Quoted
+    requires { 0 < length lines.now }
+    ensures { (place : Place) → quoted_of result ≡ read_up_to (plain_lines lines.now) text (record { place = place; text = rest.now; below = plain_lines below.now }) }
+{
+    let at = lines.len().saturating_sub(below.len() + 1);
+    let line = lines[at].text.as_str();
+    Quoted {
+        text,
+        line: at as u64,
+        column: line.len().saturating_sub(rest.len()) as u64,
+    }
 }

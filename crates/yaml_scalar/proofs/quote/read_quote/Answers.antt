@@ -5,7 +5,7 @@ use Rattle.yaml_spec.specs.Held.{plain_line, plain_lines}
 use Rattle.yaml_text.specs.View.{cursor_of}
 use Rattle.yaml_scalar.specs.Joining.{part_of}
 use Rattle.yaml_scalar.specs.View.{scan_of}
-use Rattle.yaml_scalar.proofs.QuoteLines.{reading-start, reading-wrong, reading-closed, reading-end, reading-more}
+use Rattle.yaml_scalar.proofs.QuotedLines.{reading-start, reading-wrong, reading-closed, reading-end, reading-more}
 use Rattle.yaml_scalar.proofs.quote.read_quote.Goals as goal
 
 pub lines-init : goal.lines-init

@@ -1,6 +1,6 @@
 use Rattle.std.proofs.Common.{length}
 use Rattle.yaml_text.specs.View.{cursor_of}
-use Rattle.yaml_scalar.proofs.QuoteLines.{IsReading}
+use Rattle.yaml_scalar.proofs.QuotedLines.{IsReading}
 use Rattle.yaml_scalar.proofs.quote.read_quote.Given as goal
 
 abbrev pub invariant-lines : goal.invariant-lines

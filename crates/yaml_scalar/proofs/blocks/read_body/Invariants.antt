@@ -3,7 +3,7 @@ use Rattle.yaml_spec.specs.Blocks.{block_text}
 use Rattle.yaml_spec.specs.Held.{plain_lines}
 use Rattle.yaml_scalar.specs.BlockLines.{contents_of, with_contents}
 use Rattle.yaml_scalar.specs.BlockView.{held_chomp}
-use Rattle.yaml_scalar.proofs.block.read_body.Given as goal
+use Rattle.yaml_scalar.proofs.blocks.read_body.Given as goal
 
 abbrev pub invariant-loop-at : goal.invariant-loop-at
 invariant-loop-at l = record {
