@@ -1,6 +1,8 @@
 //! Reading a text into noted documents and into trees.
 #![tactic(auto)]
 
+mod closing;
+mod frames;
 mod pass;
 mod read;
 

@@ -6,17 +6,11 @@ ghost use Rattle.yaml_spec.specs.Held.{plain_lines};
 ghost use Rattle.yaml_read.specs.Lines.{FitLines};
 ghost use Rattle.yaml_read.specs.View.{hole_of, passed_of};
 
+use crate::frames::Found;
 use std::alloc::Global;
-use yaml_noted::{Comments, Content, RawComment};
+use yaml_noted::Comments;
 use ytt_base::fault::Stop;
 use ytt_base::line::Line;
-
-/// A content, and the comment on the line of the document or entry that has it.
-#[derive(Drop)]
-pub struct Found {
-    pub content: Content,
-    pub trailing: Option<RawComment>,
-}
 
 /// What the lines of a document hold: its content, and the comments behind its last item.
 #[derive(Drop)]
