@@ -23,7 +23,6 @@ list_closed is xs x e = content_of-List is ∙ ap noted_list (ap in_items e ∙ 
 pub map_closed : (is : List NotedItem) (xs : List Noted) (x : Noted) → done_of is ≡ xs ++ x ∷ [] → content_of (held.Map is) ≡ wrap false (with_items xs (item x.0 x.1 no_items))
 map_closed is xs x e = content_of-Map is ∙ ap noted_map (ap in_items e ∙ in_items-with xs x)
 
-
 -- ---- blocks
 
 -- what a block has, if its open entry has this

@@ -1,1 +1,4 @@
 pub mod Blocks
+pub mod Contents
+pub mod Gives
+pub mod Openings

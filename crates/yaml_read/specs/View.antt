@@ -1,5 +1,5 @@
 -- What is read of a document, seen as plain data.
-use Rattle.std.specs.Prelude.{List, map as each, Option, Some, None, option_map, false}
+use Rattle.std.specs.Prelude.{ℕ, List, map as each, Option, Some, None, option_map, false}
 use Rattle.ytt_base.specs.View.{key_of}
 use Rattle.yaml_laws.specs.Machine as machine
 use Rattle.yaml_laws.specs.Machine.{Hole, wanting, filled}
@@ -7,9 +7,14 @@ use Rattle.yaml_noted.specs.View.{content_of, comment_of, comments_of, noted_of,
 use Rattle.yaml_noted.specs.declared.noted.NotedItem.{NotedItem}
 use Rattle.yaml_spec.specs.Entries as plain
 use Rattle.yaml_spec.specs.Noted as noted
+use Rattle.yaml_spec.specs.Noted.{Comment}
+use Rattle.yaml_read.specs.declared.frames.Begun.{Begun}
+use Rattle.yaml_read.specs.declared.frames.Extent.{Extent}
 use Rattle.yaml_read.specs.declared.frames.Found.{Found}
 use Rattle.yaml_read.specs.declared.frames.Frame.{Frame}
 use Rattle.yaml_read.specs.declared.frames.Note.{Note}
+use Rattle.yaml_read.specs.declared.frames.Opened.{Opened}
+use Rattle.yaml_read.specs.declared.frames.Started.{Started}
 use Rattle.yaml_read.specs.declared.pass.Passed.{Passed}
 
 abbrev pub found_of : Found → plain.Found
@@ -30,6 +35,19 @@ frame_of f = record { left = f.left; indent = f.indent; is_list = f.is_list; don
 
 abbrev pub frames_of : List Frame → List machine.Frame
 frames_of fs = each frame_of fs
+
+-- the further lines that a row takes, and the comments that it leaves
+abbrev pub extent_of : Extent → ℕ × List Comment
+extent_of e = (e.skip, comments_of e.loose)
+
+abbrev pub started_of : Started → Option Comment × Hole
+started_of s = (option_map comment_of s.trailing, hole_of s.hole)
+
+abbrev pub opened_of : Opened → List machine.Frame × Hole
+opened_of o = (frames_of o.frames, hole_of o.hole)
+
+abbrev pub begun_of : Begun → machine.Begun
+begun_of b = (note_of b.note, frames_of b.inner.frames, hole_of b.inner.hole)
 
 abbrev pub passed_of : Passed → machine.Passed
 passed_of p = (found_of p.found, comments_of p.after)

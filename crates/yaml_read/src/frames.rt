@@ -42,3 +42,35 @@ pub struct Frame {
 
 /// Open blocks, the outermost first.
 pub type Frames = Items<Frame>;
+
+/// How far a row reaches.
+#[derive(Drop)]
+pub struct Extent {
+    /// How many further lines it takes.
+    pub skip: u32,
+    /// The comments that it leaves to the next item.
+    pub loose: Comments,
+}
+
+/// What stands behind the last head of a row.
+#[derive(Drop)]
+pub struct Started {
+    pub trailing: Option<RawComment>,
+    pub hole: Option<Found>,
+    pub extent: Extent,
+}
+
+/// Blocks that a row has opened, and what the open entry of the last of them has.
+#[derive(Drop)]
+pub struct Opened {
+    pub frames: Frames,
+    pub hole: Option<Found>,
+    pub extent: Extent,
+}
+
+/// An entry that has begun, with the blocks that are opened in it.
+#[derive(Drop)]
+pub struct Begun {
+    pub note: Note,
+    pub inner: Opened,
+}

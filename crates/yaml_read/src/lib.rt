@@ -2,7 +2,9 @@
 #![tactic(auto)]
 
 mod closing;
+mod entries;
 mod frames;
+mod opening;
 mod pass;
 mod read;
 

@@ -1,4 +1,5 @@
 // The lines of a document, gone over once with a stack of open blocks.
+ghost use Rattle.std.specs.Prelude.{[]};
 ghost use Rattle.ytt_base.specs.Outcomes.{Gives};
 ghost use Rattle.yaml_laws.specs.Machine.{pass};
 ghost use Rattle.yaml_noted.specs.View.{comments_of};
