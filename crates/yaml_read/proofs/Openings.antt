@@ -139,3 +139,16 @@ pub last_opened : (outer fs : List Frame) (left n : ℕ) (is_list d : Bool) (don
     o ≡ Ok b → b.1 ≡ [] → d ≡ is_list → done ≡ [] → fs ≡ outer ++ record { left = left; indent = n; is_list = d; done = done; note = b.0 } ∷ [] →
     o >>= last_in outer left n is_list ≡ Ok (fs, b.2)
 last_opened outer fs left n is_list d done o b e none de ne fe = rw (e, fe, de, ne, none) refl
+
+begun_by : (note : Note) (o : Outcome Opened) (x : List Frame × Hole) → o >>= onto [] ≡ Ok x → o >>= opened_as note ≡ Ok (note, x.0, x.1)
+begun_by note (Ok o) x e = let h : ◌≡◌ {A = List Frame × Hole} (o.0 ∷ o.1, o.2) x = cc in ap (λ (y : List Frame × Hole). Ok (note, y.0, y.1)) h
+begun_by note (Err d) x e = cc
+
+pub entry_begun : (fs : List Frame) (left : ℕ) (m : Mark) (behind : List held.Head) (i : held.Head) (row : held_row.Row) (bs cs : List Comment) (note : Note) (x : List Frame × Hole) →
+    goes_on m (heads_of behind) ≡ true → fs ≡ [] → cs ≡ [] → note ≡ note_of (row_of bs row) None None →
+    opens_in fs left (get_or behind 0 i).column (row_from cs (get_or behind 0 i).column behind row) ≡ Ok x →
+    begin_entry left (opens left) (row_of bs row) m (heads_of behind) ≡ Ok (note, x.0, x.1)
+entry_begun fs left (key_mark k) behind i row bs cs note x g fe ce ne e = cc
+entry_begun fs left dash_mark [] i row bs cs note x g fe ce ne e = cc
+entry_begun fs left dash_mark (j ∷ js) i row bs cs note x g fe ce ne e =
+    rw ne (begun_by (note_of (row_of bs row) None None) (opens left j.column (row_from [] j.column (j ∷ js) row)) x (rw (fe, ce) at e))

@@ -31,7 +31,7 @@ fn item_of(note: Note, content: Content) -> NotedItem
 }
 
 /// The items of a block, the last of which has this content.
-fn with_entry(done: NotedItems, note: Note, content: Content) -> Result<NotedItems, Memory>
+pub fn with_entry(done: NotedItems, note: Note, content: Content) -> Result<NotedItems, Memory>
     ensures { IfOk result (λ is. done_of is ≡ done_of done ++ (note_of note, content_of content) ∷ []) }
 {
     let mut items = done;

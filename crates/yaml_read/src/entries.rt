@@ -5,7 +5,7 @@ ghost use Rattle.ytt_base.specs.View.{key_of};
 ghost use Rattle.yaml_laws.specs.Machine.{begin_content, filled};
 ghost use Rattle.yaml_noted.specs.View.{comment_of, comments_of};
 ghost use Rattle.yaml_read.specs.Heads.{FitsRow, begin_last, key_in};
-ghost use Rattle.yaml_read.specs.View.{begun_of, extent_of, started_of};
+ghost use Rattle.yaml_read.specs.View.{begun_of, extent_of, found_of, started_of};
 ghost use Rattle.yaml_rows.specs.View.{mark_of, row_of, value_of};
 ghost use Rattle.yaml_spec.specs.Entries.{row_comment};
 ghost use Rattle.yaml_spec.specs.Noted.{Comment};
@@ -48,10 +48,10 @@ pub fn row_comment(alloc: Global, row: &Row<'_>) -> Result<Option<RawComment>, M
     }))
 }
 
-/// What an entry has by a value that begins on this line.
-pub fn filled_by(value: Value, line: u32) -> Result<Started, Memory>
-    ensures content { IfOk result (λ s. started_of s ≡ ((value_of value).trailing, filled ((value_of value).content, (value_of value).trailing))) }
-    ensures extent { IfOk result (λ s. extent_of s.extent ≡ (value.last - line, (value_of value).loose)) }
+/// The content of a value that begins on this line, and how far it reaches.
+pub fn found_by(value: Value, line: u32) -> (Found, Extent)
+    ensures found { found_of result.0 ≡ ((value_of value).content, (value_of value).trailing) }
+    ensures extent { extent_of result.1 ≡ (value.last - line, (value_of value).loose) }
 {
     let Value {
         content,
@@ -59,13 +59,25 @@ pub fn filled_by(value: Value, line: u32) -> Result<Started, Memory>
         trailing,
         last,
     } = value;
-    Ok(Started {
-        trailing: copy_comment(&trailing)?,
-        hole: Some(Found { content, trailing }),
-        extent: Extent {
+    (
+        Found { content, trailing },
+        Extent {
             skip: last.saturating_sub(line),
             loose,
         },
+    )
+}
+
+/// What an entry has by a value that begins on this line.
+fn filled_by(value: Value, line: u32) -> Result<Started, Memory>
+    ensures content { IfOk result (λ s. started_of s ≡ ((value_of value).trailing, filled ((value_of value).content, (value_of value).trailing))) }
+    ensures extent { IfOk result (λ s. extent_of s.extent ≡ (value.last - line, (value_of value).loose)) }
+{
+    let (found, extent) = found_by(value, line);
+    Ok(Started {
+        trailing: copy_comment(&found.trailing)?,
+        hole: Some(found),
+        extent,
     })
 }
 
