@@ -1,0 +1,3 @@
+pub mod FurtherLines
+pub mod Keys
+pub mod Spans

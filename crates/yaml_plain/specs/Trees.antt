@@ -1,5 +1,5 @@
 -- What was read of a plain scalar.
-use Rattle.std.specs.Prelude.{Result, Ok, Err}
+use Rattle.std.specs.Prelude.{Bool, true, false, Result, Ok, Err}
 use Rattle.ytt_base.specs.declared.fault.FaultKind.{FaultKind}
 use Rattle.ytt_base.specs.declared.tree.Key.{Key}
 use Rattle.ytt_base.specs.Outcomes.{Outcome}
@@ -15,3 +15,7 @@ as_tree s = Ok (scalar s.0, s.1)
 abbrev pub key_or_fault : Result Key FaultKind → Result Scalar FaultKind
 key_or_fault (Ok k) = Ok (key_of k)
 key_or_fault (Err f) = Err f
+
+abbrev pub is_scalar : Tree → Bool
+is_scalar (scalar s) = true
+is_scalar _ = false

@@ -2,6 +2,7 @@
 #![tactic(auto)]
 
 mod ends;
+mod further;
 mod key;
 mod lines;
 mod starts;

@@ -25,7 +25,7 @@ mod words;
 pub use block::read_block;
 pub use blocks::read_block_at;
 pub use bytes::{all_digits, all_letters_or_digits};
-pub use folding::fold;
+pub use folding::{Folded, Joint, fold};
 pub use form::is_string;
 pub use key::key_text;
 pub use kind::{ScalarKind, plain_kind};
