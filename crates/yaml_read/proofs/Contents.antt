@@ -11,7 +11,8 @@ use Rattle.yaml_spec.specs.Noted.{Comment}
 use Rattle.yaml_spec.specs.Rows.{Row, has_value, passing, row_value, taken}
 use Rattle.yaml_spec.specs.Values.{Value}
 use Rattle.yaml_rows.specs.declared.row.Head as held
-use Rattle.yaml_rows.specs.View.{heads_of}
+use Rattle.yaml_rows.specs.declared.row.Row as held_row
+use Rattle.yaml_rows.specs.View.{heads_of, row_of}
 use Rattle.yaml_read.proofs.Gives.{gives-first, gives-same, when_true, when_false}
 
 pub no_passing : (hs : List held.Head) (before : List Comment) → 0 < length hs → (if is_empty (heads_of hs) then before else []) ≡ []
@@ -46,3 +47,10 @@ taken-some left r v le e h =
     let n : (100 - left) + left ≡ max_depth = omega arith in
     let full : row_value max_depth r ≡ Ok v = rw n at (grows_row (100 - left) left r v h) in
     when_true (has_value r) (row_value max_depth r >>= extent_by r.place.line) _ e ∙ ap (λ (o : Outcome Value). o >>= extent_by r.place.line) full
+
+-- the value of a row without a head
+pub taken-root : (left : ℕ) (row : held_row.Row) (hs : List held.Head) (bs : List Comment) (v : Value) → hs ≡ row.heads → length hs ≡ 0 → left ≤ 100 →
+    (row.heads ≡ [] → has_value (row_of [] row) ≡ true) → ((before : List Comment) → passing (row_of before row) ≡ bs → row_value left (row_of before row) ≡ Ok v) →
+    taken (row_of bs row) ≡ Ok (v.last - row.place.line, v.loose)
+taken-root left row [] bs v e n le t h = taken-some left (row_of bs row) v le (t (sym e)) (h bs (rw (← e) refl))
+taken-root left row (x ∷ hs) bs v e n le t h = absurd (omega arith)

@@ -2,3 +2,4 @@ pub mod Blocks
 pub mod Contents
 pub mod Gives
 pub mod Openings
+pub mod Turns

@@ -1,5 +1,5 @@
 // One row, where blocks are open.
-ghost use Rattle.std.specs.Prelude.{◌≡◌, ◌<◌, ◌≤◌, [], ◌∷◌, ◌++◌, IfOk, List, Ok, drop, length, not, slice_get, take, true, Some};
+ghost use Rattle.std.specs.Prelude.{◌≡◌, ◌+◌, ◌<◌, ◌≤◌, [], ◌∷◌, ◌++◌, IfOk, List, Ok, drop, length, not, slice_get, take, true, Some};
 ghost use Rattle.std.specs.List.{prefix_len};
 ghost use Rattle.ytt_base.specs.Outcomes.{Gives};
 ghost use Rattle.yaml_laws.specs.Machine.{begin_at, opens, step};
@@ -83,13 +83,15 @@ fn begin_at(
     ensures extent { (bs : List Comment) → IfOk result (λ b. taken (row_of bs row.now) ≡ Ok (extent_of b.inner.extent)) }
 {
     let heads = row.heads.as_slice();
-    let Some((head, behind)) = heads.split_first() else {
-        return Err(refusal(alloc, misfit(row, indent), row.place));
-    };
-    if !fits(is_list, indent, row.indent, head) {
-        return Err(misplaced(alloc, heads, FaultKind::YamlForm, row.place));
+    match heads.split_first() {
+        None => Err(refusal(alloc, misfit(row, indent), row.place)),
+        Some((head, behind)) => {
+            if !fits(is_list, indent, row.indent, head) {
+                return Err(misplaced(alloc, heads, FaultKind::YamlForm, row.place));
+            }
+            begin_entry(alloc, left, row, head, behind, before)
+        }
     }
-    begin_entry(alloc, left, row, head, behind, before)
 }
 
 /// The block, where its open entry has this content and an entry with this note begins.
@@ -111,4 +113,117 @@ fn next_entry(frame: Frame, content: Content, note: Note) -> Result<Frame, Memor
         done: with_entry(done, open_note, content)?,
         note,
     })
+}
+
+/// The same of the innermost of these blocks.
+fn with_next_entry(frames: Frames, content: Content, note: Note) -> Result<Frames, Memory>
+    requires { 0 < length frames }
+    ensures { (outer : List Frame) (f : Frame) → frames ≡ outer ++ f ∷ [] →
+        IfOk result (λ fs. frames_of fs ≡ frames_of outer ++ with_next (frame_of f) (content_of content) (note_of note) ∷ []) }
+{
+    let mut open = frames;
+    match open.pop() {
+        Some(frame) => open.push(next_entry(frame, content, note)?)?,
+        None => unreachable!(),
+    }
+    Ok(open)
+}
+
+fn joined(outer: Frames, inner: Frames) -> Result<Frames, Memory>
+    ensures { IfOk result (λ fs. fs ≡ outer ++ inner) }
+{
+    let mut frames = outer;
+    frames.append(inner)?;
+    Ok(frames)
+}
+
+/// The row begins an entry of the block at this index, and the blocks behind it close.
+fn step_at(
+    alloc: Global,
+    frames: Frames,
+    at: usize,
+    hole: Option<Found>,
+    row: &Row<'_>,
+    before: Comments,
+) -> Result<Opened, Stop>
+    requires within { at < length frames }
+    requires fits { FitsRow row.now }
+    ensures content { (f : Frame) → slice_get frames at ≡ Some f →
+        Gives opened_of result (entry_in (take at (frames_of frames)) (frame_of f) (drop (at + 1) (frames_of frames)) (hole_of hole) (row_of (comments_of before) row.now)) }
+    ensures extent { (bs : List Comment) → IfOk result (λ o. taken (row_of bs row.now) ≡ Ok (extent_of o.extent)) }
+{
+    let frame = &frames.as_slice()[at];
+    let begun = begin_at(alloc, frame.left, frame.is_list, frame.indent, row, before)?;
+    let Begun { note, inner } = begun;
+    let (outer, found) = close_behind(alloc, frames, at + 1, hole)?;
+    let open = with_next_entry(outer, found.content, note)?;
+    Ok(Opened {
+        frames: joined(open, inner.frames)?,
+        hole: inner.hole,
+        extent: inner.extent,
+    })
+}
+
+/// How many collections may nest in the innermost block.
+fn innermost(frames: &[Frame]) -> u32
+    ensures left { result ≡ last_left 100 (frames_of frames.now) }
+    ensures shallow { result ≤ 100 }
+{
+    match frames.last() {
+        Some(frame) => frame.left,
+        None => 100,
+    }
+}
+
+/// The row belongs to the open entry of the innermost of these blocks, in which `left` more may be
+/// opened.
+fn step_root(
+    alloc: Global,
+    left: u32,
+    frames: Frames,
+    hole: Option<Found>,
+    row: &Row<'_>,
+    before: Comments,
+) -> Result<Opened, Stop>
+    requires shallow { left ≤ 100 }
+    requires fits { FitsRow row.now }
+    requires value { row.now.heads ≡ [] → has_value (row_of [] row.now) ≡ true }
+    ensures content { Gives opened_of result (root_in (frames_of frames) left (hole_of hole) (row_of (comments_of before) row.now)) }
+    ensures extent { IfOk result (λ o. taken (row_of (comments_of before) row.now) ≡ Ok (extent_of o.extent)) }
+{
+    let heads = row.heads.as_slice();
+    if hole.is_some() {
+        return Err(misplaced(alloc, heads, FaultKind::YamlForm, row.place));
+    }
+    if !heads.is_empty() {
+        return open_blocks(alloc, left, row, row.indent, heads, before, frames);
+    }
+    let value = row_value(alloc, left, row, before)?;
+    let (found, extent) = found_by(value, row.place.line);
+    Ok(Opened {
+        frames,
+        hole: Some(found),
+        extent,
+    })
+}
+
+/// The blocks and the hole behind a row, and how far the row reaches. The comments stand before it.
+pub fn step(
+    alloc: Global,
+    frames: Frames,
+    hole: Option<Found>,
+    row: &Row<'_>,
+    before: Comments,
+) -> Result<Opened, Stop>
+    requires fits { FitsRow row.now }
+    requires value { row.now.heads ≡ [] → has_value (row_of [] row.now) ≡ true }
+    ensures content { Gives opened_of result (step 100 (frames_of frames) (hole_of hole) (row_of (comments_of before) row.now)) }
+    ensures extent { IfOk result (λ o. taken (row_of (comments_of before) row.now) ≡ Ok (extent_of o.extent)) }
+{
+    let at = blocks_around(frames.as_slice(), row);
+    if at < frames.len() {
+        return step_at(alloc, frames, at, hole, row, before);
+    }
+    let left = innermost(frames.as_slice());
+    step_root(alloc, left, frames, hole, row, before)
 }
