@@ -7,6 +7,7 @@ mod frames;
 mod opening;
 mod pass;
 mod read;
+mod state;
 mod stepping;
 
 pub use read::{has_code, plain_trees, read_noted, read_plain};
