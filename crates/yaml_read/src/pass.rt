@@ -164,6 +164,20 @@ fn pass_line<'a>(
     pass_start(alloc, stop, state, line, below)
 }
 
+/// The state behind the last of these lines.
+fn pass_each(alloc: Global, stop: u32, start: State, lines: &[Line]) -> Result<State, Stop>
+    requires fits { FitLines (plain_lines lines.now) }
+    ensures { Leads (pass_from stop []) result (pass_from stop (plain_lines lines.now) start) }
+{
+    let mut state = start;
+    let mut rest = lines;
+    'lines: while let Some((line, below)) = rest.split_first() {
+        state = pass_line(alloc, stop, state, line, below)?;
+        rest = below;
+    }
+    Ok(state)
+}
+
 /// The content of a document's lines, or the first refusal.
 ///
 /// `stop` is the line of the marker that ends the document, or 0. `is_owned` says that an item starts
@@ -181,7 +195,7 @@ pub fn pass_lines(
     requires fits { FitLines (plain_lines lines.now) }
     ensures { Gives passed_of result (pass stop is_owned skip 0 (comments_of comments) [] (hole_of hole) (plain_lines lines.now)) }
 {
-    let mut state = State {
+    let start = State {
         is_owned,
         skip,
         least: 0,
@@ -189,20 +203,12 @@ pub fn pass_lines(
         frames: Items::new(alloc),
         hole,
     };
-    let mut rest = lines;
-    'lines: while let Some((line, below)) = rest.split_first() {
-        state = pass_line(alloc, stop, state, line, below)?;
-        rest = below;
-    }
     let State {
-        comments,
+        comments: after,
         frames,
-        hole,
+        hole: last,
         ..
-    } = state;
-    let (_, found) = close_behind(alloc, frames, 0, hole)?;
-    Ok(Passed {
-        found,
-        after: comments,
-    })
+    } = pass_each(alloc, stop, start, lines)?;
+    let (_, found) = close_behind(alloc, frames, 0, last)?;
+    Ok(Passed { found, after })
 }

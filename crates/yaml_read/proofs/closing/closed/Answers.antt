@@ -1,4 +1,3 @@
-use Rattle.std.proofs.Common.{◌∙◌}
 use Rattle.yaml_read.proofs.Blocks.{list_closed, map_closed}
 use Rattle.yaml_read.proofs.closing.closed.Goals as goal
 

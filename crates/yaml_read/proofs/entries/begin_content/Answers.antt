@@ -1,6 +1,5 @@
-use Rattle.std.proofs.Common.{◌≡◌, sym, ◌∙◌, ap, Ok, Err, rules, List}
+use Rattle.std.proofs.Common.{◌≡◌, sym, ◌∙◌, ap, Ok, Err, rules}
 use Rattle.yaml_rows.specs.View.{row_of, value_of}
-use Rattle.yaml_spec.specs.Noted.{Comment}
 use Rattle.yaml_spec.specs.Rows.{passing}
 use Rattle.yaml_noted.specs.View.{comments_of}
 use Rattle.yaml_read.specs.View.{started_of}

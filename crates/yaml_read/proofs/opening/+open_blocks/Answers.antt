@@ -1,9 +1,9 @@
-use Rattle.std.proofs.Common.{◌≡◌, ◌-◌, suc, Err, refl, rules, arith, sym, ◌∙◌, ap}
+use Rattle.std.proofs.Common.{◌≡◌, ◌-◌, Err, refl, rules, arith, sym, ◌∙◌, ap}
 use Rattle.yaml_rows.specs.View.{row_of}
 use Rattle.yaml_noted.specs.View.{comments_of}
 use Rattle.yaml_read.specs.View.{begun_of, done_of, frames_of, note_of, opened_of}
 use Rattle.yaml_read.proofs.Gives.{gives-first, gives-same}
-use Rattle.yaml_read.proofs.Openings.{more_blocks, last_block, last_in, last_opened}
+use Rattle.yaml_read.proofs.Openings.{more_blocks, last_block, last_opened}
 use Rattle.yaml_read.proofs.opening.+open_blocks.Goals as goal
 
 pub returns-then-goes_on-clause-content : goal.returns-then-goes_on-clause-content

@@ -1,5 +1,3 @@
-use Rattle.std.proofs.Common.{ap, ◌∙◌, sym, Err}
-use Rattle.ytt_base.specs.Outcomes.{fault_at}
 use Rattle.yaml_noted.specs.View.{comments_of}
 use Rattle.yaml_read.proofs.Turns.{misfit-none}
 use Rattle.yaml_read.proofs.stepping.begin_at.Goals as goal

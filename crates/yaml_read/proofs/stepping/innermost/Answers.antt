@@ -1,4 +1,3 @@
-use Rattle.std.proofs.Common.{arith}
 use Rattle.yaml_read.proofs.Turns.{last_left-at}
 use Rattle.yaml_read.proofs.stepping.innermost.Goals as goal
 

@@ -1,6 +1,4 @@
-use Rattle.std.proofs.Common.{◌≡◌, List, [], ◌++◌, ◌∷◌, take, sym, ◌∙◌, ap, append_assoc}
-use Rattle.std.proofs.lemmas.List.{map-append, take-map}
-use Rattle.yaml_laws.specs.Machine.{Frame}
+use Rattle.std.proofs.Common.{◌≡◌, [], ◌++◌, ◌∷◌, take, ◌∙◌}
 use Rattle.yaml_noted.specs.View.{comments_of, content_of}
 use Rattle.yaml_rows.specs.View.{row_of}
 use Rattle.yaml_read.specs.Steps.{with_next}
