@@ -1,8 +1,14 @@
+pub mod Blocks
+pub mod Contents
 pub mod EndedBehind
 pub mod Explicit
 pub mod Fitting
+pub mod Gives
 pub mod InParts
 pub mod MarkerBytes
+pub mod Openings
 pub mod Parts
 pub mod Segmenting
+pub mod Starts
+pub mod Turns
 pub mod Wholes
