@@ -15,8 +15,8 @@ ghost use Rattle.yaml_read.specs.Segments.{BeginsWithMarker, FitSegment, segment
 ghost use Rattle.yaml_read.specs.View.{part_of, passed_of};
 
 use crate::between::{first_content, push_comments, read_ended};
-use crate::markers::{behind_marker, is_start};
 use crate::frames::Found;
+use crate::markers::{behind_marker, is_start};
 use crate::pass::{Passed, pass_lines};
 use crate::segments::{Segment, first_line, split_front, split_segment};
 use sqlite_items::Items;
