@@ -1,6 +1,6 @@
 -- What the answer to the words is.
 use Rattle.ytt_base.specs.View.{trees_of}
-use Rattle.yaml_spec.specs.FirstText.{Text}
+use Rattle.yaml_spec.specs.Text.{Text}
 use Rattle.ytt_spec.specs.Due.{Due, done, fault, usage}
 use Rattle.ytt_main.specs.declared.answer.Answer.{Answer}
 use Rattle.ytt_main.specs.declared.answer.Answer.TheVariants as answer

@@ -4,8 +4,8 @@ use Rattle.ytt_base.specs.Trees.{Trees}
 use Rattle.ytt_outside.specs.Counts.{Rose}
 use Rattle.ytt_outside.specs.Sink.{Grows, GrowsByFront}
 use Rattle.ytt_outside.specs.Standing.{Standing}
-use Rattle.yaml_spec.specs.FirstReadsBack.{ReadsAlone}
-use Rattle.yaml_spec.specs.FirstText.{Text}
+use Rattle.yaml_spec.specs.ReadsBack.{ReadsAlone}
+use Rattle.yaml_spec.specs.Text.{Text}
 use Rattle.ytt_spec.specs.Due.{out_of_memory_line, write_failed_line}
 use Rattle.ytt_spec.specs.Requests.{IsFirstWrong}
 use Rattle.ytt_spec.specs.Words.{asked}

@@ -2,12 +2,11 @@
 use Rattle.std.specs.Prelude.{◌≡◌, ℕ, List, [], ◌∷◌, Option, Ok, Err, IfSome}
 use Rattle.ytt_base.specs.FaultText.{fault_line}
 use Rattle.ytt_base.specs.Outcomes.{Outcome}
-use Rattle.ytt_base.specs.Trees.{Trees}
+use Rattle.ytt_base.specs.Trees.{AreTrees, Trees, Writable}
 use Rattle.ytt_base.specs.View.{trees_of}
 use Rattle.ytt_base.specs.declared.fault.Fault.{Fault}
 use Rattle.ytt_outside.specs.Counts.{Rose}
 use Rattle.ytt_outside.specs.Standing.{Standing}
-use Rattle.yaml_spec.specs.FirstReadsBack.{AreFlat}
 use Rattle.ytt_spec.specs.Due.{read_failed_line, usage_line}
 use Rattle.ytt_spec.specs.Meaning.{Means, last_part}
 use Rattle.ytt_spec.specs.Words.{Asked, render, wrong}
@@ -48,9 +47,9 @@ pub record IsReadLine (asks : Asked) (before now : ℕ) (line : List ℕ) : Type
   pub rose : Rose before now
   pub line_is : line ≡ read_failed_line path
 
--- what stands behind an answer to the words; documents are of the form that reads back
+-- what stands behind an answer to the words; documents are such that their text reads back
 abbrev pub Found : Asked → Option (List ℕ → Standing) → ℕ → ℕ → Answer → Type 0
-Found asks files before now (answer.Documents trees) = AreMeant asks files before now (trees_of trees) × AreFlat (trees_of trees)
+Found asks files before now (answer.Documents trees) = AreMeant asks files before now (trees_of trees) × AreTrees (trees_of trees) × Writable (trees_of trees)
 Found asks files before now (answer.Fault line) = IsFaultLine asks files before now line
 Found asks files before now (answer.Usage line) = IsUsageLine asks before now line
 Found asks files before now (answer.ReadFailed line) = IsReadLine asks before now line

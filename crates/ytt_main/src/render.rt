@@ -1,12 +1,12 @@
 // What a request means over the files that are handed in.
 ghost use Rattle.std.specs.Prelude.{◌≡◌, ◌^◌, ◌<◌, IfOk, IfSome, length, true};
 ghost use Rattle.ytt_base.specs.Outcomes.{Gives, and_then};
+ghost use Rattle.ytt_base.specs.Trees.{AreTrees, Writable};
 ghost use Rattle.ytt_base.specs.View.{trees_of};
-ghost use Rattle.yaml_spec.specs.FlatNoted.{noted_documents};
-ghost use Rattle.yaml_spec.specs.FirstReadsBack.{AreFlat};
+ghost use Rattle.yaml_noted.specs.View.{documents_of};
 ghost use Rattle.star_spec.specs.Reading.{IsReader, Reader};
 ghost use Rattle.template_spec.specs.Placing.{placed};
-ghost use Rattle.ytt_spec.specs.Meaning.{Means, TextMeans, built, has_ending, is_template, last_part, not_built, path_fault, text_meaning};
+ghost use Rattle.ytt_spec.specs.Meaning.{Means, TextMeans, built, documents_meaning, has_ending, is_template, last_part, not_built, path_fault, text_meaning};
 ghost use Rattle.ytt_main.specs.Rendering.{Counts, IsNoFailure, IsNoFolder, IsReadFailure, Refuses, Renders};
 
 use star_eval::run_flat;
@@ -14,7 +14,7 @@ use star_read::a_reader_exists;
 use std::alloc::Global;
 use template_compile::compile_flat;
 use template_tree::place_flat;
-use yaml_read::{has_code, read_noted, read_plain};
+use yaml_read::{NotedDocs, has_code, plain_trees, read_noted};
 use ytt_base::fault::{Fault, FaultKind, Place, Stop};
 use ytt_base::text::Text;
 use ytt_base::tree::Trees;
@@ -83,15 +83,24 @@ fn read_failed(alloc: Global, path: &str) -> RenderStop
 }
 
 /// The documents that a template builds with so many steps, or its first fault.
-fn build(alloc: Global, bytes: &[u8], steps: u64) -> Result<Trees, Stop>
-    requires { length bytes.now < 2 ^ 32 }
-    ensures { (r : Reader) → IsReader r → Gives trees_of result (and_then (built steps) (and_then (placed r 1) (noted_documents 1 bytes.now))) }
+fn build(alloc: Global, documents: NotedDocs, steps: u64) -> Result<Trees, Stop>
+    ensures { (r : Reader) → IsReader r → Gives trees_of result (and_then (built steps) (placed r 1 (documents_of documents))) }
 {
-    let documents = read_noted(alloc, bytes, 1)?;
     let template = place_flat(alloc, documents, 1)?;
     let program = compile_flat(alloc, &template)?;
     let ran = run_flat(alloc, &program, steps)?;
     Ok(ran.documents)
+}
+
+/// What noted documents mean: with code they are a template, which is built, and without they are
+/// documents.
+fn resolve(alloc: Global, documents: NotedDocs, steps: u64) -> Result<Trees, Stop>
+    ensures { (r : Reader) → IsReader r → Gives trees_of result (documents_meaning r steps (documents_of documents)) }
+{
+    if has_code(&documents) {
+        return build(alloc, documents, steps);
+    }
+    plain_trees(alloc, &documents)
 }
 
 /// The documents of a text, or its first fault.
@@ -99,16 +108,15 @@ fn read_text(alloc: Global, bytes: &[u8], steps: u64) -> Result<Trees, Stop>
     requires { length bytes.now < 2 ^ 32 }
     ensures { (r : Reader) → IsReader r → Gives trees_of result (text_meaning r steps bytes.now) }
 {
-    if has_code(bytes) {
-        return build(alloc, bytes, steps);
-    }
-    read_plain(alloc, bytes, 1)
+    let documents = read_noted(alloc, bytes, 1)?;
+    resolve(alloc, documents, steps)
 }
 
 fn read_documents(alloc: Global, bytes: &[u8], steps: u64) -> Result<Trees, RenderStop>
     requires { length bytes.now < 2 ^ 32 }
     ensures documents { Renders (TextMeans steps bytes.now) result }
-    ensures flat { IfOk result (λ trees. AreFlat (trees_of trees)) }
+    ensures held { IfOk result (λ trees. AreTrees (trees_of trees)) }
+    ensures writable { IfOk result (λ trees. Writable (trees_of trees)) }
     ensures none_failed { IsNoFailure result }
 {
     a_reader_exists();
@@ -127,7 +135,8 @@ pub fn render<F: Files>(
     files: &mut F,
 ) -> Result<Trees, RenderStop>
     ensures told { IfSome (F.tree files.old) (λ tree. Renders (Means path.now steps (tree path.now)) result) }
-    ensures flat { IfOk result (λ trees. AreFlat (trees_of trees)) }
+    ensures held { IfOk result (λ trees. AreTrees (trees_of trees)) }
+    ensures writable { IfOk result (λ trees. Writable (trees_of trees)) }
     ensures keeps { F.tree files.new ≡ F.tree files.old }
     ensures cause { Counts path.now (F.faults files.old) (F.faults files.new) result }
 {
@@ -153,7 +162,8 @@ fn read_file<F: Files>(
 ) -> Result<Trees, RenderStop>
     requires { is_template (last_part path.now) ≡ true }
     ensures told { IfSome (F.tree files.old) (λ tree. IsNoFolder (tree path.now) → Renders (Means path.now steps (tree path.now)) result) }
-    ensures flat { IfOk result (λ trees. AreFlat (trees_of trees)) }
+    ensures held { IfOk result (λ trees. AreTrees (trees_of trees)) }
+    ensures writable { IfOk result (λ trees. Writable (trees_of trees)) }
     ensures keeps { F.tree files.new ≡ F.tree files.old }
     ensures cause { Counts path.now (F.faults files.old) (F.faults files.new) result }
 {
