@@ -32,3 +32,15 @@ collection_key t =
 -- a plain scalar where a key may stand
 unfoldable pub bare_key : List ℕ → Key_text
 bare_key t = elim (start_fault false t) [ Some k ↦ None | None ↦ key_with (plain_key false t) (behind_colon (behind false t)) ]
+
+-- the heads, where these stand before them
+abbrev pub with_heads : List Head → List Head × List ℕ → List Head × List ℕ
+with_heads hs r = (hs ++ r.0, r.1)
+
+-- the head of a key at the start of a text, if one stands there, and the text behind it
+unfoldable pub key_head : ℕ → Bool → List ℕ → List Head × List ℕ
+key_head column has_tab t =
+    elim (key_at t) [
+      | Some k ↦ (record { column = column; has_tab = has_tab; mark = key_mark k.0 } ∷ [], skip_white k.1)
+      | None ↦ ([], t)
+    ]
