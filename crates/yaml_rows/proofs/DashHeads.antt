@@ -1,8 +1,12 @@
 -- The heads of a line one after another.
-use Rattle.std.proofs.Common.{◌≡◌, ℕ, zero, suc, ◌+◌, ◌-◌, ◌<◌, ◌≤◌, Bool, true, false, List, [], ◌∷◌, ◌++◌, length, drop, Option, Some, None, option_map, refl, sym, ap, ◌∙◌, arith, length-drop, append_assoc}
-use Rattle.yaml_spec.specs.Bytes.{skip_white, passed}
+use Rattle.std.proofs.Common.{◌≡◌, ℕ, zero, suc, ◌+◌, ◌-◌, ◌≤◌, Bool, true, false, List, [], ◌∷◌, ◌++◌, length, drop, Option, Some, None, slice_get, refl, sym, ap, subst, ◌∙◌, arith, length-drop, append_assoc}
+use Rattle.yaml_spec.specs.Bytes.{is_empty, indent, skip_white, passed}
 use Rattle.yaml_spec.specs.Plain.{start_fault, span}
-use Rattle.yaml_spec.specs.Rows.{Mark, dash_mark, key_mark, Key_text, Head, heads_of, key_at, is_dash, has_tab_before}
+use Rattle.yaml_spec.specs.Rows.{Mark, dash_mark, key_mark, Key_text, Head, heads_of, key_at, is_dash, has_tab_before, least_behind, open_place_of, row_at}
+use Rattle.yaml_spec.specs.Lines.{Line}
+use Rattle.yaml_spec.specs.Noted.{Comment}
+use Rattle.yaml_rows.specs.declared.row.Head as held
+use Rattle.yaml_rows.specs.View.{heads_of as held_heads}
 use Rattle.yaml_rows.specs.Heads.{marked, key_head, with_heads}
 use Rattle.yaml_text.proofs.Whites.{skip_white-length}
 
@@ -99,3 +103,56 @@ heads-dash hs column next has_tab (b ∷ t) u v h e f g =
 pub heads-key : (column : ℕ) (has_tab : Bool) (t : List ℕ) → is_dash t ≡ false → heads_from column has_tab t ≡ key_head column has_tab t
 heads-key column has_tab [] h = heads-empty 0 column has_tab ∙ sym (key_head-none column has_tab [] (rw no_key refl))
 heads-key column has_tab (b ∷ t) h = heads-key-suc (length t) column has_tab (b ∷ t) h
+
+-- ---- the least indent behind heads
+
+least_behind-more : (least bound : ℕ) (h : Head) (hs : List Head) → suc h.column ≤ bound → least_behind least hs ≤ bound → least_behind least (h ∷ hs) ≤ bound
+least_behind-more least bound h [] a b = a
+least_behind-more least bound h (i ∷ hs) a b = b
+
+key-within : (least bound column : ℕ) (has_tab : Bool) (t : List ℕ) → least ≤ bound → column + length t ≤ bound → least_behind least (key_head column has_tab t).0 ≤ bound
+key-within least bound column has_tab [] a b = rw (key_head-none column has_tab [] (rw no_key refl)) a
+key-within least bound column has_tab (x ∷ t) a b = by (key_at (x ∷ t)) refl where
+  by : (o : Key_text) → key_at (x ∷ t) ≡ o → least_behind least (key_head column has_tab (x ∷ t)).0 ≤ bound
+  by (Some k) e = rw (key_head-some column has_tab (x ∷ t) (key_mark k.0) k.1 (rw e refl)) (omega arith)
+  by None e = rw (key_head-none column has_tab (x ∷ t) (rw e refl)) a
+
+-- each head takes a byte, and so stands before the line's end
+least-within : (n least bound column : ℕ) (has_tab : Bool) (t : List ℕ) → least ≤ bound → column + length t ≤ bound → least_behind least (heads_of n column has_tab t).0 ≤ bound
+unfolding heads_of
+least-within zero least bound column has_tab t a b = a
+least-within (suc n) least bound column has_tab t a b = by (is_dash t) refl (least-within n least bound) where
+  by : (v : Bool) → is_dash t ≡ v → ((column : ℕ) (has_tab : Bool) (t : List ℕ) → least ≤ bound → column + length t ≤ bound → least_behind least (heads_of n column has_tab t).0 ≤ bound)
+      → least_behind least (heads_of (suc n) column has_tab t).0 ≤ bound
+  by true e more =
+      let shorter = dash-shorter t e in
+      let one = length-drop 1 t in
+      let left = skip_white-length (drop 1 t) in
+      rw (heads-dash-suc n column has_tab t e)
+      (least_behind-more least bound (head_at column has_tab dash_mark)
+      (heads_of n (column + 1 + passed (drop 1 t) (skip_white (drop 1 t))) (has_tab_before (drop 1 t)) (skip_white (drop 1 t))).0
+      (omega (arith, shorter)) (more _ _ (skip_white (drop 1 t)) a (omega (arith, shorter, one, left))))
+  by false e more = rw (heads-key-suc n column has_tab t e) (key-within least bound column has_tab t a b)
+
+pub least-heads : (least bound column : ℕ) (has_tab : Bool) (t : List ℕ) (hs : List Head) (r : List ℕ) → least ≤ bound → column + length t ≤ bound → (hs, r) ≡ heads_from column has_tab t → least_behind least hs ≤ bound
+least-heads least bound column has_tab t hs r a b e = subst (λ (p : List Head × List ℕ). least_behind least p.0 ≤ bound) (sym e) (least-within (length t) least bound column has_tab t a b)
+
+pub least_behind-last : (least : ℕ) (hs : List held.Head) (h : held.Head) → Some h ≡ slice_get hs (length hs - 1) → least_behind least (held_heads hs) ≡ h.column + 1
+least_behind-last least [] h e = cc
+least_behind-last least (x ∷ []) h e = let same : h ≡ x = cc in rw same (omega arith)
+least_behind-last least (x ∷ y ∷ hs) h e =
+    let less : suc (suc (length hs)) - 1 ≡ suc (length hs) = omega arith in
+    let less_too : suc (length hs) - 1 ≡ length hs = omega arith in
+    least_behind-last least (y ∷ hs) h (rw less_too (rw less at e))
+
+pub heads-some : (hs : List held.Head) → (hs ≡ [] → ⊥) → is_empty (held_heads hs) ≡ false
+heads-some [] h = absurd (h refl)
+heads-some (x ∷ hs) h = refl
+
+-- ---- the row of a line
+
+pub row_at-made : (stop : ℕ) (is_owned : Bool) (least : ℕ) (before : List Comment) (l : Line) (ls : List Line) (hs : List Head) (r : List ℕ)
+    → (hs, r) ≡ heads_from (passed l.text (skip_white l.text)) (has_tab_before l.text) (skip_white l.text)
+    → record { place = l.place; indent = indent l.text; heads = hs; before = before; is_owned = is_owned; least = least_behind least hs; open_place = open_place_of stop l.place; text = r; below = ls } ≡ row_at stop is_owned least before l ls
+unfolding row_at
+row_at-made stop is_owned least before l ls hs r e = rw (← e) refl

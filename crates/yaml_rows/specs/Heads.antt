@@ -1,13 +1,12 @@
 -- Heads one after another (YAML 1.2.2, 8.2).
-use Rattle.std.specs.Prelude.{ℕ, Bool, true, false, List, [], ◌∷◌, ◌++◌, Option, Some, None, Ok, Err, option_map}
+use Rattle.std.specs.Prelude.{ℕ, Bool, false, List, [], ◌∷◌, ◌++◌, Option, Some, None, Ok, Err, option_map}
 use Rattle.ytt_base.specs.declared.fault.FaultKind.TheVariants as kind
 use Rattle.ytt_base.specs.Trees.{max_depth}
 use Rattle.yaml_spec.specs.Bytes.{skip_white}
 use Rattle.yaml_spec.specs.Flow.{flow}
 use Rattle.yaml_spec.specs.Plain.{start_fault, behind, plain_key}
-use Rattle.yaml_spec.specs.Quotes.{quote_on_line}
 use Rattle.yaml_spec.specs.Refusals.{nowhere}
-use Rattle.yaml_spec.specs.Rows.{Mark, key_mark, Head, Key_text, behind_colon, key_with, quoted_key, key_at}
+use Rattle.yaml_spec.specs.Rows.{Mark, key_mark, Head, Key_text, behind_colon, key_with, key_at}
 
 -- what begins a pair, and the text behind its colon
 abbrev pub Marked : Type 0

@@ -1,7 +1,6 @@
-use Rattle.std.proofs.Common.{◌≡◌, ℕ, suc, ◌+◌, ◌-◌, ◌≤◌, ◌∙◌, length, refl, sym, ap, arith, rules, length-drop}
-use Rattle.std.proofs.lemmas.List.{map_push, append-nil}
+use Rattle.std.proofs.Common.{◌≡◌, suc, ◌-◌, ◌≤◌, ◌∙◌, length, refl, sym, arith, rules, length-drop}
+use Rattle.std.proofs.lemmas.List.{map_push}
 use Rattle.yaml_rows.specs.View.{heads_of}
-use Rattle.yaml_rows.specs.Heads.{with_heads}
 use Rattle.yaml_text.proofs.Whites.{skip_white-length}
 use Rattle.yaml_rows.proofs.DashHeads.{dash-shorter, heads-dash, heads-key}
 use Rattle.yaml_rows.proofs.heads.read_heads.Goals as goal

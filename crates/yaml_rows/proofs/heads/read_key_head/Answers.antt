@@ -1,4 +1,4 @@
-use Rattle.std.proofs.Common.{◌∙◌, sym, ap}
+use Rattle.std.proofs.Common.{sym}
 use Rattle.std.proofs.lemmas.List.{append-nil, map_push}
 use Rattle.yaml_rows.specs.View.{mark_of}
 use Rattle.yaml_rows.proofs.DashHeads.{key_head-some, key_head-none}
