@@ -1,6 +1,6 @@
 -- What a text means, step by step, and that it reads back.
-use Rattle.std.proofs.Common.{◌≡◌, ℕ, Bool, refl, true, false, if◌then◌else◌, List, Result, Ok, subst, sym}
-use Rattle.ytt_base.specs.Outcomes.{Gives, Outcome, ◌>>=◌}
+use Rattle.std.proofs.Common.{◌≡◌, ℕ, true, false, if◌then◌else◌, List, Result, Ok, subst, sym}
+use Rattle.ytt_base.specs.Outcomes.{Gives, ◌>>=◌}
 use Rattle.ytt_base.specs.Trees.{Trees}
 use Rattle.ytt_base.specs.View.{trees_of}
 use Rattle.ytt_base.specs.declared.fault.Stop.{Stop}
