@@ -2,6 +2,10 @@
 #![tactic(auto)]
 
 #[cfg(test)]
-mod rows;
+mod noted;
 #[cfg(test)]
-mod shown;
+mod parts;
+#[cfg(test)]
+mod placed;
+#[cfg(test)]
+mod rows;
