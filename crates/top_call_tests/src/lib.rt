@@ -2,6 +2,12 @@
 #![tactic(auto)]
 
 #[cfg(test)]
+mod deployment;
+#[cfg(test)]
+mod forms;
+#[cfg(test)]
+mod nesting;
+#[cfg(test)]
 mod outsides;
 #[cfg(test)]
 mod printing;

@@ -206,15 +206,44 @@ fn a_path_of_one_byte_more(rt: HostRuntime) -> Result<(), Fail> {
     Ok(())
 }
 
-#[test]
-fn the_largest_file_and_one_byte_more(rt: HostRuntime) -> Result<(), Fail> {
-    for (more, err) in [
-        (0, "error: NotBuilt at a.yml:1\n"),
-        (1, "error: FileTooLarge: a.yml\n"),
+/// A pair of so many bytes.
+fn pair_of(alloc: Global, len: usize) -> Result<Vec<u8>, AllocError> {
+    let mut text = vec![in alloc; b'x'; len]?;
+    for (at, byte) in [
+        (0, b'a'),
+        (1, b':'),
+        (2, b' '),
+        (len.saturating_sub(1), b'\n'),
     ] {
-        let text = vec![in rt.alloc(); b'\n'; 8388608 + more]?;
-        let ran = run(rt.alloc(), WORDS, "a.yml", text.as_slice(), NOTHING)?;
-        compare(&rt, &ran, Status::Fault, b"", err);
+        if let Some(place) = text.get_mut(at) {
+            *place = byte;
+        }
     }
+    Ok(text)
+}
+
+#[test]
+fn the_largest_file(rt: HostRuntime) -> Result<(), Fail> {
+    let text = pair_of(rt.alloc(), 8388608)?;
+    let failing = Failing {
+        out_room: 8388608,
+        ..NOTHING
+    };
+    let ran = run(rt.alloc(), WORDS, "a.yml", text.as_slice(), failing)?;
+    compare(&rt, &ran, Status::Done, text.as_slice(), "");
+    Ok(())
+}
+
+#[test]
+fn a_file_of_one_byte_more(rt: HostRuntime) -> Result<(), Fail> {
+    let text = pair_of(rt.alloc(), 8388609)?;
+    let ran = run(rt.alloc(), WORDS, "a.yml", text.as_slice(), NOTHING)?;
+    compare(
+        &rt,
+        &ran,
+        Status::Fault,
+        b"",
+        "error: FileTooLarge: a.yml\n",
+    );
     Ok(())
 }

@@ -1,8 +1,9 @@
-// The printer on trees that can't be read yet.
+// Trees made by hand, printed, and what is printed of that text.
 
 use crate::runs::{NOTHING, compare, run};
 use sqlite_items::Items;
 use std::alloc::Global;
+use std::process::Abort;
 use std::test::Fail;
 use yaml_print::print_to;
 use ytt_base::text::Text;
@@ -50,8 +51,7 @@ fn collections_in_collections(rt: HostRuntime) -> Result<(), Fail> {
     trees.push(Tree::Map(Items::new(alloc)))?;
     trees.push(Tree::Bool(false))?;
     let text = "true:\n- - b\n  - \"\"\n- -1:\n  - null\n  - \"yes\": []\n---\n{}\n---\nfalse\n";
-    assert_eq!(rt; printed(alloc, &trees)?.bytes(), text.as_bytes());
-    Ok(())
+    reads_back(&rt, alloc, &trees, text)
 }
 
 #[test]
@@ -74,32 +74,84 @@ fn strings(rt: HostRuntime) -> Result<(), Fail> {
     ] {
         let mut trees: Trees = Items::new(alloc);
         trees.push(string(alloc, text)?)?;
-        assert_eq!(rt; printed(alloc, &trees)?.bytes(), want.as_bytes());
+        reads_back(&rt, alloc, &trees, want)?;
     }
     Ok(())
 }
 
-/// A map of one string under the key `a`, printed, and that text rendered.
+/// The trees print as this text, and a file of this text prints itself.
+fn reads_back(rt: &impl Abort, alloc: Global, trees: &Trees, want: &str) -> Result<(), Fail> {
+    assert_eq!(rt; printed(alloc, trees)?.bytes(), want.as_bytes(), "{want}");
+    let words = ["render", "-f", "a.yml"];
+    let ran = run(alloc, &words, "a.yml", want.as_bytes(), NOTHING)?;
+    compare(rt, &ran, Status::Done, want.as_bytes(), "");
+    Ok(())
+}
+
+/// A string, and the text of a map that has it under the key `a`.
+const READ_BACK: &[(&str, &str)] = &[
+    ("0644", "a: \"0644\"\n"),
+    ("089", "a: \"089\"\n"),
+    ("Null", "a: \"Null\"\n"),
+    ("NO", "a: \"NO\"\n"),
+    ("1e3", "a: \"1e3\"\n"),
+    ("yes", "a: \"yes\"\n"),
+    ("", "a: \"\"\n"),
+    ("web", "a: web\n"),
+    ("a b", "a: a b\n"),
+    ("a: b", "a: \"a: b\"\n"),
+    ("a #b", "a: \"a #b\"\n"),
+    ("- a", "a: \"- a\"\n"),
+    ("...", "a: \"...\"\n"),
+    ("<<", "a: \"<<\"\n"),
+    ("a\nb", "a: |-\n  a\n  b\n"),
+    ("a\n", "a: |\n  a\n"),
+    ("a\n\n\nb\n\n", "a: |+\n  a\n\n\n  b\n\n"),
+    ("# a\n---\n", "a: |\n  # a\n  ---\n"),
+    ("\na", "a: \"\\na\"\n"),
+    ("a \nb", "a: \"a \\nb\"\n"),
+    ("a\n b", "a: \"a\\n b\"\n"),
+    ("\u{1F600}\u{A0}", "a: \"\u{1F600}\\xA0\"\n"),
+];
+
 #[test]
 fn strings_that_read_back(rt: HostRuntime) -> Result<(), Fail> {
     let alloc = rt.alloc();
-    for (text, want) in [
-        ("0644", "a: \"0644\"\n"),
-        ("Null", "a: \"Null\"\n"),
-        ("NO", "a: \"NO\"\n"),
-        ("1e3", "a: \"1e3\"\n"),
-        ("yes", "a: \"yes\"\n"),
-        ("", "a: \"\"\n"),
-        ("web", "a: web\n"),
-    ] {
+    for (text, want) in READ_BACK {
         let mut trees: Trees = Items::new(alloc);
         trees.push(map(alloc, Key::Str(Text::of(alloc, "a")?), string(alloc, text)?)?)?;
-        let out = printed(alloc, &trees)?;
-        let words = ["render", "-f", "a.yml"];
-        let ran = run(alloc, &words, "a.yml", out.bytes(), NOTHING)?;
-        compare(&rt, &ran, Status::Done, want.as_bytes(), "");
+        reads_back(&rt, alloc, &trees, want)?;
     }
     Ok(())
+}
+
+/// One string after another: empty, words, a number's form, white space, a colon, breaks, and a letter
+/// past ASCII.
+const PAIRS: &[(&str, &str)] = &[
+    ("a", ""),
+    ("b", "yes"),
+    ("c", "1"),
+    ("d", " a"),
+    ("e", "a: b"),
+    ("f", "x\ny\n"),
+    ("g", "é"),
+];
+
+#[test]
+fn a_map_of_strings_reads_back(rt: HostRuntime) -> Result<(), Fail> {
+    let alloc = rt.alloc();
+    let mut pairs: Pairs = Items::new(alloc);
+    for (key, text) in PAIRS {
+        push_pair(
+            &mut pairs,
+            Key::Str(Text::of(alloc, key)?),
+            string(alloc, text)?,
+        )?;
+    }
+    let mut trees: Trees = Items::new(alloc);
+    trees.push(Tree::Map(pairs))?;
+    let want = "a: \"\"\nb: \"yes\"\nc: \"1\"\nd: \" a\"\ne: \"a: b\"\nf: |\n  x\n  y\ng: é\n";
+    reads_back(&rt, alloc, &trees, want)
 }
 
 #[test]
@@ -110,6 +162,5 @@ fn the_widest_integers(rt: HostRuntime) -> Result<(), Fail> {
     trees.push(Tree::Int(i128::MAX))?;
     let text =
         "-170141183460469231731687303715884105728\n---\n170141183460469231731687303715884105727\n";
-    assert_eq!(rt; printed(alloc, &trees)?.bytes(), text.as_bytes());
-    Ok(())
+    reads_back(&rt, alloc, &trees, text)
 }

@@ -7,10 +7,11 @@ use ytt_main::Status;
 /// Texts of `a.yml`, and what `render -f a.yml` prints of them.
 const PRINTED: &[(&str, &str)] = &[
     ("", ""),
+    ("\n# nothing\n", ""),
     ("name: web\nport: 80\n", "name: web\nport: 80\n"),
     ("a: b", "a: b\n"),
     ("a: -7\nb: 0\n", "a: -7\nb: 0\n"),
-    ("a: -0\n", "a: 0\n"),
+    ("a: -0\nb: +5\n", "a: 0\nb: 5\n"),
     (
         "a: \"1\"\nb: \"yes\"\nc: \"\"\n",
         "a: \"1\"\nb: \"yes\"\nc: \"\"\n",
@@ -22,39 +23,76 @@ const PRINTED: &[(&str, &str)] = &[
     ("a: \"0644\"\n", "a: \"0644\"\n"),
     ("a: \"0x1f\"\nb: \"1e3\"\n", "a: \"0x1f\"\nb: \"1e3\"\n"),
     (
-        "a: 99999999999999999999999999999999999999\n",
-        "a: 99999999999999999999999999999999999999\n",
+        "a: 170141183460469231731687303715884105727\n",
+        "a: 170141183460469231731687303715884105727\n",
     ),
     (
-        "a: -99999999999999999999999999999999999999\n",
-        "a: -99999999999999999999999999999999999999\n",
+        "a: -170141183460469231731687303715884105728\n",
+        "a: -170141183460469231731687303715884105728\n",
     ),
+    (
+        "mode: 0644\nmask: 0o17\ncolour: 0xFF\n",
+        "mode: 420\nmask: 15\ncolour: 255\n",
+    ),
+    (
+        "a: yes\nb: 'c'\nd: 7up\ne: \"f g\"\n",
+        "a: \"yes\"\nb: c\nd: 7up\ne: f g\n",
+    ),
+    (
+        "Null: 1\n\"null\": ~\nTRUE: no\n",
+        "null: 1\n\"null\": null\ntrue: \"no\"\n",
+    ),
+    ("a:  é \n\nb:\n", "a: é\nb: null\n"),
+    ("a: 1\r\n", "a: 1\n"),
+    ("a: 1 # note\n", "a: 1\n"),
+    (
+        "a: '#@ 1'\nb: x#@ 1\nc: 2 # #@ 1\n",
+        "a: \"#@ 1\"\nb: x#@ 1\nc: 2\n",
+    ),
+    ("---\na: 1\n---\n---\nb: 2\n", "a: 1\n---\nb: 2\n"),
+    ("---\nx\n---\ny\n", "x\n---\n\"y\"\n"),
+    ("a: >-\n  p\n  q\n", "a: p q\n"),
+    ("a: |+\n  p\n\n\n", "a: |+\n  p\n\n\n"),
+    ("a:\n  [1]\nb:\n  \"x\"\n", "a:\n- 1\nb: x\n"),
+    (
+        "a: 1\nb: [1, {c: 2, d: []}]\n",
+        "a: 1\nb:\n- 1\n- c: 2\n  d: []\n",
+    ),
+    (
+        "a:\n    b:\n        - - 1\n          - 2\n        -\n",
+        "a:\n  b:\n  - - 1\n    - 2\n  - null\n",
+    ),
+    ("a: x\n  y\n\n  z\nb: 1\n", "a: |-\n  x y\n  z\nb: 1\n"),
 ];
 
-/// Texts of `a.yml` with a line that is refused, and the first refusal.
+/// Texts of `a.yml` that are refused, and the first refusal.
 const REFUSED: &[(&str, &str)] = &[
-    ("a: 1\nb: [1]\n", "NotBuilt at a.yml:2"),
-    ("a: 1\nb: [1]", "NotBuilt at a.yml:2"),
-    ("a: 1\r\nb: 2\r\n", "NotBuilt at a.yml:1"),
-    ("a: 1\nb: 2\na: 3\n", "NotBuilt at a.yml:3"),
+    ("a: {\n", "YamlForm at a.yml:1"),
+    ("a: \"x\n", "YamlForm at a.yml:1"),
+    ("a:\n\tb: 1\n", "YamlTab at a.yml:2"),
+    ("mode: 0689\n", "YamlOut at a.yml:1"),
+    ("a: 1\nb: &c 2\n", "YamlOut at a.yml:2"),
+    ("a: 1\nb: \u{7}\n", "BadChar at a.yml:2"),
     (
-        "a: 100000000000000000000000000000000000000\n",
-        "NotBuilt at a.yml:1",
+        "a: 170141183460469231731687303715884105728\n",
+        "IntWide at a.yml:1",
     ),
-    ("a: 01\n", "NotBuilt at a.yml:1"),
-    ("a: 7up\n", "NotBuilt at a.yml:1"),
-    ("a: 'b'\n", "NotBuilt at a.yml:1"),
-    ("a: \"b c\"\n", "NotBuilt at a.yml:1"),
-    ("a: \"b\n", "NotBuilt at a.yml:1"),
     ("v: 1.5\n", "FloatScalar at a.yml:1"),
     ("a: 1\nv: -0.5\n", "FloatScalar at a.yml:2"),
-    ("a: [1]\nv: 1.5\n", "NotBuilt at a.yml:1"),
-    ("v: 1.5\na: [1]\n", "FloatScalar at a.yml:1"),
-    ("a: yes\n", "NotBuilt at a.yml:1"),
-    ("Null: 1\n", "NotBuilt at a.yml:1"),
-    ("a: 1\n\nb: 2\n", "NotBuilt at a.yml:2"),
-    ("a:  1\n", "NotBuilt at a.yml:1"),
-    ("a: é\n", "NotBuilt at a.yml:1"),
+    ("a: [1]\nv: 1.5\n", "FloatScalar at a.yml:2"),
+    ("v: 1.5\na: {\n", "FloatScalar at a.yml:1"),
+    ("a: 1\n---\nb: 2\n c\nd\n", "YamlForm at a.yml:5"),
+    ("a: 1\na: 2\n", "KeyTwice at a.yml:2: a"),
+    ("a: 1\nb: 2\n\"a\": 3\n", "KeyTwice at a.yml:3: a"),
+    ("'a b': 1\na b: 2\n", "KeyTwice at a.yml:2: a b"),
+    ("\"1\": 1\n1: 2\n'1': 3\n", "KeyTwice at a.yml:3: \"1\""),
+    (
+        "a:\n  x: 1\n  b:\n    k: 1\n    k: 2\nc:\n- d: 1\n  d: 2\n",
+        "KeyTwice at a.yml:5: k",
+    ),
+    ("a:\n  k: 1\n  k: 2\na: 3\n", "KeyTwice at a.yml:3: k"),
+    ("a: 1\n---\nb: 1\nb: 2\n", "KeyTwice at a.yml:4: b"),
+    ("a: 1\na: 2\nb: [\n", "YamlForm at a.yml:3"),
 ];
 
 /// Words that are no request, and the number of the first at which none goes on.
@@ -115,6 +153,9 @@ fn texts_that_are_printed(rt: HostRuntime) -> Result<(), Fail> {
         let words = ["render", "-f", "a.yml"];
         let ran = run(rt.alloc(), &words, "a.yml", text.as_bytes(), NOTHING)?;
         compare(&rt, &ran, Status::Done, printed.as_bytes(), "");
+        // what is printed prints itself
+        let ran = run(rt.alloc(), &words, "a.yml", printed.as_bytes(), NOTHING)?;
+        compare(&rt, &ran, Status::Done, printed.as_bytes(), "");
     }
     Ok(())
 }
@@ -127,6 +168,14 @@ fn texts_that_are_refused(rt: HostRuntime) -> Result<(), Fail> {
         let err = format!(in rt.alloc(); "error: {fault}\n")?;
         compare(&rt, &ran, Status::Fault, b"", err.as_str());
     }
+    Ok(())
+}
+
+#[test]
+fn a_text_that_is_no_utf8(rt: HostRuntime) -> Result<(), Fail> {
+    let words = ["render", "-f", "a.yml"];
+    let ran = run(rt.alloc(), &words, "a.yml", b"\x61\x3A\x20\xFF", NOTHING)?;
+    compare(&rt, &ran, Status::Fault, b"", "error: NotUtf8 at a.yml:1\n");
     Ok(())
 }
 

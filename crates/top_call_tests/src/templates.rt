@@ -113,7 +113,6 @@ const REFUSED: &[(&str, &str)] = &[
     ("a: #@ 1 // 0\nb: #@ x\n", "NotBuilt at a.yml:2"),
     ("a: #@ 1 // 0\nb: 1.5\n", "FloatScalar at a.yml:2"),
     ("a: 1\n#@ x = 1\n", "NotBuilt at a.yml:2"),
-    ("a: #@ 1\na: #@ 2\n", "NotBuilt at a.yml:2"),
     (
         "a: #@ 170141183460469231731687303715884105728\n",
         "NotBuilt at a.yml:1",
@@ -138,6 +137,12 @@ const BUDGETS: &[(&str, u32, u32)] = &[
     ("a: #@ \"abcdefghijklmnop\" * -1\n", 7, 1),
     ("a: \"abcdefghijklmnopqrstuvwxyz012345\"\nb: #@ 1\n", 4, 2),
     ("abcdefghijklmnopq: #@ 1\n", 3, 1),
+    (
+        "'abcdefghijklmnop q': |\n  abcdefghijklmnopq\nb: #@ 1\n",
+        4,
+        3,
+    ),
+    ("a: 1\n---\nb: #@ 1\n", 5, 3),
 ];
 
 /// Code of `a`, a budget, and the fault: an operation takes its step before its operands, and refuses
