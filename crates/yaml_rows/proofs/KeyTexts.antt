@@ -1,16 +1,15 @@
 -- Keys by what begins them.
-use Rattle.std.proofs.Common.{◌≡◌, ℕ, true, false, List, [], Option, Some, None, Result, Ok, Err, option_map, is_some, refl, sym, ap, ◌∙◌}
+use Rattle.std.proofs.Common.{◌≡◌, ℕ, true, false, List, [], Option, Some, None, Result, Ok, Err, option_map, is_some, refl}
 use Rattle.ytt_base.specs.declared.fault.Fault.{Fault}
 use Rattle.ytt_base.specs.declared.fault.FaultKind.{FaultKind}
 use Rattle.ytt_base.specs.declared.fault.FaultKind.TheVariants as kind
-use Rattle.ytt_base.specs.Outcomes.{Outcome}
 use Rattle.ytt_base.specs.Trees.{Scalar, max_depth}
 use Rattle.yaml_spec.specs.Flow.{Node, flow, starts_collection}
 use Rattle.yaml_spec.specs.Plain.{start_fault, behind, plain_key}
 use Rattle.yaml_spec.specs.Quotes.{Cursor, quote_on_line, starts_quote}
 use Rattle.yaml_spec.specs.Refusals.{nowhere}
-use Rattle.yaml_spec.specs.Rows.{Mark, key_mark, behind_colon, key_with, quoted_key, key_at}
-use Rattle.yaml_rows.specs.Heads.{Marked, marked, marked_by, collection_key, bare_key}
+use Rattle.yaml_spec.specs.Rows.{key_mark, behind_colon, key_with, quoted_key, key_at}
+use Rattle.yaml_rows.specs.Heads.{marked, marked_by, collection_key, bare_key}
 
 pub key_at-quoted : (t : List ℕ) → starts_quote t ≡ true → key_at t ≡ quoted_key (quote_on_line t)
 unfolding key_at

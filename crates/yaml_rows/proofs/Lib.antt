@@ -1,2 +1,3 @@
+pub mod DashHeads
 pub mod KeyTexts
 pub mod Openings

@@ -1,5 +1,5 @@
 -- Values by what begins them (YAML 1.2.2, 7.5 and 8.1).
-use Rattle.std.specs.Prelude.{ℕ, Bool, true, false, ◌==◌, List, Ok}
+use Rattle.std.specs.Prelude.{ℕ, true, false, ◌==◌, List}
 use Rattle.ytt_base.specs.declared.fault.FaultKind.TheVariants as kind
 use Rattle.ytt_base.specs.declared.fault.Place.{Place}
 use Rattle.ytt_base.specs.Outcomes.{Outcome, ◌>>=◌}

@@ -44,6 +44,7 @@ fn marked_by<'a>(mark: Mark, text: &'a str) -> Option<(Mark, &'a str)>
     }
 }
 
+/// The key in quotes that close on its line, and the text behind its colon.
 fn read_quoted_key<'a>(alloc: Global, text: &'a str) -> Result<Option<(Mark, &'a str)>, Memory>
     requires { starts_quote text.now ≡ true }
     ensures { IfOk result (λ o. option_map (λ k. (mark_of k.0, k.1.now)) o ≡ marked (quoted_key (quote_on_line text.now))) }
@@ -54,7 +55,8 @@ fn read_quoted_key<'a>(alloc: Global, text: &'a str) -> Result<Option<(Mark, &'a
     }
 }
 
-/// A collection in brackets is no key of this profile.
+/// A collection in brackets where a key stands, which is none of this profile, and the text behind its
+/// colon.
 fn read_collection_key<'a>(alloc: Global, text: &'a str) -> Result<Option<(Mark, &'a str)>, Memory>
     ensures { IfOk result (λ o. option_map (λ k. (mark_of k.0, k.1.now)) o ≡ marked (collection_key text.now)) }
 {
@@ -83,6 +85,7 @@ fn plain_mark(alloc: Global, text: &str) -> Result<Mark, Memory>
     }
 }
 
+/// The plain key at the start of a text, and the text behind its colon.
 fn read_bare_key<'a>(alloc: Global, text: &'a str) -> Result<Option<(Mark, &'a str)>, Memory>
     ensures { IfOk result (λ o. option_map (λ k. (mark_of k.0, k.1.now)) o ≡ marked (bare_key text.now)) }
 {

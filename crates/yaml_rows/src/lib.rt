@@ -1,6 +1,7 @@
 //! Logical lines: what begins an entry on a line, and the value behind it.
 #![tactic(auto)]
 
+mod heads;
 mod keys;
 mod row;
 mod rows;

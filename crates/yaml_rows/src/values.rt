@@ -123,6 +123,7 @@ fn read_ended(
     Err(refusal(alloc, FaultKind::YamlForm, end.place))
 }
 
+/// The value that a flow collection is, with the comment behind it.
 fn read_flow_value(
     alloc: Global,
     left: u32,
@@ -137,6 +138,7 @@ fn read_flow_value(
     read_ended(alloc, owner, content, loose, end)
 }
 
+/// The value that a string in quotes is, with the comment behind it.
 fn read_quote_value(
     alloc: Global,
     open_place: Place,
@@ -164,6 +166,7 @@ fn has_stray_note(is_owned: bool, text: &str) -> bool
     !is_owned && ends_header(text) && is_note(skip_white(text))
 }
 
+/// The value that a block scalar is, with the comment on the line of its header.
 #[tactic(auto, unfolding(crate::specs::Pieces::block_value))]
 fn read_block_value(
     alloc: Global,
@@ -194,6 +197,7 @@ fn read_block_value(
     )
 }
 
+/// The value that a plain scalar is, with the comment behind it.
 fn read_plain_value(
     alloc: Global,
     least: usize,
