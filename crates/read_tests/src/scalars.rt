@@ -33,7 +33,9 @@ const PLAIN: &[Row] = &[
     ("a: b#c", "{'a'='b#c'}"),
     ("a: b #c", "{'a'='b'}"),
     ("a: b:c", "{'a'='b:c'}"),
-    ("a: b:\tc", "YamlForm at 1"),
+    ("a: b:\tc", "{'a'='b:\tc'}"),
+    ("a: b:\t", "YamlForm at 1"),
+    ("a: b:\t# c", "YamlForm at 1"),
     ("a: b :c", "{'a'='b :c'}"),
     ("a: b :", "YamlForm at 1"),
     ("a: b,[c]{d}", "{'a'='b,[c]{d}'}"),
@@ -61,7 +63,8 @@ const PLAIN: &[Row] = &[
     // a line with a colon, or one at its end
     ("a: b\n  c: d", "YamlForm at 2"),
     ("a: b\n  c\n  d:", "YamlForm at 3"),
-    ("a: b\n  c:\td", "YamlForm at 2"),
+    ("a: b\n  c:\td", "{'a'='b c:\td'}"),
+    ("a: b\n  c:\t", "YamlForm at 2"),
     ("a: b\n  : d", "YamlForm at 2"),
     ("a: [b\nc: d]", "YamlForm at 2"),
     // a comment ends it
