@@ -2,7 +2,7 @@
 use Rattle.std.proofs.Common.{◌≡◌, ℕ, zero, suc, ◌<◌, true, ◌&&◌, List, [], ◌∷◌, ◌++◌, length, get_or, sym, ap, ◌∙◌, arith}
 use Rattle.std.proofs.Math.Bool.{and-true}
 use Rattle.std.proofs.lemmas.List.Folds.{list_all-append}
-use Rattle.yaml_spec.proofs.Numerals.{both}
+use Rattle.yaml_spec.proofs.Runs.{both}
 use Rattle.star_spec.specs.Program.{ItemKind}
 use Rattle.star_tree.specs.declared.program.Instr.{Instr}
 use Rattle.star_tree.specs.declared.program.Instr.TheVariants as instr

@@ -8,7 +8,7 @@ use Rattle.template_tree.specs.declared.tree.TItem as item
 use Rattle.template_tree.specs.declared.tree.TItem.{TItem}
 use Rattle.template_tree.specs.declared.tree.TNode.{TNode}
 use Rattle.template_tree.specs.Parts.{is_scalar}
-use Rattle.yaml_spec.proofs.Numerals.{both}
+use Rattle.yaml_spec.proofs.Runs.{both}
 use Rattle.template_tree.specs.Scalars.{content_has_scalars, have_scalars, item_has_scalars}
 
 pub item-Node : (n : TNode) → item_has_scalars (item.Node n) ≡ content_has_scalars n.content

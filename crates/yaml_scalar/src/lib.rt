@@ -24,9 +24,7 @@ mod words;
 
 pub use block::read_block;
 pub use blocks::read_block_at;
-pub use bytes::{all_digits, all_letters_or_digits};
-pub use folding::{Folded, Joint, fold};
-pub use form::is_string;
+pub use folding::{Folded, fold};
 pub use header::{ends_header, header_rest};
 pub use key::key_text;
 pub use kind::{ScalarKind, plain_kind};
@@ -36,4 +34,3 @@ pub use quote::{quote_on_line, read_quote};
 pub use quoted::read_quoted;
 pub use quoting::{hex_digit, is_long_escaped, is_short_escaped, short_escape};
 pub use style::{fits_plain, is_shown};
-pub use words::{is_plain_word, is_reserved};

@@ -1,10 +1,7 @@
 // The words that have a meaning of their own.
 ghost use Rattle.std.specs.Prelude.{◌≡◌, map as each};
-ghost use Rattle.yaml_spec.specs.Bytes.{false_words, is_reserved, is_word, null_words, true_words, yes_words};
-ghost use Rattle.yaml_spec.specs.Flat.{is_plain_word};
+ghost use Rattle.yaml_spec.specs.Bytes.{false_words, is_word, null_words, true_words, yes_words};
 ghost use Rattle.yaml_spec.specs.Scalars.{infinity_words, nan_words};
-
-use crate::bytes::{all_letters_or_digits, is_letter};
 
 fn is_word(words: &[&[u8]], word: &[u8]) -> bool
     ensures { result ≡ is_word (each (λ w. w.now) words.now) word.now }
@@ -102,24 +99,4 @@ pub fn is_nan_word(word: &[u8]) -> bool
         &[b".nan".as_slice(), b".NaN".as_slice(), b".NAN".as_slice()],
         word,
     )
-}
-
-/// Whether the text is null, a bool, or a word that YAML 1.1 reads as a bool.
-pub fn is_reserved(word: &[u8]) -> bool
-    ensures { result ≡ is_reserved word.now }
-{
-    is_null_word(word) || is_true_word(word) || is_false_word(word) || is_yes_word(word)
-}
-
-/// Whether a string is written as it stands: ASCII letters and digits, first a letter, and no
-/// reserved word, such as `null`, `true` or `yes`.
-pub fn is_plain_word(word: &[u8]) -> bool
-    ensures { result ≡ is_plain_word word.now }
-{
-    match word.split_first() {
-        None => false,
-        Some((first, rest)) => {
-            is_letter(*first) && all_letters_or_digits(rest) && !is_reserved(word)
-        }
-    }
 }

@@ -1,6 +1,5 @@
 -- An integer, as it is printed, is typed as itself.
-use Rattle.std.specs.Int.{w128}
-use Rattle.std.proofs.Common.{◌≡◌, ℤ, FitsSigned, ℕ, zero, suc, ◌+◌, ◌/◌, ◌%◌, ◌^◌, ◌<◌, ◌≤◌, pos, negsuc, Bool, true, false, not, ◌&&◌, ◌==◌, List, [], ◌∷◌, ◌++◌, Ok, refl, sym, ◌∙◌, ap, subst, arith, true≢false}
+use Rattle.std.proofs.Common.{◌≡◌, ℕ, zero, suc, ◌+◌, ◌/◌, ◌%◌, ◌^◌, ◌<◌, ◌≤◌, pos, negsuc, Bool, true, false, not, ◌&&◌, ◌==◌, List, [], ◌∷◌, ◌++◌, Ok, refl, sym, ◌∙◌, ap, subst, arith, true≢false}
 use Rattle.std.proofs.lemmas.Bool.{cond_both, ne_eqb, eqb-true, eqb-false, le-leb, lt-ltb, leb-true}
 use Rattle.std.specs.Prelude.{nat_le, decimal, bytes_eq}
 use Rattle.std.proofs.Math.Nat.{pow-suc}
@@ -175,21 +174,3 @@ plain-positive zero l = plain-zero
 plain-positive (suc n) l = plain-some n l
 
 -- ---- every integer of 128 bits
-
-form-zero : form (decimal 0) ≡ integer_form
-unfolding digits form
-form-zero = refl
-
-form-positive : (n : ℕ) → n < 2 ^ 127 → form (signed_decimal (pos n)) ≡ integer_form
-form-positive zero l = form-zero
-form-positive (suc n) l = let f : suc n < 10 ^ 64 = omega arith in (positive_by n f (decimal (suc n)) refl).0
-
--- the decimal text of an integer has the form of one
-pub form-decimal : (z : ℤ) → FitsSigned w128 z → form (signed_decimal z) ≡ integer_form
-form-decimal (pos n) h = form-positive n h.sfits
-form-decimal (negsuc n) h = form-negative n (fits_limit n h.sfits)
-
--- and is read as it
-pub plain-decimal : (z : ℤ) → FitsSigned w128 z → plain (signed_decimal z) ≡ Ok (integer z)
-plain-decimal (pos n) h = plain-positive n h.sfits
-plain-decimal (negsuc n) h = plain-negative n h.sfits

@@ -162,7 +162,3 @@ abbrev pub yes_words : List (List ℕ)
 yes_words =
     codes "y" ∷ codes "Y" ∷ codes "n" ∷ codes "N" ∷ codes "yes" ∷ codes "Yes" ∷ codes "YES" ∷ codes "no" ∷ codes "No" ∷ codes "NO"
     ∷ codes "on" ∷ codes "On" ∷ codes "ON" ∷ codes "off" ∷ codes "Off" ∷ codes "OFF" ∷ []
-
--- the words that no plain string is written as
-abbrev pub is_reserved : List ℕ → Bool
-is_reserved t = is_word null_words t || is_word true_words t || is_word false_words t || is_word yes_words t

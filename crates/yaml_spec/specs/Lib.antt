@@ -1,11 +1,6 @@
 pub mod Blocks
 pub mod Bytes
 pub mod Entries
-pub mod FirstLines
-pub mod FirstReadsBack
-pub mod FirstText
-pub mod Flat
-pub mod FlatNoted
 pub mod Flow
 pub mod Folding
 pub mod Held

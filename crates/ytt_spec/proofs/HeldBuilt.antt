@@ -7,7 +7,7 @@ use Rattle.ytt_base.specs.Outcomes.{Outcome}
 use Rattle.ytt_base.specs.Trees.{Scalar, null, string, Tree, scalar, Trees, IsScalar, AreTrees, Writable}
 use Rattle.yaml_spec.specs.Noted.{Documents, has_code}
 use Rattle.yaml_spec.specs.Read.{Read, plain_trees, read_trees}
-use Rattle.yaml_spec.proofs.Numerals.{run_utf8}
+use Rattle.yaml_spec.proofs.Runs.{run_utf8}
 use Rattle.yaml_laws.proofs.HeldDocuments.{DocumentsHeld, good_read, reads_trees}
 use Rattle.yaml_laws.proofs.Shallow.{reads_writable}
 use Rattle.star_spec.specs.Acts.{Act, Flow, go_on, on, out}

@@ -7,7 +7,7 @@ use Rattle.std.specs.Option.{option_map}
 use Rattle.std.specs.Str.Parse.{digits_value}
 use Rattle.ytt_base.specs.declared.fault.Place.{Place}
 use Rattle.yaml_spec.specs.Bytes.{is_letter_or_digit}
-use Rattle.yaml_spec.proofs.Numerals.{both}
+use Rattle.yaml_spec.proofs.Runs.{both}
 use Rattle.star_spec.specs.Code as code
 use Rattle.star_spec.specs.Code.{Expr}
 use Rattle.star_spec.specs.Grammar.{Source, int, text, unary, binary, group, binary_kind, spell, tree}
