@@ -1,4 +1,4 @@
-// Templates made by hand, with forms that no text is read as yet.
+// Templates made by hand, with forms that no text is placed as yet.
 
 use crate::shown::{run, shown};
 use sqlite_items::Items;

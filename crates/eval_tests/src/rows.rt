@@ -101,6 +101,51 @@ const ROWS: &[Row] = &[
         gives: "error: Steps at b.yml:1\n",
     },
     Row {
+        text: b"a: #@ 1\n---\nb: 2\n",
+        steps: 100,
+        gives: "a: 1\n---\nb: 2\n95 steps",
+    },
+    Row {
+        text: b"1: #@ \"x\"\ntrue: |\n  y\n~: 0644 # z",
+        steps: 100,
+        gives: "error: NotBuilt at b.yml:4\n",
+    },
+    Row {
+        text: b"1: #@ \"x\"\ntrue: |\n  y\n~: 0644\n",
+        steps: 100,
+        gives: "1: x\ntrue: |\n  y\nnull: 420\n95 steps",
+    },
+    Row {
+        text: b"a b: #@ 1\n'a b': #@ 2\n",
+        steps: 100,
+        gives: "error: KeyTwice at b.yml:2: a b\n",
+    },
+    Row {
+        text: b"a: 1\na: 2\n",
+        steps: 100,
+        gives: "error: KeyTwice at b.yml:2: a\n",
+    },
+    Row {
+        text: b"a: 1\na: #@ 1 // 0\n",
+        steps: 100,
+        gives: "error: DivideZero at b.yml:2\n",
+    },
+    Row {
+        text: b"a: #@ 1\n---\na: 2\n",
+        steps: 4,
+        gives: "error: Steps at b.yml:3\n",
+    },
+    Row {
+        text: b"a: #@ 1\nb:\n- 1\n",
+        steps: 100,
+        gives: "error: NotBuilt at b.yml:2\n",
+    },
+    Row {
+        text: b"a: #@ 1\nb: {\n",
+        steps: 100,
+        gives: "error: YamlForm at b.yml:2\n",
+    },
+    Row {
         text: b"",
         steps: 7,
         gives: "7 steps",
