@@ -142,11 +142,7 @@ fn a_map_of_strings_reads_back(rt: HostRuntime) -> Result<(), Fail> {
     let alloc = rt.alloc();
     let mut pairs: Pairs = Items::new(alloc);
     for (key, text) in PAIRS {
-        push_pair(
-            &mut pairs,
-            Key::Str(Text::of(alloc, key)?),
-            string(alloc, text)?,
-        )?;
+        pairs.push((Key::Str(Text::of(alloc, key)?), string(alloc, text)?))?;
     }
     let mut trees: Trees = Items::new(alloc);
     trees.push(Tree::Map(pairs))?;

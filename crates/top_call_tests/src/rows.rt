@@ -44,7 +44,9 @@ const PRINTED: &[(&str, &str)] = &[
     ),
     ("a:  é \n\nb:\n", "a: é\nb: null\n"),
     ("a: 1\r\n", "a: 1\n"),
+    ("\u{FEFF}a: 1\n", "a: 1\n"),
     ("a: 1 # note\n", "a: 1\n"),
+    ("a: |\n  #@ x\n  # y\n", "a: |\n  #@ x\n  # y\n"),
     (
         "a: '#@ 1'\nb: x#@ 1\nc: 2 # #@ 1\n",
         "a: \"#@ 1\"\nb: x#@ 1\nc: 2\n",
