@@ -6,7 +6,7 @@ ghost use Rattle.yaml_spec.specs.Noted.{is_note};
 
 use std::alloc::Global;
 use yaml_noted::RawComment;
-use yaml_text::{first, skip_white};
+use yaml_text::{first, is_note, skip_white};
 use ytt_base::fault::Place;
 use ytt_base::text::{Memory, Text};
 
@@ -19,14 +19,6 @@ pub(crate) enum Look {
     /// A comment of the template, which may not stand in brackets.
     NoteComment,
     Token,
-}
-
-/// Whether a comment is one of the template: it begins with `#@`.
-fn is_note(text: &str) -> bool
-    ensures { result ≡ is_note text.now }
-{
-    let bytes = text.as_bytes();
-    bytes.len() >= 2 && bytes[0] == b'#' && bytes[1] == b'@'
 }
 
 /// What stands at the start of a text; `is_fresh` says that this is a line's start. A comment begins

@@ -9,9 +9,9 @@ use Rattle.std.specs.Str.{is_utf8}
 use Rattle.std.specs.Fmt.{signed_decimal}
 use lib.Utf8.{encode, encodes, scalar as is_scalar_char, scalars, scalar_cases}
 use Rattle.yaml_spec.specs.Bytes.{tab, line_feed, carriage_return, quote, is_digit, all_bytes, is_empty, is_one_of, is_between, first}
-use Rattle.yaml_spec.specs.Lines.{is_printable, all_printable, has_good_chars}
+use Rattle.yaml_spec.specs.Lines.{is_printable, all_printable, has_good_chars, start_line}
 use Rattle.ytt_base.specs.Trees.{Scalar, null, boolean, integer, string, IsScalar}
-use Rattle.yaml_spec.specs.Text.{spaces, is_hidden, is_shown, all_chars, is_literal_char, hex_digit, hex2, quoted_char, quoted_chars, quoted_text, key_text, fits_plain, fits_literal, pieces, start_piece, are_trimmed, has_break}
+use Rattle.yaml_spec.specs.Text.{spaces, is_hidden, is_shown, all_chars, is_literal_char, hex_digit, hex2, quoted_char, quoted_chars, quoted_text, key_text, fits_plain, fits_literal, pieces, are_trimmed, has_break}
 use Rattle.yaml_laws.proofs.QuotesBack.{AreHigh, encode_high, encode_low}
 use Rattle.yaml_laws.proofs.ValuesBack.{both, plain_of}
 use Rattle.yaml_laws.proofs.LiteralsBack.{pieces_some}
@@ -206,7 +206,7 @@ onto : List ℕ → List (List ℕ) → List (List ℕ)
 onto bs [] = bs ∷ []
 onto bs (l ∷ ls) = (bs ++ l) ∷ ls
 
-start-onto : (b : ℕ) (bs : List ℕ) (ps : List (List ℕ)) → start_piece b (onto bs ps) ≡ onto (b ∷ bs) ps
+start-onto : (b : ℕ) (bs : List ℕ) (ps : List (List ℕ)) → start_line b (onto bs ps) ≡ onto (b ∷ bs) ps
 unfolding onto
 start-onto b bs [] = refl
 start-onto b bs (l ∷ ls) = refl

@@ -7,14 +7,14 @@ use Rattle.std.proofs.Math.Seq.{drop-append_seam, drop-nil}
 use Rattle.std.proofs.lemmas.Bool.{ne_eqb, eqb-true, le-leb, and_right, eq-eqb, or_parts}
 use Rattle.std.specs.Prelude.{chars, nat_le, map, replicate}
 use Rattle.yaml_spec.specs.Bytes.{line_feed, space, tab, first, is_white, is_empty, indent}
-use Rattle.yaml_spec.specs.Lines.{Line, numbered}
+use Rattle.yaml_spec.specs.Lines.{Line, numbered, start_line}
 use Rattle.ytt_base.specs.Trees.{string}
 use Rattle.yaml_spec.specs.Folding.{breaks}
 use Rattle.yaml_spec.specs.Quotes.{Cursor}
 use Rattle.yaml_spec.specs.Blocks.{Chomp, strip, clip, keep, Body, header, is_spaces, found_indent, too_long, lines_within, body_at, body, drop_empty_end, literal, end_breaks, block_text, Block}
 use Rattle.yaml_spec.specs.Noted.{Comment}
 use Rattle.yaml_spec.specs.Values.{value, noted, has_stray_note}
-use Rattle.yaml_spec.specs.Text.{spaces, pieces, start_piece, are_trimmed, final_breaks, literal_header, fits_literal, has_break, all_chars, is_literal_char, last}
+use Rattle.yaml_spec.specs.Text.{spaces, pieces, are_trimmed, final_breaks, literal_header, fits_literal, has_break, all_chars, is_literal_char, last}
 use Rattle.yaml_laws.proofs.ValuesBack.{both, of_not}
 use Rattle.yaml_laws.proofs.KeysBack.{leaf_value}
 use Rattle.yaml_laws.proofs.TextLines.{content_line, content_lines}
@@ -25,7 +25,7 @@ pub pieces_some : (s : List ℕ) → is_empty (pieces s) ≡ false
 pieces_some [] = refl
 pieces_some (b ∷ bs) = by_break (b == line_feed) (pieces bs)
   where
-    by_break : (t : Bool) (ps : List (List ℕ)) → is_empty (elim t as (λ _. List (List ℕ)) [ true ↦ [] ∷ ps | false ↦ start_piece b ps ]) ≡ false
+    by_break : (t : Bool) (ps : List (List ℕ)) → is_empty (elim t as (λ _. List (List ℕ)) [ true ↦ [] ∷ ps | false ↦ start_line b ps ]) ≡ false
     by_break true ps = refl
     by_break false [] = refl
     by_break false (q ∷ ps) = refl
@@ -34,7 +34,7 @@ pieces-join : (s : List ℕ) → literal (pieces s) ≡ s
 pieces-join [] = refl
 pieces-join (b ∷ bs) = by_break (pieces-join bs) (b == line_feed) refl (pieces bs) refl
   where
-    by_break : literal (pieces bs) ≡ bs → (t : Bool) → (b == line_feed) ≡ t → (ps : List (List ℕ)) → pieces bs ≡ ps → literal (elim t as (λ _. List (List ℕ)) [ true ↦ [] ∷ ps | false ↦ start_piece b ps ]) ≡ b ∷ bs
+    by_break : literal (pieces bs) ≡ bs → (t : Bool) → (b == line_feed) ≡ t → (ps : List (List ℕ)) → pieces bs ≡ ps → literal (elim t as (λ _. List (List ℕ)) [ true ↦ [] ∷ ps | false ↦ start_line b ps ]) ≡ b ∷ bs
     by_break h true e [] p = absurd (let n = pieces_some bs in cc)
     by_break h true e (q ∷ ps) p = rw (eqb-true b line_feed e) (ap (λ l. line_feed ∷ l) (ap literal (sym p) ∙ h))
     by_break h false e [] p = absurd (let n = pieces_some bs in cc)

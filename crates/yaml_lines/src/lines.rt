@@ -12,19 +12,10 @@ use crate::ends::{skip_mark, split_line};
 use sqlite_items::Items;
 use std::alloc::Global;
 use std::str;
-use ytt_base::fault::{Fault, FaultKind, Place, Stop};
+use yaml_text::refusal;
+use ytt_base::fault::{FaultKind, Place, Stop};
 use ytt_base::line::{Line, Lines};
 use ytt_base::text::{Memory, Text};
-
-fn fault(alloc: Global, kind: FaultKind, place: Place) -> Fault
-    ensures { result ≡ fault_at kind place }
-{
-    Fault {
-        kind,
-        place,
-        detail: Text::new(alloc),
-    }
-}
 
 /// A line of its own. One that isn't UTF-8 is NotUtf8 at its place.
 #[tactic(auto, using(crate::proofs::Cutting::utf8_tests))]
@@ -39,7 +30,7 @@ fn read_line(alloc: Global, bytes: &[u8], place: Place) -> Result<Line, Stop>
             indent: indent(bytes),
             text: Text::of(alloc, text)?,
         }),
-        Err(_) => Err(Stop::Fault(fault(alloc, FaultKind::NotUtf8, place))),
+        Err(_) => Err(refusal(alloc, FaultKind::NotUtf8, place)),
     }
 }
 
@@ -104,7 +95,7 @@ pub fn cut_lines(alloc: Global, bytes: &[u8], file: u32) -> Result<Lines, Stop>
 {
     let lines = utf8_lines(alloc, bytes, file)?;
     match first_bad(&lines) {
-        Some(place) => Err(Stop::Fault(fault(alloc, FaultKind::BadChar, place))),
+        Some(place) => Err(refusal(alloc, FaultKind::BadChar, place)),
         None => Ok(lines),
     }
 }

@@ -1,5 +1,5 @@
 -- The noted documents, as plain data, that those of the program stand for.
-use Rattle.std.specs.Prelude.{List, [], ◌∷◌, map as each, Option, option_map}
+use Rattle.std.specs.Prelude.{List, [], ◌∷◌, map as each, option_map}
 use Rattle.ytt_base.specs.View.{key_of, tree_of}
 use Rattle.yaml_spec.specs.Noted as plain
 use Rattle.yaml_spec.specs.Noted.{Comment, Note, noted_scalar, noted_list, noted_map, Items, no_items, item, Documents}

@@ -3,7 +3,8 @@ use Rattle.std.proofs.Common.{◌≡◌, ◌≢◌, ℕ, suc, ◌+◌, ◌<◌, 
 use Rattle.std.proofs.lemmas.Bool.Decides.{nat_tests}
 use Rattle.std.proofs.lemmas.List.{length-append}
 use Rattle.yaml_spec.specs.Bytes.{line_feed, is_empty, is_white, first}
-use Rattle.yaml_spec.specs.Text.{pieces, start_piece, final_breaks, are_trimmed, last}
+use Rattle.yaml_spec.specs.Lines.{start_line}
+use Rattle.yaml_spec.specs.Text.{pieces, final_breaks, are_trimmed, last}
 
 -- ---- the first line
 
@@ -43,7 +44,7 @@ cut-shorter bs (Some x) h = let e = simp length-append at (ap length h.0) in ome
 -- ---- breaks at the end
 
 abbrev by_break : ℕ → Bool → List (List ℕ) → List (List ℕ)
-by_break b t ps = elim t as (λ _. List (List ℕ)) [ true ↦ [] ∷ ps | false ↦ start_piece b ps ]
+by_break b t ps = elim t as (λ _. List (List ℕ)) [ true ↦ [] ∷ ps | false ↦ start_line b ps ]
 
 some_break : (b : ℕ) (t : Bool) (ps : List (List ℕ)) → is_empty (by_break b t ps) ≡ false
 some_break b true ps = refl

@@ -14,7 +14,7 @@ use crate::markers::behind_marker;
 use crate::segments::Segment;
 use std::alloc::Global;
 use yaml_noted::{Comments, RawComment};
-use yaml_text::{first, is_blank, refusal, skip_white};
+use yaml_text::{first, is_blank, is_note, refusal, skip_white};
 use ytt_base::fault::{FaultKind, Stop};
 use ytt_base::line::Line;
 use ytt_base::text::{Memory, Text};
@@ -37,14 +37,6 @@ pub fn first_content(lines: &[Line]) -> Option<&Line>
         }
     }
     None
-}
-
-/// Whether the comment begins with `#@`.
-fn is_note(text: &str) -> bool
-    ensures { result ≡ is_note text.now }
-{
-    let bytes = text.as_bytes();
-    bytes.len() > 1 && bytes[0] == b'#' && bytes[1] == b'@'
 }
 
 /// Puts a comment behind others.

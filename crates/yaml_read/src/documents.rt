@@ -4,17 +4,17 @@ ghost use Rattle.ytt_base.specs.Outcomes.{Gives};
 ghost use Rattle.yaml_laws.specs.Machine.{wanting};
 ghost use Rattle.yaml_noted.specs.View.{comment_of, comments_of, content_of, documents_of, items_of, noted_of};
 ghost use Rattle.yaml_rows.specs.View.{row_of};
-ghost use Rattle.yaml_spec.specs.Entries.{row_comment};
 ghost use Rattle.yaml_spec.specs.Held.{plain_line, plain_lines};
 ghost use Rattle.yaml_spec.specs.Noted.{Comment};
 ghost use Rattle.yaml_spec.specs.Read.{document_note, implicit, is_start, is_stop, marker_row, segments};
-ghost use Rattle.yaml_spec.specs.Rows.{has_value, open_place_of};
+ghost use Rattle.yaml_spec.specs.Rows.{has_value};
 ghost use Rattle.yaml_read.specs.Documents.{and_items, documents_behind, explicit_part, front_part, items_in, passed_behind, segment_part};
 ghost use Rattle.yaml_read.specs.Lines.{FitLines};
 ghost use Rattle.yaml_read.specs.Segments.{BeginsWithMarker, FitSegment, segment_of};
 ghost use Rattle.yaml_read.specs.View.{part_of, passed_of};
 
 use crate::between::{first_content, push_comments, read_ended};
+use crate::entries::row_comment;
 use crate::frames::Found;
 use crate::markers::{behind_marker, is_start};
 use crate::pass::{Passed, pass_lines};
@@ -22,28 +22,11 @@ use crate::segments::{Segment, first_line, split_front, split_segment};
 use sqlite_items::Items;
 use std::alloc::Global;
 use yaml_noted::{Comments, Content, NotedDocs, NotedItem, NotedItems, RawComment};
-use yaml_rows::{Row, has_value, row_value};
+use yaml_rows::{MAX_DEPTH, Row, has_value, open_place_of, row_value};
 use yaml_text::{first, refusal};
 use ytt_base::fault::{FaultKind, Place, Stop};
 use ytt_base::line::Line;
-use ytt_base::text::{Memory, Text};
-
-/// How many collections may nest.
-const MAX_DEPTH: u32 = 100;
-
-/// Where what is left open is told: at its own place, or at the marker that ends its document.
-fn open_place_of(stop: u32, place: Place) -> Place
-    ensures { result ≡ open_place_of stop place }
-{
-    if stop == 0 {
-        place
-    } else {
-        Place {
-            file: place.file,
-            line: stop,
-        }
-    }
-}
+use ytt_base::text::Memory;
 
 /// What stands behind `---`, as a row without a head.
 fn marker_row<'a>(alloc: Global, segment: Segment<'a>) -> Row<'a>
@@ -62,20 +45,6 @@ fn marker_row<'a>(alloc: Global, segment: Segment<'a>) -> Row<'a>
         text: behind_marker(segment.marker),
         below: segment.lines,
     }
-}
-
-/// The comment on a row without a value.
-fn row_comment(alloc: Global, row: &Row<'_>) -> Result<Option<RawComment>, Memory>
-    ensures { IfOk result (λ c. (before : List Comment) → option_map comment_of c ≡ row_comment (row_of before row.now)) }
-{
-    if row.text.is_empty() {
-        return Ok(None);
-    }
-    Ok(Some(RawComment {
-        line: row.place.line,
-        own_line: false,
-        text: Text::of(alloc, row.text)?,
-    }))
 }
 
 /// A document that begins at this place.

@@ -19,7 +19,7 @@ use crate::opening::{begin_entry, is_dash, misplaced, open_blocks, starts_with_d
 use std::alloc::Global;
 use yaml_noted::{Comments, Content};
 use yaml_plain::start_fault;
-use yaml_rows::{Head, Row, row_value};
+use yaml_rows::{Head, MAX_DEPTH, Row, row_value};
 use yaml_text::refusal;
 use ytt_base::fault::{FaultKind, Stop};
 use ytt_base::text::Memory;
@@ -171,7 +171,7 @@ fn innermost(frames: &[Frame]) -> u32
 {
     match frames.last() {
         Some(frame) => frame.left,
-        None => 100,
+        None => MAX_DEPTH,
     }
 }
 

@@ -19,7 +19,7 @@ use ytt_base::text::Memory;
 use ytt_base::tree::Key;
 
 /// How many collections may stand inside each other.
-const MAX_DEPTH: u32 = 100;
+pub const MAX_DEPTH: u32 = 100;
 
 /// The text behind the colon of a key, where it has one: white space may stand before it, and behind
 /// it stands white space or nothing.

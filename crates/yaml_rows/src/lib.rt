@@ -7,6 +7,7 @@ mod row;
 mod rows;
 mod values;
 
+pub use keys::MAX_DEPTH;
 pub use row::{Head, Heads, Mark, Row, has_value};
-pub use rows::{row_at, row_value};
+pub use rows::{open_place_of, row_at, row_value};
 pub use values::{Value, read_value};

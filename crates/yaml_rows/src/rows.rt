@@ -31,7 +31,7 @@ fn least_behind(least: usize, heads: &Heads) -> usize
 
 /// Where a value that is left open is told: `stop` is the line of the marker that ends the document,
 /// or 0.
-fn open_place_of(stop: u32, place: Place) -> Place
+pub fn open_place_of(stop: u32, place: Place) -> Place
     ensures { result ≡ open_place_of stop place }
 {
     if stop == 0 {

@@ -16,7 +16,7 @@ use yaml_noted::{Comments, Content, RawComment};
 use yaml_plain::read_plain_scalar;
 use yaml_scalar::{ends_header, header_rest, read_block_at, read_quote};
 use yaml_text::{
-    Cursor, first, refusal, skip_white, starts_block, starts_collection, starts_quote,
+    Cursor, first, is_note, refusal, skip_white, starts_block, starts_collection, starts_quote,
 };
 use ytt_base::fault::{FaultKind, Place, Stop};
 use ytt_base::text::{Memory, Text};
@@ -32,13 +32,6 @@ pub struct Value {
     pub trailing: Option<RawComment>,
     /// Its last line.
     pub last: u32,
-}
-
-/// Whether the comment begins with `#@`.
-fn is_note(text: &str) -> bool
-    ensures { result ≡ is_note text.now }
-{
-    matches!(text.as_bytes(), [b'#', b'@', ..])
 }
 
 /// The comments with one more behind them.

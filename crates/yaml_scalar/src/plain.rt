@@ -9,19 +9,10 @@ ghost use Rattle.yaml_scalar.specs.Integers.{integer_at};
 
 use crate::form::{Form, form_of};
 use std::alloc::Global;
-use ytt_base::fault::{Fault, FaultKind, Place, Stop};
+use yaml_text::refusal;
+use ytt_base::fault::{FaultKind, Place, Stop};
 use ytt_base::text::Text;
 use ytt_base::tree::Tree;
-
-fn fault(alloc: Global, kind: FaultKind, place: Place) -> Fault
-    ensures { result ≡ fault_at kind place }
-{
-    Fault {
-        kind,
-        place,
-        detail: Text::new(alloc),
-    }
-}
 
 /// The integer of 128 bits that a sign and digits write in this base. A wider one is IntWide.
 #[tactic(auto, using(crate::proofs::Integers::integers))]
@@ -33,7 +24,7 @@ fn integer_at(alloc: Global, text: &str, base: u32, place: Place) -> Result<Tree
 {
     match i128::from_str_radix(text, base) {
         Ok(integer) => Ok(Tree::Int(integer)),
-        Err(_) => Err(Stop::Fault(fault(alloc, FaultKind::IntWide, place))),
+        Err(_) => Err(refusal(alloc, FaultKind::IntWide, place)),
     }
 }
 
@@ -52,11 +43,11 @@ pub fn type_plain(alloc: Global, text: &Text, place: Place) -> Result<Tree, Stop
         Form::Null => Ok(Tree::Null),
         Form::Bool(b) => Ok(Tree::Bool(b)),
         Form::Octal => integer_at(alloc, scalar, 8, place),
-        Form::BadOctal => Err(Stop::Fault(fault(alloc, FaultKind::YamlOut, place))),
+        Form::BadOctal => Err(refusal(alloc, FaultKind::YamlOut, place)),
         Form::Int => integer_at(alloc, scalar, 10, place),
         Form::PrefixedOctal => integer_at(alloc, &scalar[2..], 8, place),
         Form::PrefixedHex => integer_at(alloc, &scalar[2..], 16, place),
-        Form::Float => Err(Stop::Fault(fault(alloc, FaultKind::FloatScalar, place))),
+        Form::Float => Err(refusal(alloc, FaultKind::FloatScalar, place)),
         Form::Word | Form::Str => Ok(Tree::Str(text.copy()?)),
     }
 }

@@ -1,9 +1,7 @@
 -- Positions in lines that the program holds.
-use Rattle.std.proofs.Common.{◌≡◌, ℕ, zero, suc, ◌+◌, ◌<◌, Bool, true, List, [], ◌∷◌, length, get_or, drop, ◌⊎◌, refl, ap, ◌∙◌, arith, get_or-drop, add-zero}
+use Rattle.std.proofs.Common.{◌≡◌, ℕ, zero, suc, ◌+◌, ◌<◌, true, List, [], ◌∷◌, length, get_or, drop, ◌⊎◌, refl, ap, arith, get_or-drop, add-zero}
 use Rattle.std.proofs.lemmas.Bool.Decides.{nat_tests}
-use Rattle.std.proofs.lemmas.List.{get_or_past}
 use Rattle.ytt_base.specs.declared.line.Line as held
-use Rattle.yaml_spec.specs.Bytes.{first}
 use Rattle.yaml_spec.specs.Held.{plain_lines}
 use Rattle.yaml_spec.specs.Openers.{starts_block}
 use Rattle.yaml_spec.specs.Positions.{cursor_at, text_at}

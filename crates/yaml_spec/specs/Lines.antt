@@ -39,7 +39,7 @@ numbered p (l ∷ ls) = record { place = p; text = l } ∷ numbered (place_below
 unfoldable pub lines_of : ℕ → List ℕ → List Line
 lines_of file bytes = numbered (place_at file 1) (cut (skip_mark bytes))
 
--- the characters of 5.1, rule 1, and the tab
+-- the characters of 5.1, rule 1, but for the tab and the breaks
 abbrev pub is_printable : ℕ → Bool
 is_printable c = is_between 0x20 0x7E c || c == 0x85 || is_between 0xA0 0xD7FF c || is_between 0xE000 0xFFFD c || is_between 0x10000 0x10FFFF c
 

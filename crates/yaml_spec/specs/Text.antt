@@ -2,7 +2,7 @@
 use Rattle.std.specs.Prelude.{ℕ, zero, suc, ◌+◌, ◌/◌, ◌%◌, Bool, true, false, not, ◌&&◌, ◌||◌, ◌==◌, nat_lt, if◌then◌else◌, List, [], ◌∷◌, ◌++◌, length, take, replicate, codes, bytes_eq, chars, encode_utf8}
 use Rattle.std.specs.Fmt.{signed_decimal}
 use Rattle.yaml_spec.specs.Bytes.{tab, line_feed, carriage_return, space, quote, hash, apostrophe, percent, comma, dash, colon, greater, question, at_sign, left_bracket, right_bracket, left_brace, right_brace, backslash, bar, is_one_of, is_white, is_between, first, is_empty}
-use Rattle.yaml_spec.specs.Lines.{is_printable}
+use Rattle.yaml_spec.specs.Lines.{is_printable, start_line}
 use Rattle.ytt_base.specs.Trees.{Scalar, null, boolean, integer, string, Tree, scalar, list, map, Trees, no_trees, tree, Pairs, no_pairs, pair}
 use Rattle.yaml_spec.specs.Scalars.{form, is_string_form}
 
@@ -54,15 +54,10 @@ fits_plain s =
     && not (bytes_eq (take 3 s) (codes "...")) && not (is_one_of (space ∷ colon ∷ []) (last s))
     && not (has_pair colon space s) && not (has_pair space hash s)
 
--- the lines of a string: what stands between its breaks
-abbrev pub start_piece : ℕ → List (List ℕ) → List (List ℕ)
-start_piece b [] = (b ∷ []) ∷ []
-start_piece b (l ∷ ls) = (b ∷ l) ∷ ls
-
 -- the lines of a string, also the empty one behind a break at its end
 abbrev pub pieces : List ℕ → List (List ℕ)
 pieces [] = [] ∷ []
-pieces (b ∷ bs) = elim (b == line_feed) [ true ↦ [] ∷ pieces bs | false ↦ start_piece b (pieces bs) ]
+pieces (b ∷ bs) = elim (b == line_feed) [ true ↦ [] ∷ pieces bs | false ↦ start_line b (pieces bs) ]
 
 -- no line begins or ends with white space
 abbrev pub are_trimmed : List (List ℕ) → Bool
@@ -82,7 +77,7 @@ unfoldable pub fits_literal : List ℕ → Bool
 fits_literal s =
     has_break s && not (first s == line_feed) && all_chars is_literal_char (chars s) && are_trimmed (pieces s)
 
--- the number of breaks at the end, but for all others
+-- the number of breaks at the end
 abbrev pub final_breaks : List (List ℕ) → ℕ
 final_breaks [] = 0
 final_breaks (l ∷ ls) = if is_empty l && final_breaks ls + 1 == length (l ∷ ls) then suc (final_breaks ls) else final_breaks ls

@@ -9,7 +9,8 @@ mod white;
 
 pub use cursor::Cursor;
 pub use look::{
-    first, is_blank, is_flow_indicator, is_gap, starts_block, starts_collection, starts_quote,
+    first, is_blank, is_flow_indicator, is_gap, is_note, starts_block, starts_collection,
+    starts_quote,
 };
 pub use refusals::refusal;
 pub use spaces::indent;

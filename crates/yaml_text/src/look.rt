@@ -2,6 +2,7 @@
 ghost use Rattle.std.specs.Prelude.{◌≡◌};
 ghost use Rattle.yaml_spec.specs.Bytes.{first, is_blank, is_flow_indicator, is_gap};
 ghost use Rattle.yaml_spec.specs.Flow.{starts_collection};
+ghost use Rattle.yaml_spec.specs.Noted.{is_note};
 ghost use Rattle.yaml_spec.specs.Openers.{starts_block};
 ghost use Rattle.yaml_spec.specs.Quotes.{starts_quote};
 
@@ -61,4 +62,12 @@ pub fn starts_block(text: &str) -> bool
     ensures { result ≡ starts_block text.now }
 {
     first(text) == b'|' || first(text) == b'>'
+}
+
+/// Whether `#@` begins the text, as it begins a comment that is code.
+pub fn is_note(text: &str) -> bool
+    ensures { result ≡ is_note text.now }
+{
+    let bytes = text.as_bytes();
+    bytes.len() > 1 && bytes[0] == b'#' && bytes[1] == b'@'
 }

@@ -5,12 +5,12 @@ ghost use Rattle.yaml_noted.specs.View.{comment_of, comments_of, content_of, doc
 ghost use Rattle.yaml_spec.specs.Noted.{code_among, code_beside, code_in_some, code_within, has_code, is_note};
 
 use yaml_noted::{Comments, Content, NotedDocs, NotedItem, NotedItems, RawComment};
+use yaml_text::is_note;
 
 fn is_code(comment: &RawComment) -> bool
     ensures { result ≡ is_note comment.now.text }
 {
-    let text = comment.text.as_str().as_bytes();
-    text.len() > 1 && text[0] == b'#' && text[1] == b'@'
+    is_note(comment.text.as_str())
 }
 
 fn code_in_some(comments: &Comments) -> bool
