@@ -217,6 +217,10 @@ const KEYS: &[Row] = &[
     ("[a]:b", "YamlForm at 1"),
     ("a: {[b]: 1}", "YamlOut at 1"),
     ("a: [[b]: 1]", "YamlOut at 1"),
+    ("a: [[b]:1]", "YamlOut at 1"),
+    ("a: [[b\n]: 1]", "YamlForm at 2"),
+    ("a: {b\n: 1}", "{'a'={'b'=1}}"),
+    ("a: {'b\n': 1}", "YamlForm at 1"),
 ];
 
 /// Comments, which no tree has.

@@ -43,6 +43,12 @@ const PLAIN: &[Row] = &[
     ("a: b'c\"", "{'a'='b'c\"'}"),
     ("a: [b c, d:e]", "{'a'=['b c' 'd:e']}"),
     ("a: {b:[c]}", "{'a'={'b'=['c']}}"),
+    ("[-, ?, -b]", "['-' '?' '-b']"),
+    ("[:]", "YamlForm at 1"),
+    ("[: b]", "YamlForm at 1"),
+    ("[::]", "YamlOut at 1"),
+    ("[a:\t]", "YamlForm at 1"),
+    (":\t", "YamlForm at 1"),
     // over lines of greater indent than its entry's
     ("a: b\n c", "{'a'='b c'}"),
     ("a: b \n \t c \n\n  d", "{'a'='b c\nd'}"),
