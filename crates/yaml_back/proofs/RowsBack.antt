@@ -1,7 +1,7 @@
 -- The rows of a printed tree, and that its blocks read as the tree.
 use Rattle.yaml_spec.specs.Refusals.{place_below}
 use Rattle.ytt_base.specs.declared.fault.Place.{Place}
-use Rattle.std.proofs.Common.{◌≡◌, ℕ, zero, suc, ◌+◌, ◌≤◌, Bool, true, false, not, ◌||◌, ◌==◌, List, [], ◌∷◌, ◌++◌, length, None, Ok, Err, refl, sym, ◌∙◌, ap, subst, append_assoc, arith, true≢false}
+use Rattle.std.proofs.Common.{◌≡◌, ℕ, zero, suc, ◌+◌, ◌≤◌, Bool, true, false, not, ◌||◌, ◌==◌, List, [], ◌∷◌, ◌++◌, length, Some, None, Ok, Err, refl, sym, ◌∙◌, ap, subst, append_assoc, arith, true≢false}
 use Rattle.std.proofs.lemmas.List.{append-nil}
 use Rattle.std.specs.Prelude.{codes}
 use Rattle.std.proofs.lemmas.Bool.{le-leb, lt-leb, eq-eqb}
@@ -10,7 +10,7 @@ use Rattle.ytt_base.specs.Outcomes.{Outcome, ◌>>=◌, place_at}
 use Rattle.yaml_spec.specs.Lines.{Line, numbered}
 use Rattle.ytt_base.specs.Trees.{Scalar, null, boolean, integer, string, IsScalar, Tree, scalar, list, map, Trees, no_trees, tree, Pairs, no_pairs, pair, IsTree, AreTrees, ArePairs, depth, max_depth}
 use Rattle.yaml_spec.specs.Flow.{flow, elements, pairs, gap}
-use Rattle.yaml_spec.specs.Noted.{Comment, Note, Content, noted_scalar, noted_list, noted_map, no_items, bare_tree}
+use Rattle.yaml_spec.specs.Noted.{Comment, Note, Content, noted_scalar, noted_list, noted_map, no_items, bare_tree, code_in_some, code_within}
 use Rattle.yaml_spec.specs.Values.{value, ended, noted}
 use Rattle.yaml_spec.specs.Rows.{dash_mark, Head, Row, has_value, least_behind, row_at, taken, rows}
 use Rattle.yaml_spec.specs.Entries.{Entry, content_of, entry_content, entry, Doc, note_of, row_comment, starts_with_dash}
@@ -20,7 +20,7 @@ use Rattle.yaml_back.proofs.KeysBack.{IsLine, key_line, value-line}
 use Rattle.yaml_back.proofs.LiteralsBack.{value-literal}
 use Rattle.yaml_back.proofs.CutBack.{flat, AllInside, AreEntries, Give}
 use Rattle.yaml_back.proofs.TextLines.{content_lines, is_block, block_first, block_more, scalar_first, scalar_more, dash_head, key_head, node_first, node_more, pair_more, list_lines, map_lines, node_heads, node_left, pair_text_left}
-use Rattle.yaml_back.proofs.ItemsBack.{AllDeep, deep-less, deep-inside, seen, LeafReads, leaf-taken, leaf-content, leaf-dash, Gives, GivesPair, content-pair, ListBack, MapBack, list-doc, map-doc, item-back, pair-back}
+use Rattle.yaml_back.proofs.ItemsBack.{AllDeep, deep-less, deep-inside, seen, quiet-item, quiet-content, LeafReads, leaf-taken, leaf-content, leaf-dash, Gives, GivesPair, content-pair, ListBack, MapBack, list-doc, map-doc, item-back, pair-back}
 use Rattle.yaml_back.proofs.HeadsBack.{Starts, starts-scalar, starts-node, line_row, line-blank, line-mark, row_at-line, Ends, ends-stops, ends-leaves, ends-more, list-ends, map-ends, node-heads}
 
 -- ---- values without blocks
@@ -30,6 +30,7 @@ starts-value t s = ap (λ t. is_empty t || first t == hash) s.is ∙ s.mark
 
 scalar_leaf_line : (t : List ℕ) (s : Scalar) (r : Row) (rest : List Line) → IsLine t s → Starts t → r.text ≡ t → r.below ≡ rest → Ends r.least rest → LeafReads 0 (noted_scalar (scalar s)) 0 r
 scalar_leaf_line t s r rest l g x b e = record {
+  quiet = refl;
   has = rw x (ap (λ b. not b) (starts-value t g));
   reads = λ left owner cs h.
       let n : r.place.line + 0 ≡ r.place.line = omega arith in
@@ -39,6 +40,7 @@ scalar_leaf_line t s r rest l g x b e = record {
 scalar_leaf_block : (s : List ℕ) (m : ℕ) (k : Place) (r : Row) (rest : List Line) → fits_literal s ≡ true → Starts (literal_header (final_breaks (pieces s))) → r.text ≡ literal_header (final_breaks (pieces s)) →
     r.below ≡ numbered k (content_lines m (pieces s)) ++ rest → r.least ≤ m → Ends r.least rest → LeafReads 0 (noted_scalar (scalar (string s))) (length (numbered k (content_lines m (pieces s)))) r
 scalar_leaf_block s m k r rest f g x b l e = record {
+  quiet = refl;
   has = rw x (ap (λ b. not b) (starts-value _ g));
   reads = λ left owner cs h. rw (x, b) (value-literal left r.open_place r.least owner r.place m k cs rest l (ends-leaves r.least m rest l e) s f);
 }
@@ -71,7 +73,7 @@ map-value left open_place least owner n cs [] = rw (append-nil cs) refl
 map-value left open_place least owner n cs (l ∷ ls) = rw (append-nil cs) refl
 
 pub list-leaf : (r : Row) → r.text ≡ codes "[]" → LeafReads 1 (noted_list no_items) 0 r
-list-leaf r x = record { has = rw x refl; reads = by_left }
+list-leaf r x = record { quiet = refl; has = rw x refl; reads = by_left }
   where
     by_left : (left owner : ℕ) (cs : List Comment) → 1 ≤ left →
         value left r.open_place r.least owner cs (record { place = r.place; text = r.text; below = r.below }) ≡ Ok (record { content = noted_list no_items; loose = cs; trailing = None; last = r.place.line + 0 })
@@ -79,7 +81,7 @@ list-leaf r x = record { has = rw x refl; reads = by_left }
     by_left (suc left) owner cs h = let n : r.place.line + 0 ≡ r.place.line = omega arith in rw (x, n) (list-value left r.open_place r.least owner r.place cs r.below)
 
 pub map-leaf : (r : Row) → r.text ≡ codes "{}" → LeafReads 1 (noted_map no_items) 0 r
-map-leaf r x = record { has = rw x refl; reads = by_left }
+map-leaf r x = record { quiet = refl; has = rw x refl; reads = by_left }
   where
     by_left : (left owner : ℕ) (cs : List Comment) → 1 ≤ left →
         value left r.open_place r.least owner cs (record { place = r.place; text = r.text; below = r.below }) ≡ Ok (record { content = noted_map no_items; loose = cs; trailing = None; last = r.place.line + 0 })
@@ -127,7 +129,7 @@ pub record NodeBack (stop n : ℕ) (t : Tree) (r : Row) (rest : List Row) : Type
   pub goes : rows stop false skip r.least [] r.below ≡ (body ++ rest, [])
   pub deep : AllDeep n body
   pub inside : is_dashed t ≡ true → AllInside false n body
-  pub gives : (i : ℕ) (hs : List Head) (cs : List Comment) (left : ℕ) → depth t ≤ left → Gives left (seen r i hs cs) dash_mark (node_heads n t) body t
+  pub gives : (i : ℕ) (hs : List Head) (left : ℕ) → depth t ≤ left → Gives left (seen r i hs) dash_mark (node_heads n t) body t
 
 pub record PairBack (stop n : ℕ) (t : Tree) (r : Row) (rest : List Row) : Type 0 where
   pub body : List Row
@@ -136,7 +138,7 @@ pub record PairBack (stop n : ℕ) (t : Tree) (r : Row) (rest : List Row) : Type
   pub goes : rows stop false skip r.least [] r.below ≡ (body ++ rest, [])
   pub deep : AllDeep n body
   pub inside : AllInside false n body
-  pub gives : (i : ℕ) (hs : List Head) (cs : List Comment) (key : Scalar) (left : ℕ) → depth t ≤ left → GivesPair left (seen r i hs cs) key body t
+  pub gives : (i : ℕ) (hs : List Head) (key : Scalar) (left : ℕ) → depth t ≤ left → GivesPair left (seen r i hs) key body t
 
 -- the row and what follows
 pub record NodeAt (stop n l : ℕ) (t : Tree) (r : Row) (k : Place) (rest : List Line) (rrs : List Row) : Type 0 where
@@ -181,7 +183,7 @@ leaf-node stop n d skip t c r rest f l e h g b s = record {
   goes = s;
   deep = tt;
   inside = λ q. tt;
-  gives = λ i hs cs left m. rw g (subst (λ t. Gives left (seen r i hs cs) dash_mark [] [] t) h (leaf-dash d c skip r f i hs cs left (rw e at m)));
+  gives = λ i hs left m. rw g (subst (λ t. Gives left (seen r i hs) dash_mark [] [] t) h (leaf-dash d c skip r f i hs left (rw e at m)));
 }
 
 leaf-pair : (stop n d skip : ℕ) (t : Tree) (c : Content) (r : Row) (rest : List Row) → LeafReads d c skip r → d ≤ max_depth → depth t ≡ d → bare_tree c ≡ t → r.before ≡ [] →
@@ -194,7 +196,7 @@ leaf-pair stop n d skip t c r rest f l e h b s = record {
   goes = s;
   deep = tt;
   inside = tt;
-  gives = λ i hs cs key left m. content-pair left (seen r i hs cs) key [] t (c, None) (leaf-content d c skip r f i hs cs left (rw e at m)) h;
+  gives = λ i hs key left m. content-pair left (seen r i hs) key [] t (c, None) (leaf-content d c skip r f i hs left (rw e at m)) h (quiet-item (note_of (seen r i hs) (Some key) None) c refl refl f.quiet);
 }
 
 node-scalar : (stop : ℕ) (s : Scalar) → IsScalar s → NodeGoal stop (scalar s)
@@ -232,12 +234,13 @@ unfolding AllInside
 inside-tail is_list n r rs d = d.1
 
 -- the entries as a block
-block-gives : (left : ℕ) (t : Tree) (r : Row) (h : Head) (hs : List Head) (body : List Row) → (c : Content) → Doc left h.column (seen r h.column (h ∷ hs) []) body ≡ Ok c → bare_tree c ≡ t → Gives left r dash_mark (h ∷ hs) body t
+block-gives : (left : ℕ) (t : Tree) (r : Row) (h : Head) (hs : List Head) (body : List Row) → r.before ≡ [] → (c : Content) → Doc left h.column (seen r h.column (h ∷ hs)) body ≡ Ok c → bare_tree c ≡ t → code_within c ≡ false → Gives left r dash_mark (h ∷ hs) body t
 unfolding entry
-block-gives left t r h hs body c e g = record {
+block-gives left t r h hs body b c e g q = record {
   note = note_of r None None;
   content = c;
   tree = g;
+  quiet = quiet-item (note_of r None None) c (ap code_in_some b) refl q;
   reads = ap (λ (o : Outcome Content). o >>= (λ c. Ok (note_of r None None, c))) e;
 }
 
@@ -248,7 +251,7 @@ record ListAt (stop n : ℕ) (t : Tree) (ts : Trees) (r : Row) (rest : List Row)
   skip : ℕ
   taken : taken r ≡ Ok (skip, [])
   goes : rows stop false skip r.least [] r.below ≡ (body ++ (flat others ++ rest), [])
-  back : ListBack n (tree t ts) (record { row = seen r n (dash_head n ∷ node_heads (n + 2) t) []; body = body } ∷ others)
+  back : ListBack n (tree t ts) (record { row = seen r n (dash_head n ∷ node_heads (n + 2) t); body = body } ∷ others)
 
 record MapAt (stop n : ℕ) (k : Scalar) (t : Tree) (ps : Pairs) (r : Row) (rest : List Row) : Type 0 where
   body : List Row
@@ -256,7 +259,7 @@ record MapAt (stop n : ℕ) (k : Scalar) (t : Tree) (ps : Pairs) (r : Row) (rest
   skip : ℕ
   taken : taken r ≡ Ok (skip, [])
   goes : rows stop false skip r.least [] r.below ≡ (body ++ (flat others ++ rest), [])
-  back : MapBack n (pair k t ps) (record { row = seen r n (key_head n k ∷ []) []; body = body } ∷ others)
+  back : MapBack n (pair k t ps) (record { row = seen r n (key_head n k ∷ []); body = body } ∷ others)
 
 list-at : (stop : ℕ) (t : Tree) (ts : Trees) → IsTree t → AreTrees ts → NodeGoal stop t → ListGoal stop ts →
     (n l : ℕ) (r : Row) (k : Place) (rest : List Line) (rrs : List Row) → NodeAt stop n l (list (tree t ts)) r k rest rrs → ListAt stop n t ts r rrs
@@ -280,7 +283,7 @@ list-at stop t ts h hs node more n l r k rest rrs a = by (ends-more l (suc n) re
           skip = b.skip;
           taken = b.taken;
           goes = b.goes;
-          back = item-back n t ts r b.body m.0 b.deep (b.gives n (dash_head n ∷ node_heads (n + 2) t) []) m.1;
+          back = item-back n t ts r b.body m.0 b.deep (b.gives n (dash_head n ∷ node_heads (n + 2) t)) m.1;
         }
 
     by : Ends (suc n) rest → ListAt stop n t ts r rrs
@@ -306,7 +309,7 @@ map-at stop key t ps hk h hs node more n l r k rest rrs a = by (ends-more l (suc
           skip = b.skip;
           taken = b.taken;
           goes = b.goes;
-          back = pair-back n key t ps r b.body m.0 b.deep b.inside (b.gives n (key_head n key ∷ []) [] key) m.1;
+          back = pair-back n key t ps r b.body m.0 b.deep b.inside (b.gives n (key_head n key ∷ []) key) m.1;
         }
 
     by : Ends (suc n) rest → MapAt stop n key t ps r rrs
@@ -322,9 +325,9 @@ node-list stop t ts h hs node more n l r k rest rrs a =
       goes = b.goes ∙ ap (λ (x : List Row). (x, [])) (sym (append_assoc b.body (flat b.others) rrs));
       deep = deep-tail n _ _ b.back.deep;
       inside = λ q. inside-tail false n _ _ b.back.inside;
-      gives = λ i hs' cs left o.
+      gives = λ i hs' left o.
           let d = list-doc n (tree t ts) _ b.others b.back refl left o in
-          block-gives left (list (tree t ts)) (seen r i hs' cs) (dash_head n) (node_heads (n + 2) t) (b.body ++ flat b.others) d.0 d.1 d.2;
+          block-gives left (list (tree t ts)) (seen r i hs') (dash_head n) (node_heads (n + 2) t) (b.body ++ flat b.others) refl d.0 d.1 d.2 d.3;
     }
 
 node-map : (stop : ℕ) (k : Scalar) (t : Tree) (ps : Pairs) → IsScalar k → IsTree t → ArePairs ps → PairGoal stop t → MapGoal stop ps → NodeGoal stop (map (pair k t ps))
@@ -337,9 +340,9 @@ node-map stop key t ps hk h hs node more n l r k rest rrs a =
       goes = b.goes ∙ ap (λ (x : List Row). (x, [])) (sym (append_assoc b.body (flat b.others) rrs));
       deep = deep-tail n _ _ b.back.deep;
       inside = λ q. absurd (true≢false (sym q));
-      gives = λ i hs' cs left o.
+      gives = λ i hs' left o.
           let d = map-doc n (pair key t ps) _ b.others b.back refl left o in
-          block-gives left (map (pair key t ps)) (seen r i hs' cs) (key_head n key) [] (b.body ++ flat b.others) d.0 d.1 d.2;
+          block-gives left (map (pair key t ps)) (seen r i hs') (key_head n key) [] (b.body ++ flat b.others) refl d.0 d.1 d.2 d.3;
     }
 
 -- ---- lines of a node on lines of its own
@@ -385,11 +388,11 @@ first-at stop is_owned k n l t i is e rest rrs low ends follows = record {
 
 list-none : (stop : ℕ) → ListGoal stop no_trees
 unfolding AllDeep AllInside AreEntries Give
-list-none stop n k rest rrs e f = ([], record { cut = tt; deep = tt; inside = tt; give = λ left l. (no_items, refl, refl) }, f)
+list-none stop n k rest rrs e f = ([], record { cut = tt; deep = tt; inside = tt; give = λ left l. (no_items, refl, refl, refl) }, f)
 
 map-none : (stop : ℕ) → MapGoal stop no_pairs
 unfolding AllDeep AllInside AreEntries Give
-map-none stop n k rest rrs e f = ([], record { cut = tt; deep = tt; give = λ left l. (no_items, refl, refl) }, f)
+map-none stop n k rest rrs e f = ([], record { cut = tt; deep = tt; give = λ left l. (no_items, refl, refl, refl) }, f)
 
 list-cons : (stop : ℕ) (t : Tree) (ts : Trees) → IsTree t → AreTrees ts → NodeGoal stop t → ListGoal stop ts → ListGoal stop (tree t ts)
 unfolding Follows
@@ -426,15 +429,15 @@ undo (Ok x) m note c e = ap (λ (o : Outcome Noted_content). o >>= (λ x. Ok x.1
 undo (Err x) m note c e = cc
 
 pub block-of : (stop left n : ℕ) (t : Tree) (r : Row) (rest : List Row) (i : Head) (is : List Head) → node_heads n t ≡ i ∷ is → i.column ≡ n → (b : NodeBack stop n t r rest) → depth t ≤ left →
-    (c : Content) × (Doc left n (seen r n (node_heads n t) []) b.body ≡ Ok c) × (bare_tree c ≡ t)
+    (c : Content) × (Doc left n (seen r n (node_heads n t)) b.body ≡ Ok c) × (bare_tree c ≡ t) × (code_within c ≡ false)
 unfolding entry
 block-of stop left n t r rest i is e m b l =
-    let g = b.gives n (node_heads n t) [] left l in
-    let x : entry left (Doc left) (seen r n (node_heads n t) []) dash_mark (i ∷ is) b.body ≡ Ok (g.note, g.content) =
-    subst (λ (hs : List Head). entry left (Doc left) (seen r n (node_heads n t) []) dash_mark hs b.body ≡ Ok (g.note, g.content)) e g.reads in
-    let y : Doc left i.column (seen r i.column (i ∷ is) []) b.body ≡ Ok g.content = undo _ _ _ _ x in
-    let z : Doc left n (seen r n (i ∷ is) []) b.body ≡ Ok g.content = subst (λ (c : ℕ). Doc left c (seen r c (i ∷ is) []) b.body ≡ Ok g.content) m y in
-    (g.content, subst (λ (hs : List Head). Doc left n (seen r n hs []) b.body ≡ Ok g.content) (sym e) z, g.tree)
+    let g = b.gives n (node_heads n t) left l in
+    let x : entry left (Doc left) (seen r n (node_heads n t)) dash_mark (i ∷ is) b.body ≡ Ok (g.note, g.content) =
+    subst (λ (hs : List Head). entry left (Doc left) (seen r n (node_heads n t)) dash_mark hs b.body ≡ Ok (g.note, g.content)) e g.reads in
+    let y : Doc left i.column (seen r i.column (i ∷ is)) b.body ≡ Ok g.content = undo _ _ _ _ x in
+    let z : Doc left n (seen r n (i ∷ is)) b.body ≡ Ok g.content = subst (λ (c : ℕ). Doc left c (seen r c (i ∷ is)) b.body ≡ Ok g.content) m y in
+    (g.content, subst (λ (hs : List Head). Doc left n (seen r n hs) b.body ≡ Ok g.content) (sym e) z, g.tree, quiet-content g.note g.content g.quiet)
 
 pub content-block : (left : ℕ) (r : Row) (rs : List Row) (i : Head) (is : List Head) (c : Content) → r.heads ≡ i ∷ is → Doc left r.indent r rs ≡ Ok c → content_of left (Doc left) (r ∷ rs) ≡ Ok (c, None)
 unfolding content_of
@@ -466,9 +469,10 @@ pair-block stop t h n c low i is e m node r k rest rrs x b ends before follows i
       goes = rw b (rows-first stop false r.least k c q.skip t h i is e (rest_of k c t rest) _ q.taken q.goes);
       deep = (low, deep-less n c q.body low q.deep);
       inside = inside q.body q.deep q.inside;
-      gives = λ j hs cs key left l.
+      gives = λ j hs key left l.
           let d = block-of stop left c t f rrs i is e m q l in
-          content-pair left (seen r j hs cs) key (f ∷ q.body) t (d.0, row_comment (seen r j hs cs)) (below-entry left (seen r j hs cs) (f ∷ q.body) d.0 x (content-block left f q.body i is d.0 e d.1)) d.2;
+          content-pair left (seen r j hs) key (f ∷ q.body) t (d.0, row_comment (seen r j hs)) (below-entry left (seen r j hs) (f ∷ q.body) d.0 x (content-block left f q.body i is d.0 e d.1)) d.2
+          (quiet-item (note_of (seen r j hs) (Some key) (row_comment (seen r j hs))) d.0 refl (rw x refl) d.3);
     }
 
 list-inside : (n : ℕ) (t : Tree) (ts : Trees) (r : Row) (body : List Row) → r.indent ≡ n → starts_with_dash r ≡ true → AllInside false n body → AllInside false n (r ∷ body)
