@@ -1,7 +1,7 @@
 -- The documents of printed trees have no key twice, and none is null.
 use Rattle.std.proofs.Common.{◌≡◌, ℕ, pos, negsuc, Bool, true, false, ◌==◌, List, [], ◌∷◌, None, Ok, refl, sym, ◌∙◌, ap, subst}
 use Rattle.std.proofs.lemmas.Bool.{or_parts, ne_eqb, eqb-true, eqb-false, eq-eqb, or_from}
-use Rattle.std.specs.Prelude.{bytes_eq}
+use Rattle.ytt_laws.proofs.Lists.{bytes_eq-sym}
 use Rattle.ytt_base.specs.Trees.{Scalar, null, boolean, integer, string, same_key, has_key, keys, Trees, no_trees, tree, IsTree, AreTrees, ArePairs, Writable}
 use Rattle.yaml_spec.specs.Noted.{Content, noted_scalar, noted_list, noted_map, Items, no_items, item, Documents, key_of, bare_tree, bare_trees, bare_pairs, drop_null, twice, twice_below, twice_among}
 use Rattle.yaml_spec.specs.Read.{distinct}
@@ -12,12 +12,6 @@ eqb-sym a b = go (a == b) refl
     go : (t : Bool) → (a == b) ≡ t → t ≡ (b == a)
     go true e = rw (eqb-true a b e) (sym (eq-eqb b b refl))
     go false e = sym (ne_eqb b a (λ p. eqb-false a b e (sym p)))
-
-bytes_eq-sym : (a b : List ℕ) → bytes_eq a b ≡ bytes_eq b a
-bytes_eq-sym [] [] = refl
-bytes_eq-sym [] (y ∷ b) = refl
-bytes_eq-sym (x ∷ a) [] = refl
-bytes_eq-sym (x ∷ a) (y ∷ b) = rw (eqb-sym x y, bytes_eq-sym a b) refl
 
 pub same_key-sym : (a b : Scalar) → same_key a b ≡ same_key b a
 same_key-sym null null = refl

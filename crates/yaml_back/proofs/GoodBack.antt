@@ -1,7 +1,7 @@
 -- What is printed is UTF-8 of printable characters, without a break.
 use Rattle.std.proofs.Common.{◌≡◌, ℕ, zero, suc, ◌+◌, ◌/◌, ◌%◌, ◌<◌, ◌≤◌, pos, negsuc, Bool, true, false, not, ◌&&◌, ◌||◌, ◌==◌, List, [], ◌∷◌, ◌++◌, refl, sym, ◌∙◌, ap, subst, arith, true≢false, if◌then◌else◌, ◌⊎◌, inl, inr}
 use Rattle.std.proofs.lemmas.List.{append-nil}
-use Rattle.std.proofs.lemmas.Bool.{cond_both, ne_eqb, eqb-true, eqb-false, leb-true, le-leb, ltb-true, ltb-false, or_parts, or_right, and_cases, cases_lt, lt-leb, leb-false}
+use Rattle.std.proofs.lemmas.Bool.{cond_both, ne_eqb, eqb-true, eqb-false, leb-true, le-leb, ltb-true, ltb-false, or_parts, or_right, and_cases, cases_lt, lt-leb, leb-false, and_parts}
 use Rattle.std.proofs.lemmas.Bool.Decides.{nat_tests}
 use Rattle.std.proofs.lemmas.Str.{encodes-chars, scalars-chars, chars-encodes, encodes-append, is_utf8-from_IsUtf8}
 use Rattle.std.specs.Prelude.{ℤ, IsUtf8, chars, codes, nat_le, nat_lt, decimal}
@@ -13,7 +13,7 @@ use Rattle.yaml_spec.specs.Lines.{is_printable, all_printable, has_good_chars, s
 use Rattle.ytt_base.specs.Trees.{Scalar, null, boolean, integer, string, IsScalar}
 use Rattle.yaml_spec.specs.Text.{spaces, is_hidden, is_shown, all_chars, is_literal_char, hex_digit, hex2, quoted_char, quoted_chars, quoted_text, key_text, fits_plain, fits_literal, pieces, are_trimmed, has_break}
 use Rattle.yaml_back.proofs.QuotesBack.{AreHigh, encode_high, encode_low}
-use Rattle.yaml_back.proofs.ValuesBack.{both, plain_of}
+use Rattle.yaml_back.proofs.ValuesBack.{plain_of}
 use Rattle.yaml_back.proofs.LiteralsBack.{pieces_some}
 use Rattle.yaml_spec.proofs.IntegersBack.{decimal-digits}
 
@@ -25,11 +25,11 @@ pub record IsGood (t : List ℕ) : Type 0 where
 
 scalars-append : (xs ys : List ℕ) → scalars xs ≡ true → scalars ys ≡ true → scalars (xs ++ ys) ≡ true
 scalars-append [] ys p q = q
-scalars-append (x ∷ xs) ys p q = let k = both (is_scalar_char x) (scalars xs) p in rw k.0 (scalars-append xs ys k.1 q)
+scalars-append (x ∷ xs) ys p q = let k = and_parts (is_scalar_char x) (scalars xs) p in rw k.0 (scalars-append xs ys k.1 q)
 
 printable-append : (xs ys : List ℕ) → all_printable xs ≡ true → all_printable ys ≡ true → all_printable (xs ++ ys) ≡ true
 printable-append [] ys p q = q
-printable-append (x ∷ xs) ys p q = let k = both (x == tab || is_printable x) (all_printable xs) p in rw k.0 (printable-append xs ys k.1 q)
+printable-append (x ∷ xs) ys p q = let k = and_parts (x == tab || is_printable x) (all_printable xs) p in rw k.0 (printable-append xs ys k.1 q)
 
 pub good-nil : IsGood []
 good-nil = record { cs = []; is = refl; scalars = refl; shown = refl }
@@ -58,8 +58,8 @@ is_ascii_shown b = nat_le 32 b && nat_le b 126
 pub good-ascii : (t : List ℕ) → all_bytes is_ascii_shown t ≡ true → IsGood t
 good-ascii [] e = good-nil
 good-ascii (b ∷ bs) e =
-    let k = both (is_ascii_shown b) (all_bytes is_ascii_shown bs) e in
-    let r = both (nat_le 32 b) (nat_le b 126) k.0 in
+    let k = and_parts (is_ascii_shown b) (all_bytes is_ascii_shown bs) e in
+    let r = and_parts (nat_le 32 b) (nat_le b 126) k.0 in
     good-append (b ∷ []) bs (good-byte b (leb-true 32 b r.0) (leb-true b 126 r.1)) (good-ascii bs k.1)
 
 pub good-spaces : (n : ℕ) → IsGood (spaces n)
@@ -103,7 +103,7 @@ chars_no_break : (cs : List ℕ) → all_printable cs ≡ true → NoBreak (enco
 unfolding NoBreak
 chars_no_break [] e = tt
 chars_no_break (c ∷ cs) e =
-    let k = both (c == tab || is_printable c) (all_printable cs) e in
+    let k = and_parts (c == tab || is_printable c) (all_printable cs) e in
     break-append (encode c) (encodes cs) (char_no_break c k.0) (chars_no_break cs k.1)
 
 pub good-break : (t : List ℕ) → IsGood t → NoBreak t
@@ -112,11 +112,11 @@ good-break t g = subst NoBreak g.is (chars_no_break g.cs g.shown)
 -- ---- strings
 
 shown_printable : (c : ℕ) → is_shown c ≡ true → (c == tab || is_printable c) ≡ true
-shown_printable c e = or_right (c == tab) (is_printable c) (both (is_printable c) (not (is_hidden c)) e).0
+shown_printable c e = or_right (c == tab) (is_printable c) (and_parts (is_printable c) (not (is_hidden c)) e).0
 
 all_shown_printable : (cs : List ℕ) → all_chars is_shown cs ≡ true → all_printable cs ≡ true
 all_shown_printable [] e = refl
-all_shown_printable (c ∷ cs) e = let k = both (is_shown c) (all_chars is_shown cs) e in rw (shown_printable c k.0) (all_shown_printable cs k.1)
+all_shown_printable (c ∷ cs) e = let k = and_parts (is_shown c) (all_chars is_shown cs) e in rw (shown_printable c k.0) (all_shown_printable cs k.1)
 
 pub good-shown : (s : List ℕ) → IsUtf8 s → all_chars is_shown (chars s) ≡ true → IsGood s
 good-shown s u e = record { cs = chars s; is = encodes-chars s u; scalars = scalars-chars s u; shown = all_shown_printable (chars s) e }
@@ -165,7 +165,7 @@ good-quoted_char c s =
 
 good-quoted_chars : (cs : List ℕ) → scalars cs ≡ true → IsGood (quoted_chars cs)
 good-quoted_chars [] e = good-nil
-good-quoted_chars (c ∷ cs) e = let k = both (is_scalar_char c) (scalars cs) e in good-append (quoted_char c) (quoted_chars cs) (good-quoted_char c k.0) (good-quoted_chars cs k.1)
+good-quoted_chars (c ∷ cs) e = let k = and_parts (is_scalar_char c) (scalars cs) e in good-append (quoted_char c) (quoted_chars cs) (good-quoted_char c k.0) (good-quoted_chars cs k.1)
 
 good-quoted : (s : List ℕ) → IsUtf8 s → IsGood (quoted_text s)
 good-quoted s u =
@@ -175,8 +175,8 @@ good-quoted s u =
 digits_ascii : (t : List ℕ) → all_bytes is_digit t ≡ true → all_bytes is_ascii_shown t ≡ true
 digits_ascii [] e = refl
 digits_ascii (b ∷ bs) e =
-    let k = both (is_digit b) (all_bytes is_digit bs) e in
-    let r = both (nat_le 48 b) (nat_le b 57) k.0 in
+    let k = and_parts (is_digit b) (all_bytes is_digit bs) e in
+    let r = and_parts (nat_le 48 b) (nat_le b 57) k.0 in
     let l = leb-true 48 b r.0 in
     let m = leb-true b 57 r.1 in
     rw (le-leb 32 b (omega arith), le-leb b 126 (omega arith)) (digits_ascii bs k.1)
@@ -230,7 +230,7 @@ good-onto bs [] g h = (g, tt)
 good-onto bs (l ∷ ls) g h = (good-append bs l g h.0, h.1)
 
 literal_printable : (c : ℕ) → is_literal_char c ≡ true → (c == line_feed) ≡ false → (c == tab || is_printable c) ≡ true
-literal_printable c e n = go (c == line_feed) (c == tab) (is_shown c) (is_printable c) e n (λ h. (both (is_printable c) (not (is_hidden c)) h).0)
+literal_printable c e n = go (c == line_feed) (c == tab) (is_shown c) (is_printable c) e n (λ h. (and_parts (is_printable c) (not (is_hidden c)) h).0)
   where
     go : (a b d p : Bool) → (a || b || d) ≡ true → a ≡ false → (d ≡ true → p ≡ true) → (b || p) ≡ true
     go true b d p e n h = absurd (true≢false n)
@@ -250,13 +250,13 @@ pieces-good : (cs : List ℕ) → scalars cs ≡ true → all_chars is_literal_c
 unfolding AllGood
 pieces-good [] s e = (good-nil, tt)
 pieces-good (c ∷ cs) s e =
-    let k = both (is_scalar_char c) (scalars cs) s in
-    let l = both (is_literal_char c) (all_chars is_literal_char cs) e in
+    let k = and_parts (is_scalar_char c) (scalars cs) s in
+    let l = and_parts (is_literal_char c) (all_chars is_literal_char cs) e in
     by_break c cs k.0 l.0 (pieces-good cs k.1 l.1) (c == line_feed) refl
 
 pub pieces_are_good : (s : List ℕ) → IsUtf8 s → fits_literal s ≡ true → AllGood (pieces s)
 unfolding fits_literal
 pieces_are_good s u e =
-    let g = both _ (are_trimmed (pieces s)) e in
-    let f = both (has_break s && not (first s == line_feed)) (all_chars is_literal_char (chars s)) g.0 in
+    let g = and_parts _ (are_trimmed (pieces s)) e in
+    let f = and_parts (has_break s && not (first s == line_feed)) (all_chars is_literal_char (chars s)) g.0 in
     subst (λ t. AllGood (pieces t)) (encodes-chars s u) (pieces-good (chars s) (scalars-chars s u) f.1)

@@ -44,23 +44,23 @@ seen r i hs = record r { indent = i; heads = hs; before = [] }
 -- ---- comments of code
 
 -- no comment of this item is code
-abbrev pub IsQuiet : Note → Content → Type 0
-IsQuiet n c = code_among (item n c no_items) ≡ false
+abbrev pub HasNoCode : Note → Content → Type 0
+HasNoCode n c = code_among (item n c no_items) ≡ false
 
-pub quiet-item : (n : Note) (c : Content) → code_in_some n.before ≡ false → n.trailing ≡ None → code_within c ≡ false → IsQuiet n c
-quiet-item n c b t q = rw (b, t, q) refl
+pub no_code-item : (n : Note) (c : Content) → code_in_some n.before ≡ false → n.trailing ≡ None → code_within c ≡ false → HasNoCode n c
+no_code-item n c b t q = rw (b, t, q) refl
 
-pub quiet-content : (n : Note) (c : Content) → IsQuiet n c → code_within c ≡ false
-quiet-content n c q = (or_parts _ (code_within c) (or_parts _ false q).0).1
+pub no_code-content : (n : Note) (c : Content) → HasNoCode n c → code_within c ≡ false
+no_code-content n c q = (or_parts _ (code_within c) (or_parts _ false q).0).1
 
-pub quiet-more : (n : Note) (c : Content) (is : Items) → IsQuiet n c → code_among is ≡ false → code_among (item n c is) ≡ false
-quiet-more n c is q h = or_from _ (code_among is) (or_parts _ false q).0 h
+pub no_code-more : (n : Note) (c : Content) (is : Items) → HasNoCode n c → code_among is ≡ false → code_among (item n c is) ≡ false
+no_code-more n c is q h = or_from _ (code_among is) (or_parts _ false q).0 h
 
 -- ---- a row by its value
 
 -- the value of the row takes so many further lines
 pub record LeafReads (d : ℕ) (c : Content) (skip : ℕ) (r : Row) : Type 0 where
-  pub quiet : code_within c ≡ false
+  pub without_code : code_within c ≡ false
   pub has : has_value r ≡ true
   pub reads : (left owner : ℕ) (cs : List Comment) → d ≤ left →
       value left r.open_place r.least owner cs (record { place = r.place; text = r.text; below = r.below }) ≡ Ok (record { content = c; loose = cs; trailing = None; last = r.place.line + skip })
@@ -84,7 +84,7 @@ pub record Gives (left : ℕ) (r : Row) (m : Mark) (hs : List Head) (body : List
   pub content : Content
   pub reads : entry left (Doc left) r m hs body ≡ Ok (note, content)
   pub tree : bare_tree content ≡ t
-  pub quiet : IsQuiet note content
+  pub without_code : HasNoCode note content
 
 pub leaf-content : (d : ℕ) (c : Content) (skip : ℕ) (r : Row) → LeafReads d c skip r → (i : ℕ) (hs : List Head) (left : ℕ) → d ≤ left →
     entry_content left (Doc left) (seen r i hs) [] ≡ Ok (c, None)
@@ -98,7 +98,7 @@ leaf-dash d c skip r f i hs left l = record {
   note = note_of (seen r i hs) None None;
   content = c;
   tree = refl;
-  quiet = quiet-item (note_of (seen r i hs) None None) c refl refl f.quiet;
+  without_code = no_code-item (note_of (seen r i hs) None None) c refl refl f.without_code;
   reads = ap (λ (o : Outcome Found). o >>= (λ f. Ok (note_of (seen r i hs) None f.1, f.0))) (leaf-content d c skip r f i hs left l);
 }
 
@@ -108,16 +108,16 @@ pub record GivesPair (left : ℕ) (r : Row) (k : Scalar) (body : List Row) (t : 
   pub content : Content
   pub reads : entry left (Doc left) r (key_mark (Ok k)) [] body ≡ Ok (note, content)
   pub tree : bare_tree content ≡ t
-  pub quiet : IsQuiet note content
+  pub without_code : HasNoCode note content
   pub key : key_of note ≡ k
 
-pub content-pair : (left : ℕ) (r : Row) (k : Scalar) (body : List Row) (t : Tree) (f : Found) → entry_content left (Doc left) r body ≡ Ok f → bare_tree f.0 ≡ t → IsQuiet (note_of r (Some k) f.1) f.0 → GivesPair left r k body t
+pub content-pair : (left : ℕ) (r : Row) (k : Scalar) (body : List Row) (t : Tree) (f : Found) → entry_content left (Doc left) r body ≡ Ok f → bare_tree f.0 ≡ t → HasNoCode (note_of r (Some k) f.1) f.0 → GivesPair left r k body t
 unfolding entry
 content-pair left r k body t f e h q = record {
   note = note_of r (Some k) f.1;
   content = f.0;
   tree = h;
-  quiet = q;
+  without_code = q;
   key = refl;
   reads = ap (λ (o : Outcome Found). o >>= (λ f. Ok (note_of r (Some k) f.1, f.0))) e;
 }
@@ -169,13 +169,13 @@ give-item : (left n : ℕ) (t : Tree) (ts : Trees) (r : Row) (hs : List Head) (b
     Gives left (seen r n (dash_head n ∷ hs)) dash_mark hs body t → GiveTrees left n es ts → GiveTrees left n (record { row = seen r n (dash_head n ∷ hs); body = body } ∷ es) (tree t ts)
 unfolding Give entry_at
 give-item left n t ts r hs body es x y =
-    (item x.note x.content y.0, ((x.note, x.content), y.0, rw (eq-eqb n n refl, entry_at) x.reads, y.1, refl), rw (x.tree, y.2) refl, quiet-more x.note x.content y.0 x.quiet y.3)
+    (item x.note x.content y.0, ((x.note, x.content), y.0, rw (eq-eqb n n refl, entry_at) x.reads, y.1, refl), rw (x.tree, y.2) refl, no_code-more x.note x.content y.0 x.without_code y.3)
 
 give-pair : (left n : ℕ) (k : Scalar) (t : Tree) (ps : Pairs) (r : Row) (body : List Row) (es : List Entry) →
     GivesPair left (seen r n (key_head n k ∷ [])) k body t → GivePairs left n es ps → GivePairs left n (record { row = seen r n (key_head n k ∷ []); body = body } ∷ es) (pair k t ps)
 unfolding Give entry_at
 give-pair left n k t ps r body es x y =
-    (item x.note x.content y.0, ((x.note, x.content), y.0, rw (eq-eqb n n refl, entry_at) x.reads, y.1, refl), rw (x.key, x.tree, y.2) refl, quiet-more x.note x.content y.0 x.quiet y.3)
+    (item x.note x.content y.0, ((x.note, x.content), y.0, rw (eq-eqb n n refl, entry_at) x.reads, y.1, refl), rw (x.key, x.tree, y.2) refl, no_code-more x.note x.content y.0 x.without_code y.3)
 
 pub item-back : (n : ℕ) (t : Tree) (ts : Trees) (r : Row) (body : List Row) (es : List Entry) → AllDeep (n + 2) body →
     ((left : ℕ) → depth t ≤ left → Gives left (seen r n (dash_head n ∷ node_heads (n + 2) t)) dash_mark (node_heads (n + 2) t) body t) →

@@ -3,7 +3,7 @@ use Rattle.ytt_base.specs.declared.fault.Place.{Place}
 use Rattle.std.proofs.Common.{◌≡◌, ℕ, suc, ◌<◌, ◌≤◌, pos, negsuc, Bool, true, false, ◌&&◌, ◌==◌, List, [], ◌∷◌, ◌++◌, Option, Some, None, Ok, refl, sym, ◌∙◌, ap, append_assoc, arith, true≢false, if◌then◌else◌, ◌⊎◌, inl, inr}
 use Rattle.std.proofs.lemmas.List.{append-nil}
 use Rattle.std.proofs.Math.Seq.{drop-append_seam}
-use Rattle.std.proofs.lemmas.Bool.{ne_eqb, leb-true, le-leb}
+use Rattle.std.proofs.lemmas.Bool.{ne_eqb, leb-true, le-leb, and_parts}
 use Rattle.std.proofs.lemmas.Bool.Decides.{nat_tests}
 use Rattle.std.specs.Prelude.{IsUtf8, chars, codes, bytes_eq, decimal, nat_le, FitsSigned}
 use Rattle.std.specs.Int.{w128}
@@ -22,7 +22,7 @@ use Rattle.yaml_spec.specs.Rows.{quoted_key, key_at, behind_colon, key_with, is_
 use Rattle.yaml_spec.specs.Text.{start_marks, has_pair, last, fits_plain, quoted_text, quoted_chars, key_text}
 use Rattle.yaml_back.proofs.PlainBack.{no_gap, NoTab, IsTail, IsQuiet, part-quiet, behind-quiet}
 use Rattle.yaml_spec.proofs.IntegersBack.{plain-positive, plain-negative, decimal-digits, decimal-some}
-use Rattle.yaml_back.proofs.ValuesBack.{both, IsPlain, plain_of, Stops, further-stops, no_start_fault, last_colon, outside_one, scan-quoted, value-quoted}
+use Rattle.yaml_back.proofs.ValuesBack.{IsPlain, plain_of, Stops, further-stops, no_start_fault, last_colon, outside_one, scan-quoted, value-quoted}
 
 -- bytes that begin no scalar without quotes
 abbrev pub line_marks : List ℕ
@@ -74,13 +74,13 @@ abbrev is_numeric : ℕ → Bool
 is_numeric b = nat_le 45 b && nat_le b 57
 
 numeric_bounds : (b : ℕ) → is_numeric b ≡ true → (45 ≤ b) × (b ≤ 57)
-numeric_bounds b e = let k = both (nat_le 45 b) (nat_le b 57) e in (leb-true 45 b k.0, leb-true b 57 k.1)
+numeric_bounds b e = let k = and_parts (nat_le 45 b) (nat_le b 57) e in (leb-true 45 b k.0, leb-true b 57 k.1)
 
 numeric_tabs : (t : List ℕ) → all_bytes is_numeric t ≡ true → NoTab t
 unfolding NoTab
 numeric_tabs [] e = tt
 numeric_tabs (b ∷ bs) e =
-    let k = both (is_numeric b) (all_bytes is_numeric bs) e in
+    let k = and_parts (is_numeric b) (all_bytes is_numeric bs) e in
     let l = numeric_bounds b k.0 in
     (ne_eqb b 9 (omega arith), numeric_tabs bs k.1)
 
@@ -88,18 +88,18 @@ numeric_pair : (x y : ℕ) → (x < 45) ⊎ (57 < x) → (t : List ℕ) → all_
 numeric_pair x y h [] e = refl
 numeric_pair x y h (b ∷ []) e = refl
 numeric_pair x y h (b ∷ c ∷ t) e =
-    let k = both (is_numeric b) (all_bytes is_numeric (c ∷ t)) e in
+    let k = and_parts (is_numeric b) (all_bytes is_numeric (c ∷ t)) e in
     let l = numeric_bounds b k.0 in
     let n : (b == x) ≡ false = ne_eqb b x (omega arith) in
     rw n (numeric_pair x y h (c ∷ t) k.1)
 
 numeric_last : (t : List ℕ) (b : ℕ) → all_bytes is_numeric (b ∷ t) ≡ true → is_numeric (last (b ∷ t)) ≡ true
-numeric_last [] b e = (both (is_numeric b) true e).0
-numeric_last (c ∷ t) b e = numeric_last t c (both (is_numeric b) (all_bytes is_numeric (c ∷ t)) e).1
+numeric_last [] b e = (and_parts (is_numeric b) true e).0
+numeric_last (c ∷ t) b e = numeric_last t c (and_parts (is_numeric b) (all_bytes is_numeric (c ∷ t)) e).1
 
 numeric_quiet : (b : ℕ) (bs : List ℕ) → all_bytes is_numeric (b ∷ bs) ≡ true → IsQuiet true (b ∷ bs) × (is_white (last (b ∷ bs)) ≡ false)
 numeric_quiet b bs e =
-    let l = numeric_bounds b (both (is_numeric b) (all_bytes is_numeric bs) e).0 in
+    let l = numeric_bounds b (and_parts (is_numeric b) (all_bytes is_numeric bs) e).0 in
     let m = numeric_bounds (last (b ∷ bs)) (numeric_last bs b e) in (
       record {
         tabs = numeric_tabs (b ∷ bs) e;
@@ -113,14 +113,14 @@ numeric_quiet b bs e =
 
 digit_numeric : (b : ℕ) → is_digit b ≡ true → is_numeric b ≡ true
 digit_numeric b e =
-    let k = both (nat_le 48 b) (nat_le b 57) e in
+    let k = and_parts (nat_le 48 b) (nat_le b 57) e in
     let l = leb-true 48 b k.0 in
     rw (le-leb 45 b (omega arith)) k.1
 
 digits_numeric : (t : List ℕ) → all_bytes is_digit t ≡ true → all_bytes is_numeric t ≡ true
 digits_numeric [] e = refl
 digits_numeric (b ∷ bs) e =
-    let k = both (is_digit b) (all_bytes is_digit bs) e in
+    let k = and_parts (is_digit b) (all_bytes is_digit bs) e in
     rw (digit_numeric b k.0) (digits_numeric bs k.1)
 
 bare_digits : (t : List ℕ) (s : Scalar) → is_empty t ≡ false → all_bytes is_digit t ≡ true → plain t ≡ Ok s → IsBare t s
@@ -128,7 +128,7 @@ unfolding start_fault
 bare_digits [] s e d p = absurd (true≢false e)
 bare_digits (b ∷ bs) s e d p =
     let q = numeric_quiet b bs (digits_numeric (b ∷ bs) d) in
-    let k = both (nat_le 48 b) (nat_le b 57) (both (is_digit b) (all_bytes is_digit bs) d).0 in
+    let k = and_parts (nat_le 48 b) (nat_le b 57) (and_parts (is_digit b) (all_bytes is_digit bs) d).0 in
     let l = leb-true 48 b k.0 in
     let h = leb-true b 57 k.1 in
     record {
@@ -146,7 +146,7 @@ unfolding start_fault
 bare_negative [] s e d p = absurd (true≢false e)
 bare_negative (b ∷ bs) s e d p =
     let q = numeric_quiet 45 (b ∷ bs) (digits_numeric (b ∷ bs) d) in
-    let k = both (nat_le 48 b) (nat_le b 57) (both (is_digit b) (all_bytes is_digit bs) d).0 in
+    let k = and_parts (nat_le 48 b) (nat_le b 57) (and_parts (is_digit b) (all_bytes is_digit bs) d).0 in
     let l = leb-true 48 b k.0 in
     let g : (rest : List ℕ) → is_gap (b ∷ (bs ++ rest)) ≡ false = λ rest. no_gap b (bs ++ rest) (ne_eqb b 32 (omega arith)) (ne_eqb b 9 (omega arith)) in
     record {

@@ -4,7 +4,7 @@ use Rattle.ytt_base.specs.declared.fault.Place.{Place}
 use Rattle.std.proofs.Common.{◌≡◌, ℕ, zero, suc, ◌+◌, ◌-◌, ◌≤◌, Bool, true, false, not, ◌&&◌, ◌||◌, ◌==◌, List, [], ◌∷◌, ◌++◌, length, drop, Some, None, Ok, refl, sym, ◌∙◌, ap, subst, append_assoc, arith, true≢false, if◌then◌else◌}
 use Rattle.std.proofs.lemmas.List.{append-nil, length-replicate, length-append}
 use Rattle.std.proofs.Math.Seq.{drop-append_seam, drop-nil}
-use Rattle.std.proofs.lemmas.Bool.{ne_eqb, eqb-true, le-leb, and_right, eq-eqb, or_parts}
+use Rattle.std.proofs.lemmas.Bool.{ne_eqb, eqb-true, le-leb, and_right, eq-eqb, or_parts, and_parts, not-true}
 use Rattle.std.specs.Prelude.{chars, nat_le, map, replicate}
 use Rattle.yaml_spec.specs.Bytes.{line_feed, space, tab, first, is_white, is_empty, indent}
 use Rattle.yaml_spec.specs.Lines.{Line, numbered, start_line}
@@ -15,7 +15,6 @@ use Rattle.yaml_spec.specs.Blocks.{Chomp, strip, clip, keep, Body, header, is_sp
 use Rattle.yaml_spec.specs.Noted.{Comment}
 use Rattle.yaml_spec.specs.Values.{value, noted, has_stray_note}
 use Rattle.yaml_spec.specs.Text.{spaces, pieces, are_trimmed, final_breaks, literal_header, fits_literal, has_break, all_chars, is_literal_char, last}
-use Rattle.yaml_back.proofs.ValuesBack.{both, of_not}
 use Rattle.yaml_back.proofs.KeysBack.{leaf_value}
 use Rattle.yaml_back.proofs.TextLines.{content_line, content_lines}
 
@@ -151,7 +150,7 @@ no_space b e = (or_parts (b == space) (b == tab) e).0
 within : (m : ℕ) (l : List ℕ) → not (is_white (first l)) ≡ true → (is_spaces (content_line m l) || nat_le m (indent (content_line m l))) ≡ true
 within m [] e = refl
 within m (b ∷ bs) e =
-    let s = no_space b (of_not (is_white b) e) in
+    let s = no_space b (not-true (is_white b) e) in
     rw (full_line m b bs s, indent_line m b bs s, le-leb m m (omega arith)) refl
 
 -- what follows does not belong to the scalar
@@ -171,11 +170,11 @@ lines_within-content m k (l ∷ []) rest e h = by_empty (is_empty l)
   where
     by_empty : (b : Bool) → (let ls : List (List ℕ) = elim b as (λ _. List (List ℕ)) [ true ↦ [] | false ↦ content_line m l ∷ [] ] in lines_within m (numbered k ls ++ rest) ≡ numbered k ls)
     by_empty true = leaves-within m rest h
-    by_empty false = let t = both (not (is_white (first l)) && not (is_white (last l))) true e in
-        rw (within m l (both (not (is_white (first l))) (not (is_white (last l))) t.0).0, lines_within, leaves-within m rest h) refl
+    by_empty false = let t = and_parts (not (is_white (first l)) && not (is_white (last l))) true e in
+        rw (within m l (and_parts (not (is_white (first l))) (not (is_white (last l))) t.0).0, lines_within, leaves-within m rest h) refl
 lines_within-content m k (l ∷ n ∷ ls) rest e h =
-    let t = both (not (is_white (first l)) && not (is_white (last l))) (are_trimmed (n ∷ ls)) e in
-    rw (within m l (both (not (is_white (first l))) (not (is_white (last l))) t.0).0, lines_within, lines_within-content m (place_below k 1) (n ∷ ls) rest t.1 h) refl
+    let t = and_parts (not (is_white (first l)) && not (is_white (last l))) (are_trimmed (n ∷ ls)) e in
+    rw (within m l (and_parts (not (is_white (first l))) (not (is_white (last l))) t.0).0, lines_within, lines_within-content m (place_below k 1) (n ∷ ls) rest t.1 h) refl
 
 drop-line : (m : ℕ) (l : List ℕ) → drop m (content_line m l) ≡ l
 drop-line m [] = drop-nil m
@@ -245,8 +244,8 @@ module _ (left : ℕ) (open_place : Place) (least owner : ℕ) (n : Place) (m : 
   unfolding lines_of_literal
   body-pieces b q ps e =
       let c = content-first m b q ps in
-      let t = both (not (is_white b) && not (is_white (last (b ∷ q)))) (are_trimmed ps) e in
-      let s = no_space b (of_not (is_white b) (both (not (is_white b)) (not (is_white (last (b ∷ q)))) t.0).0) in
+      let t = and_parts (not (is_white b) && not (is_white (last (b ∷ q)))) (are_trimmed ps) e in
+      let s = no_space b (not-true (is_white b) (and_parts (not (is_white b)) (not (is_white (last (b ∷ q)))) t.0).0) in
       let f : (x : List (List ℕ)) → x ≡ (spaces m ++ (b ∷ q)) ∷ c.0 → body least 0 (numbered k x ++ rest) ≡ Ok (body_at m (numbered k x ++ rest)) =
       λ x i. rw i (body-first least m (record { place = k; text = spaces m ++ (b ∷ q) }) (numbered (place_below k 1) c.0 ++ rest) (full_line m b q s) (indent_line m b q s) l) in
       f (content_lines m ((b ∷ q) ∷ ps)) c.1
@@ -290,7 +289,7 @@ module _ (left : ℕ) (open_place : Place) (least owner : ℕ) (n : Place) (m : 
       ≡ Ok (leaf_value (string s) cs (n.line + length (numbered k (content_lines m (pieces s)))))
   unfolding Reads_pieces lines_of_literal fits_literal
   value-literal s e =
-      let g = both _ (are_trimmed (pieces s)) e in
-      let f = both (has_break s && not (first s == line_feed)) (all_chars is_literal_char (chars s)) g.0 in
-      let d = both (has_break s) (not (first s == line_feed)) f.0 in
-      fits_pieces s d.0 (of_not (first s == line_feed) d.1) g.1
+      let g = and_parts _ (are_trimmed (pieces s)) e in
+      let f = and_parts (has_break s && not (first s == line_feed)) (all_chars is_literal_char (chars s)) g.0 in
+      let d = and_parts (has_break s) (not (first s == line_feed)) f.0 in
+      fits_pieces s d.0 (not-true (first s == line_feed) d.1) g.1

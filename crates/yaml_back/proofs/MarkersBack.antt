@@ -1,7 +1,7 @@
 -- No printed line is a marker, and no printed text begins with a byte order mark.
 use Rattle.std.proofs.Common.{◌≡◌, ℕ, zero, suc, ◌+◌, pos, negsuc, Bool, true, false, not, ◌&&◌, ◌==◌, List, [], ◌∷◌, ◌++◌, Ok, refl, sym, ◌∙◌, ap, subst, append_assoc, arith, true≢false, if◌then◌else◌}
 use Rattle.std.proofs.lemmas.List.{append-nil}
-use Rattle.std.proofs.lemmas.Bool.{ne_eqb, eqb-true, leb-true, and_left, and_right}
+use Rattle.std.proofs.lemmas.Bool.{ne_eqb, eqb-true, leb-true, and_left, and_right, and_parts}
 use Rattle.std.proofs.lemmas.Str.{encodes-chars, encode_same}
 use Rattle.std.specs.Prelude.{ℤ, IsUtf8, chars, codes, nat_le, decimal, bytes_eq, take, slice_index}
 use Rattle.std.specs.Fmt.{signed_decimal}
@@ -12,7 +12,7 @@ use Rattle.yaml_spec.specs.Scalars.{form, plain}
 use Rattle.yaml_spec.specs.Read.{begins_with}
 use Rattle.yaml_spec.specs.Text.{spaces, is_shown, all_chars, quoted_chars, quoted_text, key_text, fits_plain, fits_literal, pieces, literal_header, final_breaks, start_marks}
 use Rattle.yaml_back.proofs.PlainBack.{IsTail}
-use Rattle.yaml_back.proofs.ValuesBack.{both, outside_one, IsPlain, plain_of}
+use Rattle.yaml_back.proofs.ValuesBack.{outside_one, IsPlain, plain_of}
 use Rattle.yaml_spec.proofs.IntegersBack.{decimal-digits, decimal-some}
 use Rattle.yaml_back.proofs.GoodBack.{IsGood, AllGood, good-nil, good-append, good-spaces, good-ascii, good-key, pieces_are_good}
 use Rattle.yaml_back.proofs.TextLines.{content_line, content_lines, is_block, block_first, block_more, scalar_first, scalar_more, node_first, pair_first, node_more, pair_more, list_lines, map_lines, document_lines}
@@ -53,7 +53,7 @@ quiet-plain (b ∷ bs) rest p t = record {
 quiet-digits : (t rest : List ℕ) → is_empty t ≡ false → all_bytes is_digit t ≡ true → IsQuietLine (t ++ rest) × IsQuietLine (45 ∷ (t ++ rest))
 quiet-digits [] rest e d = absurd (true≢false e)
 quiet-digits (b ∷ bs) rest e d =
-    let k = both (nat_le 48 b) (nat_le b 57) (both (is_digit b) (all_bytes is_digit bs) d).0 in
+    let k = and_parts (nat_le 48 b) (nat_le b 57) (and_parts (is_digit b) (all_bytes is_digit bs) d).0 in
     let l = leb-true 48 b k.0 in
     (quiet-first b (bs ++ rest) (ne_eqb b 45 (omega arith)) (ne_eqb b 46 (omega arith)), quiet-dash b (bs ++ rest) (ne_eqb b 45 (omega arith)))
 
@@ -86,8 +86,8 @@ mark-is [] e = absurd (true≢false (sym e))
 mark-is (x ∷ []) e = absurd (true≢false (sym e ∙ and_left _ _ (and_right (x == 0xEF) false refl)))
 mark-is (x ∷ y ∷ []) e = absurd (true≢false (sym e ∙ and_right (x == 0xEF && y == 0xBB) false refl))
 mark-is (x ∷ y ∷ z ∷ r) e =
-    let k = both (x == 0xEF && y == 0xBB) (z == 0xBF) e in
-    let l = both (x == 0xEF) (y == 0xBB) k.0 in
+    let k = and_parts (x == 0xEF && y == 0xBB) (z == 0xBF) e in
+    let l = and_parts (x == 0xEF) (y == 0xBB) k.0 in
     (r, rw (eqb-true x 0xEF l.0, eqb-true y 0xBB l.1, eqb-true z 0xBF k.1) refl)
 
 mark-shown : (cs : List ℕ) (rest : List ℕ) → all_chars is_shown cs ≡ true → is_empty cs ≡ false → has_mark (encodes cs ++ rest) ≡ false
@@ -99,7 +99,7 @@ mark-shown (c ∷ cs) rest e n = go (has_mark ((encode c ++ encodes cs) ++ rest)
     go true p =
         let m = mark-is ((encode c ++ encodes cs) ++ rest) p in
         let i = (encode_same c 0xFEFF (encodes cs ++ rest) m.0 (sym (append_assoc (encode c) (encodes cs) rest) ∙ m.1)).0 in
-        absurd (true≢false (sym (both (is_shown c) (all_chars is_shown cs) e).0 ∙ ap is_shown i))
+        absurd (true≢false (sym (and_parts (is_shown c) (all_chars is_shown cs) e).0 ∙ ap is_shown i))
 
 mark-plain : (s rest : List ℕ) → IsUtf8 s → IsPlain s → has_mark (s ++ rest) ≡ false
 unfolding plain form
@@ -112,7 +112,7 @@ mark-plain s rest u p = subst (λ (t : List ℕ). has_mark (t ++ rest) ≡ false
 mark-digits : (t rest : List ℕ) → is_empty t ≡ false → all_bytes is_digit t ≡ true → has_mark (t ++ rest) ≡ false
 mark-digits [] rest e d = absurd (true≢false e)
 mark-digits (b ∷ bs) rest e d =
-    let k = both (nat_le 48 b) (nat_le b 57) (both (is_digit b) (all_bytes is_digit bs) d).0 in
+    let k = and_parts (nat_le 48 b) (nat_le b 57) (and_parts (is_digit b) (all_bytes is_digit bs) d).0 in
     let l = leb-true b 57 k.1 in
     mark-first b (bs ++ rest) (ne_eqb b 0xEF (omega arith))
 
@@ -209,7 +209,7 @@ fine-more n (integer z) h = tt
 fine-more n (string s) h = by_block (is_block (string s)) refl
   where
     by_block : (b : Bool) → is_block (string s) ≡ b → AllFine (elim b as (λ _. List (List ℕ)) [ true ↦ block_more (suc n) (string s) | false ↦ [] ])
-    by_block true e = fine-content n (pieces s) (pieces_are_good s h (both (not (fits_plain s)) (fits_literal s) e).1)
+    by_block true e = fine-content n (pieces s) (pieces_are_good s h (and_parts (not (fits_plain s)) (fits_literal s) e).1)
     by_block false e = tt
 
 good-pair : (t : Tree) → IsTree t → IsGood (pair_first t)

@@ -17,7 +17,7 @@ use Rattle.yaml_spec.specs.ReadsBack.{ReadsAlone}
 use Rattle.yaml_spec.specs.Text.{Text}
 use Rattle.yaml_back.proofs.TextLines.{scalar_first, scalar_more, node_first, node_more, node_heads, document_lines}
 use Rattle.ytt_laws.proofs.Yielded.{ok_same}
-use Rattle.yaml_back.proofs.ItemsBack.{IsQuiet, quiet-item, quiet-more, LeafReads, leaf-taken}
+use Rattle.yaml_back.proofs.ItemsBack.{HasNoCode, no_code-item, no_code-more, LeafReads, leaf-taken}
 use Rattle.yaml_back.proofs.HeadsBack.{Starts, starts-node, line_row, line-blank, line-mark, row_at-line, node-heads, Ends}
 use Rattle.yaml_back.proofs.RowsBack.{Follows, rows-line, rows-first, rows-skip, numbered-append, scalar-leaf, list-leaf, map-leaf, node-back, first_of, first-at, block-of, content-block}
 use Rattle.yaml_back.proofs.MarkersBack.{fine-document}
@@ -32,7 +32,7 @@ pub record DocumentBack (stop : ℕ) (is_owned : Bool) (k : Place) (t : Tree) : 
   pub are : rows stop is_owned 0 0 [] (numbered k (document_lines t)) ≡ (rows_of, [])
   pub reads : document_content rows_of ≡ Ok (content, None)
   pub tree : bare_tree content ≡ t
-  pub quiet : code_within content ≡ false
+  pub without_code : code_within content ≡ false
 
 leaf-content_of : (left d : ℕ) (c : Content) (skip : ℕ) (r : Row) → LeafReads d c skip r → d ≤ left → r.heads ≡ [] → content_of left (Doc left) (r ∷ []) ≡ Ok (c, None)
 unfolding content_of
@@ -47,7 +47,7 @@ leaf-document stop is_owned k d t c x more i s h f l e =
       rows_of = r ∷ [];
       content = c;
       tree = e;
-      quiet = f.quiet;
+      without_code = f.without_code;
       reads = leaf-content_of max_depth d c _ r f l refl;
       are = rw i (rows-line stop is_owned 0 (length (numbered (place_below k 1) more)) (record { place = k; text = x }) (numbered (place_below k 1) more) r [] (line-blank 0 x s) (line-mark 0 x s)
           (row_at-line stop is_owned 0 k 0 x x [] (numbered (place_below k 1) more) s h) (leaf-taken d c _ r f l refl)
@@ -65,7 +65,7 @@ block-document stop is_owned k t h l j i is e m =
       rows_of = r ∷ b.body;
       content = d.0;
       tree = d.2;
-      quiet = d.3;
+      without_code = d.3;
       reads = content-block max_depth r b.body i is d.0 e d.1;
       are = rw j (ap (λ (x : List Line). rows stop is_owned 0 0 [] (record { place = k; text = node_first t } ∷ x)) (sym (append-nil (numbered (place_below k 1) (node_more 0 t))))
           ∙ (rows-first stop is_owned 0 k 0 b.skip t h i is e ls (b.body ++ []) b.taken b.goes ∙ ap (λ (x : List Row). (r ∷ x, [])) (append-nil b.body)));
@@ -84,10 +84,10 @@ document-back stop is_owned k (map no_pairs) h l =
 document-back stop is_owned k (map (pair key t ps)) h l = block-document stop is_owned k (map (pair key t ps)) h l refl _ _ refl refl
 
 -- no comment is code where a document without such stands before documents without such
-quiet-document : (n : Note) (c : Content) (ds : Documents) → IsQuiet n c → has_code ds ≡ false → has_code (with_document n (c, None) ds) ≡ false
-quiet-document n c ds q h =
+no_code-document : (n : Note) (c : Content) (ds : Documents) → HasNoCode n c → has_code ds ≡ false → has_code (with_document n (c, None) ds) ≡ false
+no_code-document n c ds q h =
     let p = or_parts (code_among ds.items) (code_in_some ds.after) h in
-    or_from (code_among (item n c ds.items)) (code_in_some ds.after) (quiet-more n c ds.items q p.0) p.1
+    or_from (code_among (item n c ds.items)) (code_in_some ds.after) (no_code-more n c ds.items q p.0) p.1
 
 -- ---- the further documents
 
@@ -105,7 +105,7 @@ record RestBack (k : Place) (ts : Trees) : Type 0 where
   are : segments (numbered k (rest_lines ts)) ≡ ([], parts)
   reads : documents false [] parts ≡ Ok documents_of
   trees : bare_trees documents_of.items ≡ ts
-  quiet : has_code documents_of ≡ false
+  without_code : has_code documents_of ≡ false
 
 rest-cons : (t : Tree) (ts : Trees) (k : Place) → IsTree t → depth t ≤ max_depth → RestBack (place_below (place_below k 1) (length (document_lines t))) ts → RestBack k (tree t ts)
 unfolding segments documents
@@ -121,12 +121,12 @@ rest-cons t ts k h l b =
       are = rw (more, append-nil (numbered (place_below k 1) (document_lines t))) refl;
       reads = rw (explicit-back k stop t d, documents, b.reads) refl;
       trees = rw (d.tree, b.trees) refl;
-      quiet = quiet-document note d.content b.documents_of (quiet-item note d.content refl refl d.quiet) b.quiet;
+      without_code = no_code-document note d.content b.documents_of (no_code-item note d.content refl refl d.without_code) b.without_code;
     }
 
 rest-back : (ts : Trees) → AreTrees ts → Writable ts → (k : Place) → RestBack k ts
 unfolding segments documents
-rest-back no_trees h w k = record { parts = []; documents_of = record { items = no_items; after = [] }; are = refl; reads = refl; trees = refl; quiet = refl }
+rest-back no_trees h w k = record { parts = []; documents_of = record { items = no_items; after = [] }; are = refl; reads = refl; trees = refl; without_code = refl }
 rest-back (tree t ts) h w k = rest-cons t ts k h.0 w.1 (rest-back ts h.1 w.2 (place_below (place_below k 1) (length (document_lines t))))
 
 -- ---- whole texts
@@ -159,7 +159,7 @@ record TextBack (file : ℕ) (ts : Trees) : Type 0 where
   documents_of : Documents
   reads : Read file (Text ts) ≡ Ok documents_of
   trees : bare_trees documents_of.items ≡ ts
-  quiet : has_code documents_of ≡ false
+  without_code : has_code documents_of ≡ false
 
 text-cons : (file : ℕ) (t : Tree) (ts : Trees) → AreTrees (tree t ts) → Writable (tree t ts) → TextBack file (tree t ts)
 unfolding Read
@@ -177,12 +177,12 @@ text-cons file t ts h w =
       reads = rw (Lines-text file (tree t ts) h) (ap (λ (s : List Line × List Segment). implicit s.0 s.1) (more ∙ ap (λ (x : List Line). (x, b.parts)) (append-nil (numbered k (document_lines t))))
           ∙ implicit-back (numbered k (document_lines t)) b.parts f.0 d.rows_of d.content b.documents_of f.1 f.2 d.are d.reads b.reads);
       trees = rw (d.tree, b.trees) refl;
-      quiet = quiet-document note d.content b.documents_of (quiet-item note d.content refl refl d.quiet) b.quiet;
+      without_code = no_code-document note d.content b.documents_of (no_code-item note d.content refl refl d.without_code) b.without_code;
     }
 
 text-back : (file : ℕ) (ts : Trees) → AreTrees ts → Writable ts → TextBack file ts
 unfolding Read segments implicit documents
-text-back file no_trees h w = record { documents_of = record { items = no_items; after = [] }; reads = rw (Lines-text file no_trees h) refl; trees = refl; quiet = refl }
+text-back file no_trees h w = record { documents_of = record { items = no_items; after = [] }; reads = rw (Lines-text file no_trees h) refl; trees = refl; without_code = refl }
 text-back file (tree t ts) h w = text-cons file t ts h w
 
 -- the printed text of writable documents reads as these documents
@@ -196,7 +196,7 @@ reads_back ts h w file =
 pub no_code : (ts : Trees) → AreTrees ts → Writable ts → (file : ℕ) (noted : Documents) → Read file (Text ts) ≡ Ok noted → has_code noted ≡ false
 no_code ts h w file noted e =
     let b = text-back file ts h w in
-    subst (λ ds. has_code ds ≡ false) (ok_same _ b.documents_of noted (sym b.reads ∙ e)) b.quiet
+    subst (λ ds. has_code ds ≡ false) (ok_same _ b.documents_of noted (sym b.reads ∙ e)) b.without_code
 
 -- and give the documents
 pub noted_same : (ts : Trees) → AreTrees ts → Writable ts → (file : ℕ) (noted : Documents) → Read file (Text ts) ≡ Ok noted → plain_trees noted ≡ Ok ts

@@ -4,7 +4,7 @@ use Rattle.ytt_base.specs.declared.fault.Place.{Place}
 use Rattle.std.proofs.Common.{◌≡◌, ℕ, zero, suc, ◌+◌, ◌≤◌, Bool, true, false, not, ◌||◌, ◌==◌, List, [], ◌∷◌, ◌++◌, length, Some, None, Ok, Err, refl, sym, ◌∙◌, ap, subst, append_assoc, arith, true≢false}
 use Rattle.std.proofs.lemmas.List.{append-nil}
 use Rattle.std.specs.Prelude.{codes}
-use Rattle.std.proofs.lemmas.Bool.{le-leb, lt-leb, eq-eqb}
+use Rattle.std.proofs.lemmas.Bool.{le-leb, lt-leb, eq-eqb, and_parts}
 use Rattle.yaml_spec.specs.Bytes.{hash, first, is_blank, is_empty, skip_white}
 use Rattle.ytt_base.specs.Outcomes.{Outcome, ◌>>=◌, place_at}
 use Rattle.yaml_spec.specs.Lines.{Line, numbered}
@@ -15,12 +15,11 @@ use Rattle.yaml_spec.specs.Values.{value, ended, noted}
 use Rattle.yaml_spec.specs.Rows.{dash_mark, Head, Row, has_value, least_behind, row_at, taken, rows}
 use Rattle.yaml_spec.specs.Entries.{Entry, content_of, entry_content, entry, Doc, note_of, row_comment, starts_with_dash}
 use Rattle.yaml_spec.specs.Text.{spaces, fits_plain, fits_literal, pieces, final_breaks, literal_header, key_text}
-use Rattle.yaml_back.proofs.ValuesBack.{both}
 use Rattle.yaml_back.proofs.KeysBack.{IsLine, key_line, value-line}
 use Rattle.yaml_back.proofs.LiteralsBack.{value-literal}
 use Rattle.yaml_back.proofs.CutBack.{flat, AllInside, AreEntries, Give}
 use Rattle.yaml_back.proofs.TextLines.{content_lines, is_block, block_first, block_more, scalar_first, scalar_more, dash_head, key_head, node_first, node_more, pair_more, list_lines, map_lines, node_heads, node_left, pair_text_left}
-use Rattle.yaml_back.proofs.ItemsBack.{AllDeep, deep-less, deep-inside, seen, quiet-item, quiet-content, LeafReads, leaf-taken, leaf-content, leaf-dash, Gives, GivesPair, content-pair, ListBack, MapBack, list-doc, map-doc, item-back, pair-back}
+use Rattle.yaml_back.proofs.ItemsBack.{AllDeep, deep-less, deep-inside, seen, no_code-item, no_code-content, LeafReads, leaf-taken, leaf-content, leaf-dash, Gives, GivesPair, content-pair, ListBack, MapBack, list-doc, map-doc, item-back, pair-back}
 use Rattle.yaml_back.proofs.HeadsBack.{Starts, starts-scalar, starts-node, line_row, line-blank, line-mark, row_at-line, Ends, ends-stops, ends-leaves, ends-more, list-ends, map-ends, node-heads}
 
 -- ---- values without blocks
@@ -30,7 +29,7 @@ starts-value t s = ap (λ t. is_empty t || first t == hash) s.is ∙ s.mark
 
 scalar_leaf_line : (t : List ℕ) (s : Scalar) (r : Row) (rest : List Line) → IsLine t s → Starts t → r.text ≡ t → r.below ≡ rest → Ends r.least rest → LeafReads 0 (noted_scalar (scalar s)) 0 r
 scalar_leaf_line t s r rest l g x b e = record {
-  quiet = refl;
+  without_code = refl;
   has = rw x (ap (λ b. not b) (starts-value t g));
   reads = λ left owner cs h.
       let n : r.place.line + 0 ≡ r.place.line = omega arith in
@@ -40,7 +39,7 @@ scalar_leaf_line t s r rest l g x b e = record {
 scalar_leaf_block : (s : List ℕ) (m : ℕ) (k : Place) (r : Row) (rest : List Line) → fits_literal s ≡ true → Starts (literal_header (final_breaks (pieces s))) → r.text ≡ literal_header (final_breaks (pieces s)) →
     r.below ≡ numbered k (content_lines m (pieces s)) ++ rest → r.least ≤ m → Ends r.least rest → LeafReads 0 (noted_scalar (scalar (string s))) (length (numbered k (content_lines m (pieces s)))) r
 scalar_leaf_block s m k r rest f g x b l e = record {
-  quiet = refl;
+  without_code = refl;
   has = rw x (ap (λ b. not b) (starts-value _ g));
   reads = λ left owner cs h. rw (x, b) (value-literal left r.open_place r.least owner r.place m k cs rest l (ends-leaves r.least m rest l e) s f);
 }
@@ -57,7 +56,7 @@ scalar-leaf (string s) h m k r rest x b l e = by_block (is_block (string s)) ref
         r.text ≡ elim c as (λ _. List ℕ) [ true ↦ block_first (string s) | false ↦ key_text (string s) ] →
         r.below ≡ numbered k (elim c as (λ _. List (List ℕ)) [ true ↦ block_more m (string s) | false ↦ [] ]) ++ rest →
         LeafReads 0 (noted_scalar (scalar (string s))) (length (numbered k (elim c as (λ _. List (List ℕ)) [ true ↦ block_more m (string s) | false ↦ [] ]))) r
-    by_block true q g x b = scalar_leaf_block s m k r rest (both (not (fits_plain s)) (fits_literal s) q).1 g x b l e
+    by_block true q g x b = scalar_leaf_block s m k r rest (and_parts (not (fits_plain s)) (fits_literal s) q).1 g x b l e
     by_block false q g x b = scalar_leaf_line _ (string s) r rest (key_line (string s) h) g x b e
 
 list-value : (left : ℕ) (open_place : Place) (least owner : ℕ) (n : Place) (cs : List Comment) (ls : List Line) →
@@ -73,7 +72,7 @@ map-value left open_place least owner n cs [] = rw (append-nil cs) refl
 map-value left open_place least owner n cs (l ∷ ls) = rw (append-nil cs) refl
 
 pub list-leaf : (r : Row) → r.text ≡ codes "[]" → LeafReads 1 (noted_list no_items) 0 r
-list-leaf r x = record { quiet = refl; has = rw x refl; reads = by_left }
+list-leaf r x = record { without_code = refl; has = rw x refl; reads = by_left }
   where
     by_left : (left owner : ℕ) (cs : List Comment) → 1 ≤ left →
         value left r.open_place r.least owner cs (record { place = r.place; text = r.text; below = r.below }) ≡ Ok (record { content = noted_list no_items; loose = cs; trailing = None; last = r.place.line + 0 })
@@ -81,7 +80,7 @@ list-leaf r x = record { quiet = refl; has = rw x refl; reads = by_left }
     by_left (suc left) owner cs h = let n : r.place.line + 0 ≡ r.place.line = omega arith in rw (x, n) (list-value left r.open_place r.least owner r.place cs r.below)
 
 pub map-leaf : (r : Row) → r.text ≡ codes "{}" → LeafReads 1 (noted_map no_items) 0 r
-map-leaf r x = record { quiet = refl; has = rw x refl; reads = by_left }
+map-leaf r x = record { without_code = refl; has = rw x refl; reads = by_left }
   where
     by_left : (left owner : ℕ) (cs : List Comment) → 1 ≤ left →
         value left r.open_place r.least owner cs (record { place = r.place; text = r.text; below = r.below }) ≡ Ok (record { content = noted_map no_items; loose = cs; trailing = None; last = r.place.line + 0 })
@@ -196,7 +195,7 @@ leaf-pair stop n d skip t c r rest f l e h b s = record {
   goes = s;
   deep = tt;
   inside = tt;
-  gives = λ i hs key left m. content-pair left (seen r i hs) key [] t (c, None) (leaf-content d c skip r f i hs left (rw e at m)) h (quiet-item (note_of (seen r i hs) (Some key) None) c refl refl f.quiet);
+  gives = λ i hs key left m. content-pair left (seen r i hs) key [] t (c, None) (leaf-content d c skip r f i hs left (rw e at m)) h (no_code-item (note_of (seen r i hs) (Some key) None) c refl refl f.without_code);
 }
 
 node-scalar : (stop : ℕ) (s : Scalar) → IsScalar s → NodeGoal stop (scalar s)
@@ -240,7 +239,7 @@ block-gives left t r h hs body b c e g q = record {
   note = note_of r None None;
   content = c;
   tree = g;
-  quiet = quiet-item (note_of r None None) c (ap code_in_some b) refl q;
+  without_code = no_code-item (note_of r None None) c (ap code_in_some b) refl q;
   reads = ap (λ (o : Outcome Content). o >>= (λ c. Ok (note_of r None None, c))) e;
 }
 
@@ -437,7 +436,7 @@ block-of stop left n t r rest i is e m b l =
     subst (λ (hs : List Head). entry left (Doc left) (seen r n (node_heads n t)) dash_mark hs b.body ≡ Ok (g.note, g.content)) e g.reads in
     let y : Doc left i.column (seen r i.column (i ∷ is)) b.body ≡ Ok g.content = undo _ _ _ _ x in
     let z : Doc left n (seen r n (i ∷ is)) b.body ≡ Ok g.content = subst (λ (c : ℕ). Doc left c (seen r c (i ∷ is)) b.body ≡ Ok g.content) m y in
-    (g.content, subst (λ (hs : List Head). Doc left n (seen r n hs) b.body ≡ Ok g.content) (sym e) z, g.tree, quiet-content g.note g.content g.quiet)
+    (g.content, subst (λ (hs : List Head). Doc left n (seen r n hs) b.body ≡ Ok g.content) (sym e) z, g.tree, no_code-content g.note g.content g.without_code)
 
 pub content-block : (left : ℕ) (r : Row) (rs : List Row) (i : Head) (is : List Head) (c : Content) → r.heads ≡ i ∷ is → Doc left r.indent r rs ≡ Ok c → content_of left (Doc left) (r ∷ rs) ≡ Ok (c, None)
 unfolding content_of
@@ -472,7 +471,7 @@ pair-block stop t h n c low i is e m node r k rest rrs x b ends before follows i
       gives = λ j hs key left l.
           let d = block-of stop left c t f rrs i is e m q l in
           content-pair left (seen r j hs) key (f ∷ q.body) t (d.0, row_comment (seen r j hs)) (below-entry left (seen r j hs) (f ∷ q.body) d.0 x (content-block left f q.body i is d.0 e d.1)) d.2
-          (quiet-item (note_of (seen r j hs) (Some key) (row_comment (seen r j hs))) d.0 refl (rw x refl) d.3);
+          (no_code-item (note_of (seen r j hs) (Some key) (row_comment (seen r j hs))) d.0 refl (rw x refl) d.3);
     }
 
 list-inside : (n : ℕ) (t : Tree) (ts : Trees) (r : Row) (body : List Row) → r.indent ≡ n → starts_with_dash r ≡ true → AllInside false n body → AllInside false n (r ∷ body)

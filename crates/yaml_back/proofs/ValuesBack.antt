@@ -2,7 +2,7 @@
 use Rattle.ytt_base.specs.declared.fault.Place.{Place}
 use Rattle.std.proofs.Common.{◌≡◌, ℕ, Bool, true, false, not, ◌&&◌, ◌||◌, ◌==◌, List, [], ◌∷◌, ◌++◌, None, Ok, refl, sym, ◌∙◌, ap, subst, arith, true≢false, if◌then◌else◌}
 use Rattle.std.proofs.lemmas.List.{append-nil}
-use Rattle.std.proofs.lemmas.Bool.{ne_eqb, eqb-true, ltb-true, ltb-false}
+use Rattle.std.proofs.lemmas.Bool.{ne_eqb, eqb-true, ltb-true, ltb-false, and_parts, not-true}
 use Rattle.std.proofs.lemmas.Str.{encodes-chars}
 use Rattle.std.specs.Prelude.{IsUtf8, chars, nat_lt, bytes_eq, codes, take}
 use lib.Utf8.{encode, encodes}
@@ -21,18 +21,6 @@ use Rattle.yaml_back.proofs.QuotesBack.{AreHigh, encode_high, encode_low, closes
 
 -- ---- what `fits_plain` says
 
-pub both : (a b : Bool) → (a && b) ≡ true → (a ≡ true) × (b ≡ true)
-both true b e = (refl, e)
-both false b e = absurd (true≢false (sym e))
-
-pub of_not : (a : Bool) → not a ≡ true → a ≡ false
-of_not true e = absurd (true≢false (sym e))
-of_not false e = refl
-
-pub either_false : (a b : Bool) → (a || b) ≡ false → (a ≡ false) × (b ≡ false)
-either_false true b e = absurd (true≢false e)
-either_false false b e = (refl, e)
-
 -- a byte outside a list is outside each part of it
 pub outside_one : (xs : List ℕ) (b y : ℕ) → is_one_of xs b ≡ false → is_one_of xs y ≡ true → (b == y) ≡ false
 outside_one xs b y n m = go (b == y) refl
@@ -48,7 +36,7 @@ all_in (y ∷ ys) xs = is_one_of xs y && all_in ys xs
 pub outside_all : (ys xs : List ℕ) (b : ℕ) → is_one_of xs b ≡ false → all_in ys xs ≡ true → is_one_of ys b ≡ false
 outside_all [] xs b n m = refl
 outside_all (y ∷ ys) xs b n m =
-    let k = both (is_one_of xs y) (all_in ys xs) m in
+    let k = and_parts (is_one_of xs y) (all_in ys xs) m in
     rw (outside_one xs b y n k.0) (outside_all ys xs b n k.1)
 
 is_string : (f : Form) → is_string_form f ≡ true → f ≡ string_form
@@ -84,7 +72,7 @@ shown_no_tab c e = go (nat_lt c 128) refl (c == tab) refl
 no_tab_of : (cs : List ℕ) → all_chars is_shown cs ≡ true → NoTab (encodes cs)
 unfolding NoTab
 no_tab_of [] e = tt
-no_tab_of (c ∷ cs) e = let k = both (is_shown c) (all_chars is_shown cs) e in no_tab-append (encode c) (encodes cs) (shown_no_tab c k.0) (no_tab_of cs k.1)
+no_tab_of (c ∷ cs) e = let k = and_parts (is_shown c) (all_chars is_shown cs) e in no_tab-append (encode c) (encodes cs) (shown_no_tab c k.0) (no_tab_of cs k.1)
 
 last_no_tab : (s : List ℕ) → NoTab s → (last s == tab) ≡ false
 unfolding NoTab
@@ -103,20 +91,20 @@ pub record IsPlain (s : List ℕ) : Type 0 where
 pub plain_of : (s : List ℕ) → IsUtf8 s → fits_plain s ≡ true → IsPlain s
 unfolding fits_plain plain
 plain_of s u e =
-    let g = both _ (not (has_pair space hash s)) e in
-    let f = both _ (not (has_pair colon space s)) g.0 in
-    let d = both _ (not (is_one_of (space ∷ colon ∷ []) (last s))) f.0 in
-    let c = both _ (not (bytes_eq (take 3 s) (codes "..."))) d.0 in
-    let b = both _ (not (is_one_of start_marks (first s))) c.0 in
-    let a = both (is_string_form (form s)) (all_chars is_shown (chars s)) b.0 in
-    let start = of_not (is_one_of start_marks (first s)) b.1 in
-    let ends = of_not (is_one_of (space ∷ colon ∷ []) (last s)) d.1 in
+    let g = and_parts _ (not (has_pair space hash s)) e in
+    let f = and_parts _ (not (has_pair colon space s)) g.0 in
+    let d = and_parts _ (not (is_one_of (space ∷ colon ∷ []) (last s))) f.0 in
+    let c = and_parts _ (not (bytes_eq (take 3 s) (codes "..."))) d.0 in
+    let b = and_parts _ (not (is_one_of start_marks (first s))) c.0 in
+    let a = and_parts (is_string_form (form s)) (all_chars is_shown (chars s)) b.0 in
+    let start = not-true (is_one_of start_marks (first s)) b.1 in
+    let ends = not-true (is_one_of (space ∷ colon ∷ []) (last s)) d.1 in
     let tabs : NoTab s = subst NoTab (encodes-chars s u) (no_tab_of (chars s) a.1) in
     record {
       quiet = record {
         tabs = tabs;
-        colons = of_not (has_pair colon space s) f.1;
-        hashes = of_not (has_pair space hash s) g.1;
+        colons = not-true (has_pair colon space s) f.1;
+        hashes = not-true (has_pair space hash s) g.1;
         start = outside_one start_marks (first s) hash start refl;
         end = outside_one (space ∷ colon ∷ []) (last s) colon ends refl;
       };
@@ -124,7 +112,7 @@ plain_of s u e =
       start = start;
       value = ap (λ f. value_of f s) (is_string (form s) a.0);
       shown = a.1;
-      dots = of_not (bytes_eq (take 3 s) (codes "...")) c.1;
+      dots = not-true (bytes_eq (take 3 s) (codes "...")) c.1;
     }
 
 -- ---- a plain string as a value

@@ -1,7 +1,7 @@
 -- What is read of lines in UTF-8 holds only scalars that the program holds: in brackets, and as a value on a line.
 use Rattle.std.proofs.Common.{◌≡◌, ℕ, zero, suc, ◌<◌, Bool, true, false, ◌&&◌, ◌||◌, ◌==◌, List, [], ◌∷◌, ◌++◌, length, Option, Some, None, Ok, refl, sym, arith, true≢false}
 use Rattle.std.specs.Prelude.{IsUtf8, nat_lt}
-use Rattle.std.proofs.lemmas.Bool.{eqb-true}
+use Rattle.std.proofs.lemmas.Bool.{eqb-true, and_parts}
 use Rattle.ytt_base.specs.declared.fault.FaultKind.TheVariants as kind
 use Rattle.ytt_base.specs.declared.fault.Place.{Place}
 use Rattle.ytt_base.specs.Outcomes.{Outcome, ◌>>=◌}
@@ -100,11 +100,7 @@ good_flow_key c g =
     quoted (Some q) h = h
 
 key_end_low : (b : Bool) (t : List ℕ) → is_key_end b t ≡ true → first t < 128
-key_end_low b t e = is_low (first t) 58 (omega arith) (front _ _ e)
-  where
-    front : (x y : Bool) → (x && y) ≡ true → x ≡ true
-    front true y e = refl
-    front false y e = absurd (true≢false (sym e))
+key_end_low b t e = is_low (first t) 58 (omega arith) (and_parts _ _ e).0
 
 module _ (opening : Place) (read : List Comment → Cursor → Outcome Node) (h : (cs : List Comment) (c : Cursor) → IsGoodCursor c → IfOk (read cs c) GoodNode) where
   good_elements : (n : ℕ) (cs : List Comment) (c : Cursor) → IsGoodCursor c → IfOk (elements opening read n cs c) GoodMembers

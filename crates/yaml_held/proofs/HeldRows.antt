@@ -1,5 +1,6 @@
 -- What is read of rows and documents holds only scalars that the program holds.
 use Rattle.std.proofs.Common.{◌≡◌, ℕ, zero, suc, ◌+◌, ◌<◌, Bool, true, false, not, ◌&&◌, ◌||◌, ◌==◌, List, [], ◌∷◌, ◌++◌, drop, Option, Some, None, Result, Ok, Err, refl, sym, arith, true≢false, if◌then◌else◌}
+use Rattle.std.proofs.lemmas.Bool.{and_parts}
 use Rattle.std.specs.Prelude.{IsUtf8}
 use Rattle.ytt_base.specs.declared.fault.FaultKind.{FaultKind}
 use Rattle.ytt_base.specs.declared.fault.FaultKind.TheVariants as kind
@@ -93,11 +94,7 @@ abbrev GoodHeads : List Head × List ℕ → Type 0
 GoodHeads h = AreGoodHeads h.0 × IsUtf8 h.1
 
 dash_low : (t : List ℕ) → is_dash t ≡ true → first t < 128
-dash_low t e = is_low (first t) 45 (omega arith) (front _ _ e)
-  where
-    front : (x y : Bool) → (x && y) ≡ true → x ≡ true
-    front true y e = refl
-    front false y e = absurd (true≢false (sym e))
+dash_low t e = is_low (first t) 45 (omega arith) (and_parts _ _ e).0
 
 good_heads : (n column : ℕ) (has_tab : Bool) (t : List ℕ) → IsUtf8 t → GoodHeads (heads_of n column has_tab t)
 unfolding heads_of AreGoodHeads IsGoodMark IsGoodKey

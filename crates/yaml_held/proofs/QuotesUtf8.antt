@@ -2,7 +2,7 @@
 use Rattle.std.proofs.Common.{◌≡◌, ℕ, zero, suc, ◌+◌, ◌*◌, ◌<◌, ◌≤◌, Bool, true, false, ◌&&◌, ◌==◌, List, [], ◌∷◌, ◌++◌, Option, Some, None, refl, sym, ◌∙◌, ap, subst, append_assoc, arith, true≢false, length, if◌then◌else◌}
 use Rattle.std.specs.Prelude.{IsUtf8, nat_lt}
 use lib.Utf8.{encode, encodes, scalars, scalar}
-use Rattle.std.proofs.lemmas.Bool.{eqb-true, ne_eqb, ltb-true, ltb-false}
+use Rattle.std.proofs.lemmas.Bool.{and_parts, eqb-true, ne_eqb, ltb-true, ltb-false}
 use Rattle.std.proofs.lemmas.Bool.Decides.{nat_tests}
 use Rattle.std.proofs.lemmas.Str.{IsUtf8-nil, IsUtf8-append, IsUtf8-encode, length-encode, len_utf8_bounds}
 use Rattle.yaml_spec.specs.Bytes.{quote, apostrophe, backslash, is_white, is_hex_digit, digit_value}
@@ -32,11 +32,7 @@ good_if false x y h k = k refl
 
 -- a character of characters that can be written, and the rest
 pub scalar_head : (c : ℕ) (cs : List ℕ) → scalars (c ∷ cs) ≡ true → (scalar c ≡ true) × (scalars cs ≡ true)
-scalar_head c cs e = go (scalar c) e
-  where
-    go : (b : Bool) → (b && scalars cs) ≡ true → (b ≡ true) × (scalars cs ≡ true)
-    go true e = (refl, e)
-    go false e = absurd (true≢false (sym e))
+scalar_head c cs e = and_parts (scalar c) (scalars cs) e
 
 -- ---- escapes
 

@@ -3,7 +3,7 @@ use Rattle.std.proofs.Common.{◌≡◌, ℕ, zero, suc, ◌<◌, ◌≤◌, Boo
 use Rattle.std.specs.Prelude.{IsUtf8, bytes_eq}
 use Rattle.std.specs.Str.{IsCharBoundary}
 use Rattle.std.proofs.Math.Seq.{drop-append_seam, take-append_seam}
-use Rattle.std.proofs.lemmas.Bool.{eqb-true}
+use Rattle.std.proofs.lemmas.Bool.{eqb-true, and_parts}
 use Rattle.std.proofs.lemmas.Bool.Decides.{nat_tests}
 use Rattle.std.proofs.lemmas.List.{append-nil, length-append, take-append-drop}
 use Rattle.std.proofs.lemmas.Slice.Eq.{bytes_eq-Decides}
@@ -140,10 +140,6 @@ marker_text a b c t l m n e u =
 pub utf8_marker : (l : Line) → (is_start l || is_stop l) ≡ true → IsUtf8 l.text → IsUtf8 (drop 3 l.text)
 utf8_marker l e u = go (is_start l) refl e
   where
-    front : (x y : Bool) → (x && y) ≡ true → x ≡ true
-    front true y e = refl
-    front false y e = absurd (true≢false (sym e))
-
     go : (b : Bool) → is_start l ≡ b → (b || is_stop l) ≡ true → IsUtf8 (drop 3 l.text)
-    go true p e = marker_text 45 45 45 l.text (omega arith) (omega arith) (omega arith) (front _ _ p) u
-    go false p e = marker_text 46 46 46 l.text (omega arith) (omega arith) (omega arith) (front _ _ e) u
+    go true p e = marker_text 45 45 45 l.text (omega arith) (omega arith) (omega arith) (and_parts _ _ p).0 u
+    go false p e = marker_text 46 46 46 l.text (omega arith) (omega arith) (omega arith) (and_parts _ _ e).0 u

@@ -13,7 +13,8 @@ use Rattle.yaml_spec.specs.Entries.{is_dash_mark, starts_with_dash, misplaced, b
 
 -- ---- open blocks
 
--- an open block: its indent, the items before its open entry, and the note of that entry
+-- An open block: how many collections may nest in it, its indent, whether it is a list or a map, the items before its open
+-- entry, and the note of that entry.
 pub record Frame : Type 0 where
   pub left : ℕ
   pub indent : ℕ
@@ -26,9 +27,11 @@ pub data Hole : Type 0 where
   wanting : Hole
   filled : Found → Hole
 
+-- a block's content: a list or a map of its items
 abbrev pub wrap : Bool → Items → Content
 wrap is_list is = if is_list then noted_list is else noted_map is
 
+-- these items before those
 abbrev pub with_items : List (Note × Content) → Items → Items
 with_items [] is = is
 with_items (x ∷ xs) is = item x.0 x.1 (with_items xs is)
@@ -41,6 +44,7 @@ Begun = Note × List Frame × Hole
 abbrev pub Opened : Type 0
 Opened = Frame × List Frame × Hole
 
+-- what stands behind an entry's last head: its value with the comment behind it, or nothing yet with the row's comment
 abbrev pub begin_content : ℕ → Row → Outcome (Option Comment × Hole)
 begin_content left r =
     elim (has_value r) [
@@ -49,12 +53,14 @@ begin_content left r =
     ]
 
 module _ (left : ℕ) (opens : ℕ → Row → Outcome Opened) where
+  -- an entry that begins with this head, where further heads stand behind a dash
   abbrev pub begin_entry : Row → Mark → List Head → Outcome Begun
   begin_entry r (key_mark k) hs = typed r.place k >>= (λ s. begin_content left r >>= (λ b. Ok (note_of r (Some s) b.0, [], b.1)))
   begin_entry r dash_mark [] = begin_content left r >>= (λ b. Ok (note_of r None b.0, [], b.1))
   begin_entry r dash_mark (h ∷ hs) =
       opens h.column (behind_head h.column (h ∷ hs) r) >>= (λ o. Ok (note_of r None None, o.0 ∷ o.1, o.2))
 
+  -- the entry that begins in this row, in a list or a map of this indent
   abbrev pub begin_at : Bool → ℕ → Row → Outcome Begun
   begin_at is_list n r =
       elim r.heads [
@@ -66,7 +72,7 @@ module _ (left : ℕ) (opens : ℕ → Row → Outcome Opened) where
             ]
       ]
 
--- opens the block that begins with a row
+-- the block that begins with a row of this indent, in which so many collections may nest, itself counted
 abbrev pub opens : ℕ → ℕ → Row → Outcome Opened
 opens zero n r = misplaced r kind.YamlDepth
 opens (suc left) n r =
@@ -79,7 +85,8 @@ finish [] wanting = (noted_scalar (scalar null), None)
 finish [] (filled f) = f
 finish (f ∷ fs) h = (wrap f.is_list (with_items f.done (item f.note (finish fs h).0 no_items)), None)
 
--- one row
+-- One row is taken by the outermost open block that it begins an entry of, whose inner blocks close; by the innermost entry, if
+-- that has nothing yet; or is refused.
 abbrev pub step : ℕ → List Frame → Hole → Row → Outcome (List Frame × Hole)
 step left [] (filled f) r = misplaced r kind.YamlForm
 step left [] wanting r =
@@ -94,7 +101,7 @@ step left (f ∷ fs) h r =
       | false ↦ step f.left fs h r >>= (λ s. Ok (f ∷ s.0, s.1))
     ]
 
--- all rows
+-- all rows, one after another
 abbrev pub run : ℕ → List Frame → Hole → List Row → Outcome Found
 run left fs h [] = Ok (finish fs h)
 run left fs h (r ∷ rs) = step left fs h r >>= (λ s. run left s.0 s.1 rs)
@@ -105,10 +112,11 @@ run left fs h (r ∷ rs) = step left fs h r >>= (λ s. run left s.0 s.1 rs)
 abbrev pub Passed : Type 0
 Passed = Found × List Comment
 
+-- the comment that a line of its own is
 abbrev pub own_comment : Line → Comment
 own_comment l = record { line = l.place.line; own_line = true; text = skip_white l.text }
 
--- Each line is looked at once. So many lines belong to the row before.
+-- All lines, each looked at once, with the words of `rows` and the open blocks with what the innermost entry has.
 abbrev pub pass : ℕ → Bool → ℕ → ℕ → List Comment → List Frame → Hole → List Line → Outcome Passed
 pass stop is_owned skip least cs fs h [] = Ok (finish fs h, cs)
 pass stop is_owned (suc skip) least cs fs h (l ∷ ls) = pass stop is_owned skip least cs fs h ls
