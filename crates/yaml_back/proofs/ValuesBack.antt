@@ -146,36 +146,7 @@ last_colon (b ∷ c ∷ s) e = last_colon (c ∷ s) e
 abbrev pub text_value : List ℕ → List Comment → ℕ → Value
 text_value s cs n = record { content = noted_scalar (scalar (string s)); loose = cs; trailing = None; last = n }
 
--- a plain scalar that the line and those below end
-plain_lines-text : (least : ℕ) (c : Cursor) → IsPlain c.text → Stops least c.below →
-    plain_lines false least c ≡ Ok (string c.text, record c { text = [] })
-unfolding plain_lines IsTail fold_parts
-plain_lines-text least c p s =
-    let w : part false c.text ≡ c.text = ap (part false) (sym (append-nil c.text)) ∙ part-quiet c.text [] p.quiet tt p.trimmed in
-    let v : behind false c.text ≡ [] = ap (behind false) (sym (append-nil c.text)) ∙ behind-quiet c.text [] p.quiet tt p.trimmed in
-    rw (no_start_fault c.text p.start, plain_lines, w, last_colon c.text p.quiet.end, v, v, further-stops least (record c { text = [] }) c.below s, w)
-    (rw (append-nil c.text, p.value) refl)
-
 -- ---- values
-
-no_start : (x : ℕ) (t : List ℕ) → is_one_of start_marks x ≡ true → is_one_of start_marks (first t) ≡ false → (first t == x) ≡ false
-no_start x t m n = outside_one start_marks (first t) x n m
-
--- a string that is printed plain
-pub value-plain : (left : ℕ) (open_place : Place) (least owner : ℕ) (cs : List Comment) (c : Cursor) → IsPlain c.text → Stops least c.below →
-    value left open_place least owner cs c ≡ Ok (text_value c.text cs c.place.line)
-unfolding value ended noted
-value-plain left open_place least owner cs c p s =
-    rw (
-      no_start 91 c.text refl p.start,
-      value,
-      no_start 123 c.text refl p.start,
-      no_start 34 c.text refl p.start,
-      no_start 39 c.text refl p.start,
-      no_start 124 c.text refl p.start,
-      no_start 62 c.text refl p.start,
-      plain_lines-text least c p s,
-    ) refl
 
 -- a string that is printed in double quotes
 pub scan-quoted : (s rest : List ℕ) → IsUtf8 s → scan true (quoted_chars (chars s) ++ quote ∷ rest) ≡ closed s rest
@@ -192,14 +163,3 @@ pub value-quoted : (left : ℕ) (open_place : Place) (least owner : ℕ) (n : Pl
     value left open_place least owner cs (record { place = n; text = quoted_text s; below = ls }) ≡ Ok (text_value s cs n.line)
 unfolding value ended noted Quote fold_parts
 value-quoted left open_place least owner n cs s ls u = rw (parts-quoted open_place n s [] ls u, value) (rw (append-nil s) refl)
-
--- ---- a string on one line, in its own style
-
-pub value-string : (left : ℕ) (open_place : Place) (least owner : ℕ) (n : Place) (cs : List Comment) (s : List ℕ) (ls : List Line) → IsUtf8 s → Stops least ls →
-    value left open_place least owner cs (record { place = n; text = string_text s; below = ls }) ≡ Ok (text_value s cs n.line)
-value-string left open_place least owner n cs s ls u e = by_style (fits_plain s) refl
-  where
-    by_style : (b : Bool) → fits_plain s ≡ b →
-        value left open_place least owner cs (record { place = n; text = if b then s else quoted_text s; below = ls }) ≡ Ok (text_value s cs n.line)
-    by_style true f = value-plain left open_place least owner cs (record { place = n; text = s; below = ls }) (plain_of s u f) e
-    by_style false f = value-quoted left open_place least owner n cs s ls u

@@ -86,10 +86,7 @@ no_word (w ∷ ws) b bs e =
     let k = and_parts (not (first w == b)) (none_begins b ws) e in
     rw (differ w b bs (not-true (first w == b) k.0)) (no_word ws b bs k.1)
 
--- a digit, and the words of the first forms
-abbrev early_words : List (List ℕ)
-early_words = null_words ++ (true_words ++ false_words)
-
+-- no word of the first forms begins with this byte
 record NoWord (b : ℕ) : Type 0 where
   nulls : none_begins b null_words ≡ true
   trues : none_begins b true_words ≡ true
