@@ -8,7 +8,7 @@ ghost use Rattle.yaml_spec.specs.Scalars.{plain};
 
 use crate::ends::{hangs, split_plain};
 use std::alloc::Global;
-use yaml_scalar::type_plain;
+use yaml_kinds::type_plain;
 use ytt_base::fault::{FaultKind, Place, Stop};
 use ytt_base::text::{Memory, Text};
 use ytt_base::tree::{Key, Tree};

@@ -1,0 +1,214 @@
+-- The value of a plain scalar by its form.
+use Rattle.std.proofs.Common.{◌≡◌, ℕ, ◌<◌, ◌≤◌, Bool, true, false, ◌&&◌, List, [], ◌∷◌, length, get_or, drop, codes, Ok, Err, refl, sym, ◌∙◌, ap, subst, arith, ne_eqb}
+use Rattle.std.proofs.lemmas.Bool.Decides.{nat_tests}
+use Rattle.std.proofs.lemmas.Str.{IsCharBoundary-before_ascii}
+use Rattle.std.specs.Char.{digit_value as std_digit}
+use Rattle.std.specs.List.{list_all}
+use Rattle.std.specs.Str.{IsCharBoundary}
+use Rattle.std.specs.Str.Parse.{AllDigits, IsNumeral, without_leading_sign}
+use Rattle.ytt_base.specs.declared.fault.FaultKind.TheVariants as kind
+use Rattle.ytt_base.specs.declared.fault.Place.{Place}
+use Rattle.ytt_base.specs.Outcomes.{Outcome, ◌>>=◌, fault_at}
+use Rattle.ytt_base.specs.Trees.{Scalar, Tree, null, boolean, string, scalar}
+use Rattle.ytt_base.proofs.Views.{views}
+use Rattle.yaml_spec.specs.Bytes.{all_bytes, is_word, yes_words, is_digit, is_octal_digit, is_hex_digit}
+use Rattle.yaml_spec.specs.Plain.{plain_at, typed}
+use Rattle.yaml_spec.specs.Scalars.{Form, null_form, bool_form, octal_form, bad_octal_form, integer_form, prefixed_form, float_form, word_form, string_form, form, plain, value_of, integer_of, digits_value, unsigned, is_negative, some_of, has_leading_zero, has_prefix, is_float}
+use Rattle.yaml_kinds.specs.Integers.{integer_at}
+use Rattle.yaml_kinds.proofs.ByteTests.{all_bytes-list_all, too_short}
+use Rattle.yaml_kinds.proofs.FormTests.{by_tests, form-tests, null as is_null, truth, falsehood, zero as leading, digits, octal, hex}
+use Rattle.yaml_kinds.proofs.Integers.{unsigned-std}
+
+both : (a b : Bool) → (a && b) ≡ true → (a ≡ true) × (b ≡ true)
+both true b h = (refl, h)
+both false b h = cc
+
+abbrev in_scalar : Scalar → Outcome Tree
+in_scalar s = Ok (scalar s)
+
+-- ---- digits
+
+module _ (test : ℕ → Bool) (base : ℕ) (high : (b : ℕ) → test b ≡ true → 48 ≤ b) (small : (b : ℕ) → test b ≡ true → std_digit b < base) where
+  all_digits : (ds : List ℕ) → all_bytes test ds ≡ true → AllDigits base ds
+  all_digits [] h = tt
+  all_digits (d ∷ ds) h = let p = both (test d) (all_bytes test ds) h in (small d p.0, all_digits ds p.1)
+
+  numeral : (ds : List ℕ) → some_of test ds ≡ true → IsNumeral base ds
+  numeral [] h = cc
+  numeral (d ∷ ds) h = (omega arith, all_digits (d ∷ ds) h)
+
+  no_sign : (ds : List ℕ) → some_of test ds ≡ true → (unsigned ds ≡ ds) × (is_negative ds ≡ false)
+  no_sign [] h = cc
+  no_sign (d ∷ ds) h =
+      let l = high d (both (test d) (all_bytes test ds) h).0 in
+      (rw (ne_eqb d 43 (omega arith), ne_eqb d 45 (omega arith)) refl, ne_eqb d 45 (omega arith))
+
+high_octal : (b : ℕ) → is_octal_digit b ≡ true → 48 ≤ b
+high_octal b h = grind (arith, nat_tests)
+
+small_octal : (b : ℕ) → is_octal_digit b ≡ true → std_digit b < 8
+small_octal b h = grind (arith, nat_tests)
+
+small_decimal : (b : ℕ) → is_digit b ≡ true → std_digit b < 10
+small_decimal b h = grind (arith, nat_tests)
+
+high_decimal : (b : ℕ) → is_digit b ≡ true → 48 ≤ b
+high_decimal b h = grind (arith, nat_tests)
+
+high_hex : (b : ℕ) → is_hex_digit b ≡ true → 48 ≤ b
+high_hex b h = grind (arith, nat_tests)
+
+small_hex : (b : ℕ) → is_hex_digit b ≡ true → std_digit b < 16
+small_hex b h = grind (arith, nat_tests)
+
+-- ---- what a form says
+
+abbrev Holds : Form → (z e d o x : Bool) → Type 0
+Holds null_form z e d o x = Unit {0}
+Holds (bool_form b) z e d o x = Unit {0}
+Holds octal_form z e d o x = (z ≡ true) × (e ≡ true)
+Holds bad_octal_form z e d o x = Unit {0}
+Holds integer_form z e d o x = d ≡ true
+Holds (prefixed_form base) z e d o x = (base ≡ 8 → o ≡ true) × (base ≡ 16 → x ≡ true)
+Holds float_form z e d o x = Unit {0}
+Holds word_form z e d o x = Unit {0}
+Holds string_form z e d o x = Unit {0}
+
+holds : (n t f z e d o x l y : Bool) → Holds (by_tests n t f z e d o x l y) z e d o x
+holds true t f z e d o x l y = tt
+holds false true f z e d o x l y = tt
+holds false false true z e d o x l y = tt
+holds false false false true true d o x l y = (refl, refl)
+holds false false false true false d o x l y = tt
+holds false false false false e true o x l y = refl
+holds false false false false e false true x l y = (λ h. refl, λ h. absurd (omega arith))
+holds false false false false e false false true l y = (λ h. absurd (omega arith), λ h. refl)
+holds false false false false e false false false true y = tt
+holds false false false false e false false false false true = tt
+holds false false false false e false false false false false = tt
+
+form-holds : (s : List ℕ) (f : Form) → form s ≡ f → Holds f (leading s) (list_all is_octal_digit (unsigned s)) (digits s) (octal s) (hex s)
+form-holds s f e =
+    subst (λ (g : Form). Holds g (leading s) (list_all is_octal_digit (unsigned s)) (digits s) (octal s) (hex s)) (sym (form-tests s) ∙ e)
+    (holds (is_null s) (truth s) (falsehood s) (leading s) (list_all is_octal_digit (unsigned s)) (digits s) (octal s) (hex s) (is_float s) (is_word yes_words s))
+
+some_octal : (u : List ℕ) → has_leading_zero u ≡ true → list_all is_octal_digit u ≡ true → some_of is_octal_digit u ≡ true
+some_octal [] h k = cc
+some_octal (b ∷ bs) h k = all_bytes-list_all is_octal_digit (b ∷ bs) ∙ k
+
+-- ---- integers whose sign stands before their digits
+
+signed_numeral : (base : ℕ) (s : List ℕ) → IsNumeral base (unsigned s) → IsNumeral base (without_leading_sign s)
+signed_numeral base s h = subst (λ (t : List ℕ). IsNumeral base t) (unsigned-std s) h
+
+pub numeral-octal : (s : List ℕ) → form s ≡ octal_form → IsNumeral 8 (without_leading_sign s)
+numeral-octal s e =
+    let p = form-holds s octal_form e in signed_numeral 8 s (numeral is_octal_digit 8 high_octal small_octal (unsigned s) (some_octal (unsigned s) p.0 p.1))
+
+pub numeral-integer : (s : List ℕ) → form s ≡ integer_form → IsNumeral 10 (without_leading_sign s)
+numeral-integer s e = signed_numeral 10 s (numeral is_digit 10 high_decimal small_decimal (unsigned s) (form-holds s integer_form e))
+
+-- ---- integers behind a prefix
+
+abbrev octal_test : List ℕ → Type 0
+octal_test s = has_prefix (codes "0o") is_octal_digit s ≡ true
+
+prefixed-octal : (s : List ℕ) → form s ≡ prefixed_form 8 → octal_test s
+prefixed-octal s e = (form-holds s (prefixed_form 8) e).0 refl
+
+prefixed-hex : (s : List ℕ) → form s ≡ prefixed_form 16 → has_prefix (codes "0x") is_hex_digit s ≡ true
+prefixed-hex s e = (form-holds s (prefixed_form 16) e).1 refl
+
+behind : (p q : ℕ) (test : ℕ → Bool) (s : List ℕ) → has_prefix (p ∷ q ∷ []) test s ≡ true → some_of test (drop 2 s) ≡ true
+behind p q test s h = (both _ _ h).1
+
+third : (p q : ℕ) (test : ℕ → Bool) (below : (b : ℕ) → test b ≡ true → b < 128) (s : List ℕ) → has_prefix (p ∷ q ∷ []) test s ≡ true → (2 < length s) × (get_or s 2 0 < 128)
+third p q test below [] h = cc
+third p q test below (a ∷ []) h = cc (too_short p q test (a ∷ []) (omega arith))
+third p q test below (a ∷ b ∷ []) h = cc (too_short p q test (a ∷ b ∷ []) (omega arith))
+third p q test below (a ∷ b ∷ c ∷ s) h = (omega arith, below c (both (test c) (all_bytes test s) (both _ _ h).1).0)
+
+low_octal : (b : ℕ) → is_octal_digit b ≡ true → b < 128
+low_octal b h = grind (arith, nat_tests)
+
+low_hex : (b : ℕ) → is_hex_digit b ≡ true → b < 128
+low_hex b h = grind (arith, nat_tests)
+
+pub boundary-octal : (s : List ℕ) → form s ≡ prefixed_form 8 → IsCharBoundary s 2
+boundary-octal s e = let t = third 48 111 is_octal_digit low_octal s (prefixed-octal s e) in IsCharBoundary-before_ascii s 2 t.0 t.1
+
+pub boundary-hex : (s : List ℕ) → form s ≡ prefixed_form 16 → IsCharBoundary s 2
+boundary-hex s e = let t = third 48 120 is_hex_digit low_hex s (prefixed-hex s e) in IsCharBoundary-before_ascii s 2 t.0 t.1
+
+pub numeral-prefixed_octal : (s : List ℕ) → form s ≡ prefixed_form 8 → IsNumeral 8 (without_leading_sign (drop 2 s))
+numeral-prefixed_octal s e =
+    let d = behind 48 111 is_octal_digit s (prefixed-octal s e) in
+    signed_numeral 8 (drop 2 s) (rw (no_sign is_octal_digit 8 high_octal small_octal (drop 2 s) d).0 (numeral is_octal_digit 8 high_octal small_octal (drop 2 s) d))
+
+pub numeral-prefixed_hex : (s : List ℕ) → form s ≡ prefixed_form 16 → IsNumeral 16 (without_leading_sign (drop 2 s))
+numeral-prefixed_hex s e =
+    let d = behind 48 120 is_hex_digit s (prefixed-hex s e) in
+    signed_numeral 16 (drop 2 s) (rw (no_sign is_hex_digit 16 high_hex small_hex (drop 2 s) d).0 (numeral is_hex_digit 16 high_hex small_hex (drop 2 s) d))
+
+-- ---- values
+
+at_form : (place : Place) (s : List ℕ) (f : Form) → form s ≡ f → plain_at place s ≡ (typed place (value_of f s) >>= in_scalar)
+unfolding plain
+at_form place s f e = ap (λ (g : Form). typed place (value_of g s) >>= in_scalar) e
+
+pub at-null : (place : Place) (s : List ℕ) → form s ≡ null_form → plain_at place s ≡ Ok (scalar null)
+at-null place s e = at_form place s null_form e
+
+pub at-bool : (place : Place) (s : List ℕ) (b : Bool) → form s ≡ bool_form b → plain_at place s ≡ Ok (scalar (boolean b))
+at-bool place s b e = at_form place s (bool_form b) e
+
+pub at-octal : (place : Place) (s : List ℕ) → form s ≡ octal_form → plain_at place s ≡ integer_at 8 place s
+at-octal place s e = at_form place s octal_form e
+
+pub at-bad_octal : (place : Place) (s : List ℕ) → form s ≡ bad_octal_form → plain_at place s ≡ Err (fault_at kind.YamlOut place)
+at-bad_octal place s e = at_form place s bad_octal_form e
+
+pub at-integer : (place : Place) (s : List ℕ) → form s ≡ integer_form → plain_at place s ≡ integer_at 10 place s
+at-integer place s e = at_form place s integer_form e
+
+without_sign : (base : ℕ) (place : Place) (u : List ℕ) → (unsigned u ≡ u) × (is_negative u ≡ false) → (typed place (integer_of false (digits_value base 0 u)) >>= in_scalar) ≡ integer_at base place u
+without_sign base place u h =
+    ap (λ (v : List ℕ). typed place (integer_of false (digits_value base 0 v)) >>= in_scalar) (sym h.0)
+    ∙ ap (λ b. typed place (integer_of b (digits_value base 0 (unsigned u))) >>= in_scalar) (sym h.1)
+
+pub at-prefixed_octal : (place : Place) (s : List ℕ) → form s ≡ prefixed_form 8 → plain_at place s ≡ integer_at 8 place (drop 2 s)
+at-prefixed_octal place s e =
+    at_form place s (prefixed_form 8) e ∙ without_sign 8 place (drop 2 s) (no_sign is_octal_digit 8 high_octal small_octal (drop 2 s) (behind 48 111 is_octal_digit s (prefixed-octal s e)))
+
+pub at-prefixed_hex : (place : Place) (s : List ℕ) → form s ≡ prefixed_form 16 → plain_at place s ≡ integer_at 16 place (drop 2 s)
+at-prefixed_hex place s e =
+    at_form place s (prefixed_form 16) e ∙ without_sign 16 place (drop 2 s) (no_sign is_hex_digit 16 high_hex small_hex (drop 2 s) (behind 48 120 is_hex_digit s (prefixed-hex s e)))
+
+pub at-float : (place : Place) (s : List ℕ) → form s ≡ float_form → plain_at place s ≡ Err (fault_at kind.FloatScalar place)
+at-float place s e = at_form place s float_form e
+
+pub at-word : (place : Place) (s : List ℕ) → form s ≡ word_form → plain_at place s ≡ Ok (scalar (string s))
+at-word place s e = at_form place s word_form e
+
+pub at-string : (place : Place) (s : List ℕ) → form s ≡ string_form → plain_at place s ≡ Ok (scalar (string s))
+at-string place s e = at_form place s string_form e
+
+pub ruleset plain_values = (
+  views,
+  numeral-octal,
+  numeral-integer,
+  numeral-prefixed_octal,
+  numeral-prefixed_hex,
+  boundary-octal,
+  boundary-hex,
+  at-null,
+  at-bool,
+  at-octal,
+  at-bad_octal,
+  at-integer,
+  at-prefixed_octal,
+  at-prefixed_hex,
+  at-float,
+  at-word,
+  at-string,
+)
