@@ -1,19 +1,15 @@
 -- Integers as the program reads them.
 use Rattle.std.specs.Int.{w128}
-use Rattle.std.proofs.Common.{◌≡◌, ℤ, FitsSigned, ℕ, zero, suc, ◌+◌, ◌*◌, ◌^◌, ◌<◌, ◌≤◌, pos, neg_ℤ, Bool, true, false, ◌||◌, cond, if◌then◌else◌, List, [], ◌∷◌, drop, Ok, Err, refl, ◌∙◌, ap, arith, nat_lt}
+use Rattle.std.proofs.Common.{◌≡◌, FitsSigned, ℕ, zero, suc, ◌+◌, ◌*◌, ◌^◌, ◌<◌, ◌≤◌, pos, neg_ℤ, Bool, true, false, ◌||◌, cond, if◌then◌else◌, List, [], ◌∷◌, drop, Ok, Err, refl, sym, ◌∙◌, ap, arith, nat_lt}
 use Rattle.std.proofs.lemmas.Bool.{le-leb, le-ltb, lt-ltb}
 use Rattle.std.proofs.lemmas.Bool.Decides.{nat_tests}
 use Rattle.std.specs.Char.{digit_value as std_digit}
 use Rattle.std.specs.Str.Parse.{AllDigits, IsNumeral, digits_value_after, signed_digits_value, starts_with_minus, without_leading_sign}
 use Rattle.std.specs.Str.Parse.{digits_value as std_value}
 use Rattle.ytt_base.specs.declared.fault.FaultKind.TheVariants as kind
-use Rattle.ytt_base.specs.declared.fault.Place.{Place}
-use Rattle.ytt_base.specs.Outcomes.{Outcome, fault_at}
-use Rattle.ytt_base.specs.Trees.{Tree, integer, scalar}
-use Rattle.ytt_base.proofs.Views.{tree_of-Int}
+use Rattle.ytt_base.specs.Trees.{integer}
 use Rattle.yaml_spec.specs.Bytes.{digit_value}
-use Rattle.yaml_spec.specs.Scalars.{digits_value, integer_of, unsigned}
-use Rattle.yaml_kinds.specs.Integers.{integer_at}
+use Rattle.yaml_spec.specs.Scalars.{digits_value, integer_of, is_negative, unsigned}
 
 -- ---- digits
 
@@ -36,9 +32,6 @@ unsigned_by false false t = refl
 pub unsigned-std : (t : List ℕ) → unsigned t ≡ without_leading_sign t
 unsigned-std t = unsigned_by _ _ t
 
-abbrev in_two : ℤ → Outcome Tree
-in_two z = Ok (scalar (integer z))
-
 fits_by : (minus : Bool) (n : ℕ) → FitsSigned w128 (cond minus (neg_ℤ (pos n)) (pos n)) → integer_of minus n ≡ Ok (integer (cond minus (neg_ℤ (pos n)) (pos n)))
 fits_by false n h = rw (lt-ltb n (2 ^ 127) h.sfits) refl
 fits_by true zero h = refl
@@ -57,12 +50,12 @@ wide_by true (suc n) h = rw (not_fits n (λ l. h (record { sfits = l }))) refl
 std-value : (base : ℕ) (t : List ℕ) → base ≤ 16 → IsNumeral base (without_leading_sign t) → digits_value base 0 (unsigned t) ≡ std_value base (without_leading_sign t)
 std-value base t h a = ap (digits_value base 0) (unsigned-std t) ∙ value-same base 0 (without_leading_sign t) h a.1
 
-pub integer-fits : (base : ℕ) (place : Place) (t : List ℕ) → base ≤ 16 → IsNumeral base (without_leading_sign t) → FitsSigned w128 (signed_digits_value base t)
-    → integer_at base place t ≡ Ok (scalar (integer (signed_digits_value base t)))
-integer-fits base place t h a f = rw (std-value base t h a, fits_by (starts_with_minus t) (std_value base (without_leading_sign t)) f) refl
+pub integer-fits : (base : ℕ) (t : List ℕ) → base ≤ 16 → IsNumeral base (without_leading_sign t) → FitsSigned w128 (signed_digits_value base t)
+    → Ok (integer (signed_digits_value base t)) ≡ integer_of (is_negative t) (digits_value base 0 (unsigned t))
+integer-fits base t h a f = rw (std-value base t h a) (sym (fits_by (starts_with_minus t) (std_value base (without_leading_sign t)) f))
 
-pub integer-wide : (base : ℕ) (place : Place) (t : List ℕ) → base ≤ 16 → IsNumeral base (without_leading_sign t) → (FitsSigned w128 (signed_digits_value base t) → ⊥)
-    → integer_at base place t ≡ Err (fault_at kind.IntWide place)
-integer-wide base place t h a f = rw (std-value base t h a, wide_by (starts_with_minus t) (std_value base (without_leading_sign t)) f) refl
+pub integer-wide : (base : ℕ) (t : List ℕ) → base ≤ 16 → IsNumeral base (without_leading_sign t) → (FitsSigned w128 (signed_digits_value base t) → ⊥)
+    → Err kind.IntWide ≡ integer_of (is_negative t) (digits_value base 0 (unsigned t))
+integer-wide base t h a f = rw (std-value base t h a) (sym (wide_by (starts_with_minus t) (std_value base (without_leading_sign t)) f))
 
-pub ruleset integers = (integer-fits, integer-wide, tree_of-Int)
+pub ruleset integers = (integer-fits, integer-wide)

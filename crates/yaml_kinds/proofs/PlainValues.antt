@@ -7,14 +7,9 @@ use Rattle.std.specs.List.{list_all}
 use Rattle.std.specs.Str.{IsCharBoundary}
 use Rattle.std.specs.Str.Parse.{AllDigits, IsNumeral, without_leading_sign}
 use Rattle.ytt_base.specs.declared.fault.FaultKind.TheVariants as kind
-use Rattle.ytt_base.specs.declared.fault.Place.{Place}
-use Rattle.ytt_base.specs.Outcomes.{Outcome, ◌>>=◌, fault_at}
-use Rattle.ytt_base.specs.Trees.{Scalar, Tree, null, boolean, string, scalar}
-use Rattle.ytt_base.proofs.Views.{views}
+use Rattle.ytt_base.specs.Trees.{null, boolean, string}
 use Rattle.yaml_spec.specs.Bytes.{all_bytes, is_word, yes_words, is_digit, is_octal_digit, is_hex_digit}
-use Rattle.yaml_spec.specs.Plain.{plain_at, typed}
 use Rattle.yaml_spec.specs.Scalars.{Form, null_form, bool_form, octal_form, bad_octal_form, integer_form, prefixed_form, float_form, word_form, string_form, form, plain, value_of, integer_of, digits_value, unsigned, is_negative, some_of, has_leading_zero, has_prefix, is_float}
-use Rattle.yaml_kinds.specs.Integers.{integer_at}
 use Rattle.yaml_kinds.proofs.ByteTests.{all_bytes-list_all, too_short}
 use Rattle.yaml_kinds.proofs.FormTests.{by_tests, form-tests, null as is_null, truth, falsehood, zero as leading, digits, octal, hex}
 use Rattle.yaml_kinds.proofs.Integers.{unsigned-std}
@@ -22,9 +17,6 @@ use Rattle.yaml_kinds.proofs.Integers.{unsigned-std}
 both : (a b : Bool) → (a && b) ≡ true → (a ≡ true) × (b ≡ true)
 both true b h = (refl, h)
 both false b h = cc
-
-abbrev in_scalar : Scalar → Outcome Tree
-in_scalar s = Ok (scalar s)
 
 -- ---- digits
 
@@ -152,63 +144,61 @@ numeral-prefixed_hex s e =
 
 -- ---- values
 
-at_form : (place : Place) (s : List ℕ) (f : Form) → form s ≡ f → plain_at place s ≡ (typed place (value_of f s) >>= in_scalar)
-unfolding plain
-at_form place s f e = ap (λ (g : Form). typed place (value_of g s) >>= in_scalar) e
+module _ (s : List ℕ) where
+  at_form : (f : Form) → form s ≡ f → value_of f s ≡ plain s
+  unfolding plain
+  at_form f e = ap (λ (g : Form). value_of g s) (sym e)
 
-pub at-null : (place : Place) (s : List ℕ) → form s ≡ null_form → plain_at place s ≡ Ok (scalar null)
-at-null place s e = at_form place s null_form e
+  pub plain-null : form s ≡ null_form → Ok null ≡ plain s
+  plain-null e = at_form null_form e
 
-pub at-bool : (place : Place) (s : List ℕ) (b : Bool) → form s ≡ bool_form b → plain_at place s ≡ Ok (scalar (boolean b))
-at-bool place s b e = at_form place s (bool_form b) e
+  pub plain-bool : (b : Bool) → form s ≡ bool_form b → Ok (boolean b) ≡ plain s
+  plain-bool b e = at_form (bool_form b) e
 
-pub at-octal : (place : Place) (s : List ℕ) → form s ≡ octal_form → plain_at place s ≡ integer_at 8 place s
-at-octal place s e = at_form place s octal_form e
+  pub plain-octal : form s ≡ octal_form → integer_of (is_negative s) (digits_value 8 0 (unsigned s)) ≡ plain s
+  plain-octal e = at_form octal_form e
 
-pub at-bad_octal : (place : Place) (s : List ℕ) → form s ≡ bad_octal_form → plain_at place s ≡ Err (fault_at kind.YamlOut place)
-at-bad_octal place s e = at_form place s bad_octal_form e
+  pub plain-bad_octal : form s ≡ bad_octal_form → Err kind.YamlOut ≡ plain s
+  plain-bad_octal e = at_form bad_octal_form e
 
-pub at-integer : (place : Place) (s : List ℕ) → form s ≡ integer_form → plain_at place s ≡ integer_at 10 place s
-at-integer place s e = at_form place s integer_form e
+  pub plain-integer : form s ≡ integer_form → integer_of (is_negative s) (digits_value 10 0 (unsigned s)) ≡ plain s
+  plain-integer e = at_form integer_form e
 
-without_sign : (base : ℕ) (place : Place) (u : List ℕ) → (unsigned u ≡ u) × (is_negative u ≡ false) → (typed place (integer_of false (digits_value base 0 u)) >>= in_scalar) ≡ integer_at base place u
-without_sign base place u h =
-    ap (λ (v : List ℕ). typed place (integer_of false (digits_value base 0 v)) >>= in_scalar) (sym h.0)
-    ∙ ap (λ b. typed place (integer_of b (digits_value base 0 (unsigned u))) >>= in_scalar) (sym h.1)
+  without_sign : (base : ℕ) (u : List ℕ) → (unsigned u ≡ u) × (is_negative u ≡ false) → integer_of (is_negative u) (digits_value base 0 (unsigned u)) ≡ integer_of false (digits_value base 0 u)
+  without_sign base u h = rw (h.0, h.1) refl
 
-pub at-prefixed_octal : (place : Place) (s : List ℕ) → form s ≡ prefixed_form 8 → plain_at place s ≡ integer_at 8 place (drop 2 s)
-at-prefixed_octal place s e =
-    at_form place s (prefixed_form 8) e ∙ without_sign 8 place (drop 2 s) (no_sign is_octal_digit 8 high_octal small_octal (drop 2 s) (behind 48 111 is_octal_digit s (prefixed-octal s e)))
+  pub plain-prefixed_octal : form s ≡ prefixed_form 8 → integer_of (is_negative (drop 2 s)) (digits_value 8 0 (unsigned (drop 2 s))) ≡ plain s
+  plain-prefixed_octal e =
+      without_sign 8 (drop 2 s) (no_sign is_octal_digit 8 high_octal small_octal (drop 2 s) (behind 48 111 is_octal_digit s (prefixed-octal s e))) ∙ at_form (prefixed_form 8) e
 
-pub at-prefixed_hex : (place : Place) (s : List ℕ) → form s ≡ prefixed_form 16 → plain_at place s ≡ integer_at 16 place (drop 2 s)
-at-prefixed_hex place s e =
-    at_form place s (prefixed_form 16) e ∙ without_sign 16 place (drop 2 s) (no_sign is_hex_digit 16 high_hex small_hex (drop 2 s) (behind 48 120 is_hex_digit s (prefixed-hex s e)))
+  pub plain-prefixed_hex : form s ≡ prefixed_form 16 → integer_of (is_negative (drop 2 s)) (digits_value 16 0 (unsigned (drop 2 s))) ≡ plain s
+  plain-prefixed_hex e =
+      without_sign 16 (drop 2 s) (no_sign is_hex_digit 16 high_hex small_hex (drop 2 s) (behind 48 120 is_hex_digit s (prefixed-hex s e))) ∙ at_form (prefixed_form 16) e
 
-pub at-float : (place : Place) (s : List ℕ) → form s ≡ float_form → plain_at place s ≡ Err (fault_at kind.FloatScalar place)
-at-float place s e = at_form place s float_form e
+  pub plain-float : form s ≡ float_form → Err kind.FloatScalar ≡ plain s
+  plain-float e = at_form float_form e
 
-pub at-word : (place : Place) (s : List ℕ) → form s ≡ word_form → plain_at place s ≡ Ok (scalar (string s))
-at-word place s e = at_form place s word_form e
+  pub plain-word : form s ≡ word_form → Ok (string s) ≡ plain s
+  plain-word e = at_form word_form e
 
-pub at-string : (place : Place) (s : List ℕ) → form s ≡ string_form → plain_at place s ≡ Ok (scalar (string s))
-at-string place s e = at_form place s string_form e
+  pub plain-string : form s ≡ string_form → Ok (string s) ≡ plain s
+  plain-string e = at_form string_form e
 
 pub ruleset plain_values = (
-  views,
   numeral-octal,
   numeral-integer,
   numeral-prefixed_octal,
   numeral-prefixed_hex,
   boundary-octal,
   boundary-hex,
-  at-null,
-  at-bool,
-  at-octal,
-  at-bad_octal,
-  at-integer,
-  at-prefixed_octal,
-  at-prefixed_hex,
-  at-float,
-  at-word,
-  at-string,
+  plain-null,
+  plain-bool,
+  plain-octal,
+  plain-bad_octal,
+  plain-integer,
+  plain-prefixed_octal,
+  plain-prefixed_hex,
+  plain-float,
+  plain-word,
+  plain-string,
 )

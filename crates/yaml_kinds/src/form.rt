@@ -8,7 +8,7 @@ use crate::number::{is_float, is_prefixed_hex, is_prefixed_octal, unsigned};
 use crate::words::{is_false_word, is_null_word, is_true_word, is_yes_word};
 
 /// The forms of a plain scalar, in the order in which they are tried.
-#[derive(Clone, Copy, Debug, PartialEq, Eq)]
+#[derive(Clone, Copy)]
 pub enum Form {
     Null,
     Bool(bool),
