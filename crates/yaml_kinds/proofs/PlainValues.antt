@@ -1,5 +1,6 @@
 -- The value of a plain scalar by its form.
 use Rattle.std.proofs.Common.{◌≡◌, ℕ, ◌<◌, ◌≤◌, Bool, true, false, ◌&&◌, List, [], ◌∷◌, length, get_or, drop, codes, Ok, Err, refl, sym, ◌∙◌, ap, subst, arith, ne_eqb}
+use Rattle.std.proofs.lemmas.Bool.{and_parts}
 use Rattle.std.proofs.lemmas.Bool.Decides.{nat_tests}
 use Rattle.std.proofs.lemmas.Str.{IsCharBoundary-before_ascii}
 use Rattle.std.specs.Char.{digit_value as std_digit}
@@ -14,16 +15,12 @@ use Rattle.yaml_kinds.proofs.ByteTests.{all_bytes-list_all, too_short}
 use Rattle.yaml_kinds.proofs.FormTests.{by_tests, form-tests, null as is_null, truth, falsehood, zero as leading, digits, octal, hex}
 use Rattle.yaml_kinds.proofs.Integers.{unsigned-std}
 
-both : (a b : Bool) → (a && b) ≡ true → (a ≡ true) × (b ≡ true)
-both true b h = (refl, h)
-both false b h = cc
-
 -- ---- digits
 
 module _ (test : ℕ → Bool) (base : ℕ) (high : (b : ℕ) → test b ≡ true → 48 ≤ b) (small : (b : ℕ) → test b ≡ true → std_digit b < base) where
   all_digits : (ds : List ℕ) → all_bytes test ds ≡ true → AllDigits base ds
   all_digits [] h = tt
-  all_digits (d ∷ ds) h = let p = both (test d) (all_bytes test ds) h in (small d p.0, all_digits ds p.1)
+  all_digits (d ∷ ds) h = let p = and_parts (test d) (all_bytes test ds) h in (small d p.0, all_digits ds p.1)
 
   numeral : (ds : List ℕ) → some_of test ds ≡ true → IsNumeral base ds
   numeral [] h = cc
@@ -32,7 +29,7 @@ module _ (test : ℕ → Bool) (base : ℕ) (high : (b : ℕ) → test b ≡ tru
   no_sign : (ds : List ℕ) → some_of test ds ≡ true → (unsigned ds ≡ ds) × (is_negative ds ≡ false)
   no_sign [] h = cc
   no_sign (d ∷ ds) h =
-      let l = high d (both (test d) (all_bytes test ds) h).0 in
+      let l = high d (and_parts (test d) (all_bytes test ds) h).0 in
       (rw (ne_eqb d 43 (omega arith), ne_eqb d 45 (omega arith)) refl, ne_eqb d 45 (omega arith))
 
 high_octal : (b : ℕ) → is_octal_digit b ≡ true → 48 ≤ b
@@ -112,13 +109,13 @@ prefixed-hex : (s : List ℕ) → form s ≡ prefixed_form 16 → has_prefix (co
 prefixed-hex s e = (form-holds s (prefixed_form 16) e).1 refl
 
 behind : (p q : ℕ) (test : ℕ → Bool) (s : List ℕ) → has_prefix (p ∷ q ∷ []) test s ≡ true → some_of test (drop 2 s) ≡ true
-behind p q test s h = (both _ _ h).1
+behind p q test s h = (and_parts _ _ h).1
 
 third : (p q : ℕ) (test : ℕ → Bool) (below : (b : ℕ) → test b ≡ true → b < 128) (s : List ℕ) → has_prefix (p ∷ q ∷ []) test s ≡ true → (2 < length s) × (get_or s 2 0 < 128)
 third p q test below [] h = cc
 third p q test below (a ∷ []) h = cc (too_short p q test (a ∷ []) (omega arith))
 third p q test below (a ∷ b ∷ []) h = cc (too_short p q test (a ∷ b ∷ []) (omega arith))
-third p q test below (a ∷ b ∷ c ∷ s) h = (omega arith, below c (both (test c) (all_bytes test s) (both _ _ h).1).0)
+third p q test below (a ∷ b ∷ c ∷ s) h = (omega arith, below c (and_parts (test c) (all_bytes test s) (and_parts _ _ h).1).0)
 
 low_octal : (b : ℕ) → is_octal_digit b ≡ true → b < 128
 low_octal b h = grind (arith, nat_tests)

@@ -13,6 +13,7 @@ use Rattle.yaml_spec.specs.Refusals.{refused}
 use Rattle.yaml_quotes.specs.declared.folding.Folded.{Folded}
 use Rattle.yaml_quotes.specs.Joining.{with_parts, part_of}
 use Rattle.yaml_text.proofs.Whites.{skip_white-length}
+use Rattle.ytt_laws.proofs.Chains.{then_same}
 
 -- what the text so far and the parts that are left make
 abbrev pub folded_with : Folded → List Part × Cursor → Outcome (List ℕ × Cursor)
@@ -23,17 +24,13 @@ pub record IsReading (open_place : Place) (is_double : Bool) (start : Cursor) (f
   pub gives : (parts open_place is_double here.place here.text here.below >>= folded_with folded) ≡ Quote open_place start
   pub within : size here ≤ size start
 
-same-binds : {A B : Type 0} (o : Outcome A) (f g : A → Outcome B) → ((x : A) → f x ≡ g x) → (o >>= f) ≡ (o >>= g)
-same-binds (Ok x) f g h = h x
-same-binds (Err e) f g h = refl
-
 pub reading-start : (open_place : Place) (is_double : Bool) (start : Cursor) (folded : Folded) (rest : List ℕ) → is_double ≡ (first start.text == quote) → rest ≡ drop 1 start.text
     → ((ps : List Part) → with_parts folded ps ≡ fold_parts ps) → IsReading open_place is_double start folded (record start { text = rest })
 unfolding Quote
 reading-start open_place is_double start folded rest d b new = record {
   gives =
       rw (d, b)
-      (same-binds (parts open_place (first start.text == quote) start.place (drop 1 start.text) start.below) (folded_with folded) (λ (r : List Part × Cursor). Ok (fold_parts r.0, r.1)) (λ (r : List Part × Cursor). ap (λ t. Ok (t, r.1)) (new r.0)));
+      (then_same (parts open_place (first start.text == quote) start.place (drop 1 start.text) start.below) (folded_with folded) (λ (r : List Part × Cursor). Ok (fold_parts r.0, r.1)) (λ (r : List Part × Cursor). ap (λ t. Ok (t, r.1)) (new r.0)));
   within = rw b (omega (arith, length-drop {A = ℕ}));
 }
 

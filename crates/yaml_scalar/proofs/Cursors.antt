@@ -13,8 +13,9 @@ use Rattle.yaml_spec.specs.Held.{plain_lines}
 use Rattle.yaml_spec.specs.Lines.{Line}
 use Rattle.yaml_spec.specs.Openers.{starts_block}
 use Rattle.yaml_spec.specs.Positions.{Quoted, cursor_at, read_up_to, text_at, quoted_at, block_at, least_under}
-use Rattle.yaml_spec.proofs.HeldLines.{opens-line, block-line, plain_lines-length, text_at-index}
+use Rattle.yaml_spec.proofs.HeldLines.{plain_lines-length, some-line, text_at-index}
 use Rattle.yaml_spec.specs.Quotes.{Cursor, Quote, starts_quote}
+use Rattle.yaml_scalar.specs.View.{BeginsAscii}
 
 -- ---- a position at a byte that is ASCII
 
@@ -32,16 +33,21 @@ cut-before t column some ascii =
       | inr past ↦ absurd (omega (arith, get_or_past t column 0 past))
     ]
 
-cut-at : (lines : List held.Line) (at column : ℕ) → at < length lines → (let here = cursor_at (plain_lines lines) at column in (0 < first here.text) × (first here.text < 128)) → IsCharBoundary (text_at (plain_lines lines) at) column
-cut-at lines at column there h =
-    let byte = rw (text-drop (plain_lines lines) at column (rw (plain_lines-length lines) there)) at h in
+pub there : (lines : List held.Line) (at column : ℕ) → (let here = cursor_at (plain_lines lines) at column in BeginsAscii here.text) → at < length lines
+there lines at column h = some-line lines at column h.0
+
+pub cut-at : (lines : List held.Line) (at column : ℕ) → (let here = cursor_at (plain_lines lines) at column in BeginsAscii here.text) → IsCharBoundary (text_at (plain_lines lines) at) column
+cut-at lines at column h =
+    let byte = rw (text-drop (plain_lines lines) at column (rw (plain_lines-length lines) (there lines at column h))) at h in
     cut-before _ column byte.0 byte.1
 
-pub quote-cut : (lines : List held.Line) (at column : ℕ) → (let here = cursor_at (plain_lines lines) at column in starts_quote here.text ≡ true) → IsCharBoundary (text_at (plain_lines lines) at) column
-quote-cut lines at column h = cut-at lines at column (opens-line lines at column h) (grind (arith, nat_tests), grind (arith, nat_tests))
+pub quote-ascii : (t : List ℕ) → starts_quote t ≡ true → BeginsAscii t
+quote-ascii t h = (grind (arith, nat_tests), grind (arith, nat_tests))
 
-pub block-cut : (lines : List held.Line) (at column : ℕ) → (let here = cursor_at (plain_lines lines) at column in starts_block here.text ≡ true) → IsCharBoundary (text_at (plain_lines lines) at) column
-block-cut lines at column h = cut-at lines at column (block-line lines at column h) (grind (arith, nat_tests), grind (arith, nat_tests))
+pub block-ascii : (t : List ℕ) → starts_block t ≡ true → BeginsAscii t
+block-ascii t h = (grind (arith, nat_tests), grind (arith, nat_tests))
+
+pub ruleset openers = (quote-ascii, block-ascii)
 
 -- ---- a string that was read up to a place
 

@@ -35,6 +35,10 @@ pub gives_next : {A B Y : Type 0} (next_view : Y → B) (next : A → Outcome B)
     → first ≡ Ok x → Gives next_view result (next x) → Gives next_view result (and_then next first)
 gives_next next_view next result x first e g = subst (λ o. Gives next_view result (and_then next o)) (sym e) g
 
+-- an outcome that is the same
+pub gives_same : {X Y : Type 0} (view : X → Y) (result : Result X Stop) (some other : Outcome Y) → some ≡ other → Gives view result other → Gives view result some
+gives_same view result some other e g = subst (λ o. Gives view result o) (sym e) g
+
 -- a stop is seen alike by any view
 pub gives_alike : {A X Y : Type 0} (view : X → A) (other_view : Y → A) (s : Stop) (outcome : Outcome A) → Gives view (Err s) outcome → Gives other_view (Err s) outcome
 gives_alike view other_view (stop.Fault f) outcome e = e

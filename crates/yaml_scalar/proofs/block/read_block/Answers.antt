@@ -3,16 +3,9 @@ use Rattle.std.proofs.lemmas.List.{take_rest, drop-map}
 use Rattle.std.proofs.lemmas.Int.{to_z-of_z}
 use Rattle.yaml_spec.specs.Held.{plain_lines}
 use Rattle.yaml_spec.specs.Refusals.{place_below}
-use Rattle.yaml_spec.proofs.HeldLines.{block-line}
 use Rattle.yaml_text.specs.View.{cursor_of}
-use Rattle.yaml_scalar.proofs.Cursors.{block-cut, block_at-Block}
+use Rattle.yaml_scalar.proofs.Cursors.{block_at-Block}
 use Rattle.yaml_scalar.proofs.block.read_block.Goals as goal
-
-pub cursor_at-cursor-requires-clause-there : goal.cursor_at-cursor-requires-clause-there
-cursor_at-cursor-requires-clause-there c = rw c.as_slice-all.ensures (block-line c.args.lines.now c.args.line c.args.column c.requires)
-
-pub cursor_at-cursor-requires-clause-cut : goal.cursor_at-cursor-requires-clause-cut
-cursor_at-cursor-requires-clause-cut c = rw c.as_slice-all.ensures (block-cut c.args.lines.now c.args.line c.args.column c.requires)
 
 pub returns-in_err-text : goal.returns-in_err-text
 returns-in_err-text c =
