@@ -10,7 +10,7 @@ use Rattle.yaml_spec.specs.Refusals.{refused}
 use Rattle.yaml_spec.specs.Blocks.{is_spaces, found_indent, too_long}
 use Rattle.yaml_spec.specs.Bytes.{indent, space}
 use Rattle.yaml_blocks.specs.BlockLines.{content_at, indent_of}
-use Rattle.yaml_text.proofs.Indents.{indent-run, indent-le}
+use Rattle.yaml_text.proofs.Indents.{indent-run}
 use Rattle.yaml_text.proofs.Whites.{cut_behind}
 
 spaces-all : (t : List ℕ) → is_spaces t ≡ true → indent t ≡ length t

@@ -10,6 +10,7 @@ use Rattle.yaml_spec.specs.Held.{plain_lines}
 use Rattle.yaml_spec.specs.Lines.{Line}
 use Rattle.yaml_spec.specs.Quotes.{Cursor}
 use Rattle.yaml_spec.specs.Refusals.{refused}
+use Rattle.ytt_laws.proofs.Chains.{when_true, when_false}
 use Rattle.yaml_blocks.specs.BlockLines.{indent_of, content_at, contents_of, lines_read, end_at}
 
 -- ---- lines one by one
@@ -72,14 +73,6 @@ contents-le o (l ∷ ls) = by (content_at o l.text) refl (contents-le o ls) wher
 
 -- ---- what its header and its lines lead to
 
-tested : {A : Type 0} (v : Bool) (f x : Outcome A) → v ≡ true → (elim v as (λ w. Outcome A) [ false ↦ f | true ↦ x ]) ≡ x
-tested true f x h = refl
-tested false f x h = cc
-
-untested : {A : Type 0} (v : Bool) (f x : Outcome A) → v ≡ false → (elim v as (λ w. Outcome A) [ false ↦ f | true ↦ x ]) ≡ f
-untested true f x h = cc
-untested false f x h = refl
-
 -- the text of the lines, the comment behind the header, and the place behind them
 abbrev placed : Cursor → Header → List ℕ × ℕ → Outcome (List ℕ × List ℕ × Cursor)
 placed c h r = Ok (r.0, skip_white h.rest, end_at c r.1)
@@ -92,7 +85,7 @@ body-placed is_literal h c (Err f) = refl
 
 pub Block-refused : (least : ℕ) (c : Cursor) (h : Header) → h ≡ header (drop 1 c.text) → ends_header h.rest ≡ false → Block least c ≡ refused kind.YamlForm c.place
 unfolding Block
-Block-refused least c h e t = let ends = rw e at t in untested _ _ _ ends
+Block-refused least c h e t = let ends = rw e at t in when_false _ _ _ ends
 
 pub Block-read : (least : ℕ) (c : Cursor) (is_literal : Bool) (h : Header) → is_literal ≡ (first c.text == bar) → h ≡ header (drop 1 c.text) → ends_header h.rest ≡ true
     → Block least c ≡ (lines_read is_literal h.chomp least h.digit c.below >>= placed c h)
@@ -100,6 +93,6 @@ unfolding Block
 Block-read least c is_literal h b e t =
     let ends = rw e at t in
     rw (b, e)
-    (tested _ _ _ ends
+    (when_true _ _ _ ends
     ∙ body-placed (first c.text == bar) (header (drop 1 c.text)) c (body least (header (drop 1 c.text)).digit c.below)
     ∙ ap (λ (o : Outcome (List ℕ × ℕ)). o >>= placed c (header (drop 1 c.text))) (lines_read-body (first c.text == bar) (header (drop 1 c.text)).chomp least (header (drop 1 c.text)).digit c.below))

@@ -4,7 +4,7 @@ ghost use Rattle.yaml_spec.specs.Blocks as plain;
 ghost use Rattle.yaml_spec.specs.Blocks.{block_text, end_breaks};
 ghost use Rattle.yaml_spec.specs.Folding.{breaks};
 ghost use Rattle.yaml_blocks.specs.BlockView.{held_chomp};
-ghost use Rattle.yaml_blocks.specs.BlockLines.{before, break_after, with_contents};
+ghost use Rattle.yaml_blocks.specs.BlockLines.{before, with_contents};
 
 use crate::header::Chomp;
 use std::alloc::Global;

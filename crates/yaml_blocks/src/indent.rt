@@ -1,10 +1,9 @@
 // The indents of the lines of a block scalar.
-ghost use Rattle.std.specs.Prelude.{◌≡◌, ◌==◌, ◌^◌, ◌<◌, ◌≤◌, length};
-ghost use Rattle.std.specs.List.{prefix_len};
+ghost use Rattle.std.specs.Prelude.{◌≡◌, ◌==◌, ◌^◌, ◌<◌, ◌≤◌};
 ghost use Rattle.std.specs.Option.{option_map};
 ghost use Rattle.ytt_base.specs.Outcomes.{Gives};
 ghost use Rattle.yaml_spec.specs.Blocks.{found_indent, is_spaces, too_long};
-ghost use Rattle.yaml_spec.specs.Bytes.{indent, space};
+ghost use Rattle.yaml_spec.specs.Bytes.{indent};
 ghost use Rattle.yaml_spec.specs.Held.{plain_lines};
 ghost use Rattle.yaml_spec.specs.Positions.{least_under};
 ghost use Rattle.yaml_blocks.specs.BlockLines.{content_at, indent_of};

@@ -1,5 +1,5 @@
 -- Tests of every byte of a text, and of its first two.
-use Rattle.std.proofs.Common.{◌≡◌, ℕ, ◌≤◌, List, [], ◌∷◌, length, refl, ap, arith, Bool, true, false, ◌&&◌, not}
+use Rattle.std.proofs.Common.{◌≡◌, ℕ, ◌≤◌, List, [], ◌∷◌, length, refl, ap, arith, Bool, false, ◌&&◌, not}
 use Rattle.std.proofs.lemmas.Bool.{and_right}
 use Rattle.std.specs.List.{list_all}
 use Rattle.yaml_spec.specs.Bytes.{all_bytes, is_empty}

@@ -1,5 +1,5 @@
 -- The value of a plain scalar by its form.
-use Rattle.std.proofs.Common.{◌≡◌, ℕ, ◌<◌, ◌≤◌, Bool, true, false, ◌&&◌, List, [], ◌∷◌, length, get_or, drop, codes, Ok, Err, refl, sym, ◌∙◌, ap, subst, arith, ne_eqb}
+use Rattle.std.proofs.Common.{◌≡◌, ℕ, ◌<◌, ◌≤◌, Bool, true, false, List, [], ◌∷◌, drop, codes, Ok, Err, refl, sym, ◌∙◌, ap, subst, arith, ne_eqb}
 use Rattle.std.proofs.lemmas.Bool.{and_parts}
 use Rattle.std.proofs.lemmas.Bool.Decides.{nat_tests}
 use Rattle.std.proofs.lemmas.Str.{IsCharBoundary-before_ascii}
@@ -17,10 +17,23 @@ use Rattle.yaml_kinds.proofs.Integers.{unsigned-std}
 
 -- ---- digits
 
-module _ (test : ℕ → Bool) (base : ℕ) (high : (b : ℕ) → test b ≡ true → 48 ≤ b) (small : (b : ℕ) → test b ≡ true → std_digit b < base) where
+-- the digits of a base, which are ASCII and no signs
+abbrev AreDigits : (ℕ → Bool) → ℕ → Type 0
+AreDigits test base = (b : ℕ) → test b ≡ true → (48 ≤ b) × (std_digit b < base) × (b < 128)
+
+in_octal : AreDigits is_octal_digit 8
+in_octal b h = (grind (arith, nat_tests), grind (arith, nat_tests), grind (arith, nat_tests))
+
+in_decimal : AreDigits is_digit 10
+in_decimal b h = (grind (arith, nat_tests), grind (arith, nat_tests), grind (arith, nat_tests))
+
+in_hex : AreDigits is_hex_digit 16
+in_hex b h = (grind (arith, nat_tests), grind (arith, nat_tests), grind (arith, nat_tests))
+
+module _ (test : ℕ → Bool) (base : ℕ) (are : AreDigits test base) where
   all_digits : (ds : List ℕ) → all_bytes test ds ≡ true → AllDigits base ds
   all_digits [] h = tt
-  all_digits (d ∷ ds) h = let p = and_parts (test d) (all_bytes test ds) h in (small d p.0, all_digits ds p.1)
+  all_digits (d ∷ ds) h = let p = and_parts (test d) (all_bytes test ds) h in ((are d p.0).1, all_digits ds p.1)
 
   numeral : (ds : List ℕ) → some_of test ds ≡ true → IsNumeral base ds
   numeral [] h = cc
@@ -29,26 +42,24 @@ module _ (test : ℕ → Bool) (base : ℕ) (high : (b : ℕ) → test b ≡ tru
   no_sign : (ds : List ℕ) → some_of test ds ≡ true → (unsigned ds ≡ ds) × (is_negative ds ≡ false)
   no_sign [] h = cc
   no_sign (d ∷ ds) h =
-      let l = high d (and_parts (test d) (all_bytes test ds) h).0 in
+      let l = (are d (and_parts (test d) (all_bytes test ds) h).0).0 in
       (rw (ne_eqb d 43 (omega arith), ne_eqb d 45 (omega arith)) refl, ne_eqb d 45 (omega arith))
 
-high_octal : (b : ℕ) → is_octal_digit b ≡ true → 48 ≤ b
-high_octal b h = grind (arith, nat_tests)
+  module _ (p q : ℕ) (s : List ℕ) (h : has_prefix (p ∷ q ∷ []) test s ≡ true) where
+    behind : some_of test (drop 2 s) ≡ true
+    behind = (and_parts _ _ h).1
 
-small_octal : (b : ℕ) → is_octal_digit b ≡ true → std_digit b < 8
-small_octal b h = grind (arith, nat_tests)
+    numeral-behind : IsNumeral base (without_leading_sign (drop 2 s))
+    numeral-behind = rw (← unsigned-std (drop 2 s), (no_sign (drop 2 s) behind).0) (numeral (drop 2 s) behind)
 
-small_decimal : (b : ℕ) → is_digit b ≡ true → std_digit b < 10
-small_decimal b h = grind (arith, nat_tests)
+    integer-behind : integer_of (is_negative (drop 2 s)) (digits_value base 0 (unsigned (drop 2 s))) ≡ integer_of false (digits_value base 0 (drop 2 s))
+    integer-behind = let n = no_sign (drop 2 s) behind in rw (n.0, n.1) refl
 
-high_decimal : (b : ℕ) → is_digit b ≡ true → 48 ≤ b
-high_decimal b h = grind (arith, nat_tests)
-
-high_hex : (b : ℕ) → is_hex_digit b ≡ true → 48 ≤ b
-high_hex b h = grind (arith, nat_tests)
-
-small_hex : (b : ℕ) → is_hex_digit b ≡ true → std_digit b < 16
-small_hex b h = grind (arith, nat_tests)
+  boundary : (p q : ℕ) (s : List ℕ) → has_prefix (p ∷ q ∷ []) test s ≡ true → IsCharBoundary s 2
+  boundary p q [] h = cc
+  boundary p q (a ∷ []) h = cc (too_short p q test (a ∷ []) (omega arith))
+  boundary p q (a ∷ b ∷ []) h = cc (too_short p q test (a ∷ b ∷ []) (omega arith))
+  boundary p q (a ∷ b ∷ c ∷ s) h = IsCharBoundary-before_ascii (a ∷ b ∷ c ∷ s) 2 (omega arith) (are c (and_parts (test c) (all_bytes test s) (and_parts _ _ h).1).0).2
 
 -- ---- what a form says
 
@@ -85,59 +96,37 @@ some_octal : (u : List ℕ) → has_leading_zero u ≡ true → list_all is_octa
 some_octal [] h k = cc
 some_octal (b ∷ bs) h k = all_bytes-list_all is_octal_digit (b ∷ bs) ∙ k
 
--- ---- integers whose sign stands before their digits
+-- ---- integers
 
 signed_numeral : (base : ℕ) (s : List ℕ) → IsNumeral base (unsigned s) → IsNumeral base (without_leading_sign s)
 signed_numeral base s h = subst (λ (t : List ℕ). IsNumeral base t) (unsigned-std s) h
 
 pub numeral-octal : (s : List ℕ) → form s ≡ octal_form → IsNumeral 8 (without_leading_sign s)
 numeral-octal s e =
-    let p = form-holds s octal_form e in signed_numeral 8 s (numeral is_octal_digit 8 high_octal small_octal (unsigned s) (some_octal (unsigned s) p.0 p.1))
+    let p = form-holds s octal_form e in signed_numeral 8 s (numeral is_octal_digit 8 in_octal (unsigned s) (some_octal (unsigned s) p.0 p.1))
 
 pub numeral-integer : (s : List ℕ) → form s ≡ integer_form → IsNumeral 10 (without_leading_sign s)
-numeral-integer s e = signed_numeral 10 s (numeral is_digit 10 high_decimal small_decimal (unsigned s) (form-holds s integer_form e))
+numeral-integer s e = signed_numeral 10 s (numeral is_digit 10 in_decimal (unsigned s) (form-holds s integer_form e))
 
--- ---- integers behind a prefix
+-- behind a prefix
 
-abbrev octal_test : List ℕ → Type 0
-octal_test s = has_prefix (codes "0o") is_octal_digit s ≡ true
-
-prefixed-octal : (s : List ℕ) → form s ≡ prefixed_form 8 → octal_test s
+prefixed-octal : (s : List ℕ) → form s ≡ prefixed_form 8 → has_prefix (codes "0o") is_octal_digit s ≡ true
 prefixed-octal s e = (form-holds s (prefixed_form 8) e).0 refl
 
 prefixed-hex : (s : List ℕ) → form s ≡ prefixed_form 16 → has_prefix (codes "0x") is_hex_digit s ≡ true
 prefixed-hex s e = (form-holds s (prefixed_form 16) e).1 refl
 
-behind : (p q : ℕ) (test : ℕ → Bool) (s : List ℕ) → has_prefix (p ∷ q ∷ []) test s ≡ true → some_of test (drop 2 s) ≡ true
-behind p q test s h = (and_parts _ _ h).1
-
-third : (p q : ℕ) (test : ℕ → Bool) (below : (b : ℕ) → test b ≡ true → b < 128) (s : List ℕ) → has_prefix (p ∷ q ∷ []) test s ≡ true → (2 < length s) × (get_or s 2 0 < 128)
-third p q test below [] h = cc
-third p q test below (a ∷ []) h = cc (too_short p q test (a ∷ []) (omega arith))
-third p q test below (a ∷ b ∷ []) h = cc (too_short p q test (a ∷ b ∷ []) (omega arith))
-third p q test below (a ∷ b ∷ c ∷ s) h = (omega arith, below c (and_parts (test c) (all_bytes test s) (and_parts _ _ h).1).0)
-
-low_octal : (b : ℕ) → is_octal_digit b ≡ true → b < 128
-low_octal b h = grind (arith, nat_tests)
-
-low_hex : (b : ℕ) → is_hex_digit b ≡ true → b < 128
-low_hex b h = grind (arith, nat_tests)
-
 pub boundary-octal : (s : List ℕ) → form s ≡ prefixed_form 8 → IsCharBoundary s 2
-boundary-octal s e = let t = third 48 111 is_octal_digit low_octal s (prefixed-octal s e) in IsCharBoundary-before_ascii s 2 t.0 t.1
+boundary-octal s e = boundary is_octal_digit 8 in_octal 48 111 s (prefixed-octal s e)
 
 pub boundary-hex : (s : List ℕ) → form s ≡ prefixed_form 16 → IsCharBoundary s 2
-boundary-hex s e = let t = third 48 120 is_hex_digit low_hex s (prefixed-hex s e) in IsCharBoundary-before_ascii s 2 t.0 t.1
+boundary-hex s e = boundary is_hex_digit 16 in_hex 48 120 s (prefixed-hex s e)
 
 pub numeral-prefixed_octal : (s : List ℕ) → form s ≡ prefixed_form 8 → IsNumeral 8 (without_leading_sign (drop 2 s))
-numeral-prefixed_octal s e =
-    let d = behind 48 111 is_octal_digit s (prefixed-octal s e) in
-    signed_numeral 8 (drop 2 s) (rw (no_sign is_octal_digit 8 high_octal small_octal (drop 2 s) d).0 (numeral is_octal_digit 8 high_octal small_octal (drop 2 s) d))
+numeral-prefixed_octal s e = numeral-behind is_octal_digit 8 in_octal 48 111 s (prefixed-octal s e)
 
 pub numeral-prefixed_hex : (s : List ℕ) → form s ≡ prefixed_form 16 → IsNumeral 16 (without_leading_sign (drop 2 s))
-numeral-prefixed_hex s e =
-    let d = behind 48 120 is_hex_digit s (prefixed-hex s e) in
-    signed_numeral 16 (drop 2 s) (rw (no_sign is_hex_digit 16 high_hex small_hex (drop 2 s) d).0 (numeral is_hex_digit 16 high_hex small_hex (drop 2 s) d))
+numeral-prefixed_hex s e = numeral-behind is_hex_digit 16 in_hex 48 120 s (prefixed-hex s e)
 
 -- ---- values
 
@@ -161,16 +150,11 @@ module _ (s : List ℕ) where
   pub plain-integer : form s ≡ integer_form → integer_of (is_negative s) (digits_value 10 0 (unsigned s)) ≡ plain s
   plain-integer e = at_form integer_form e
 
-  without_sign : (base : ℕ) (u : List ℕ) → (unsigned u ≡ u) × (is_negative u ≡ false) → integer_of (is_negative u) (digits_value base 0 (unsigned u)) ≡ integer_of false (digits_value base 0 u)
-  without_sign base u h = rw (h.0, h.1) refl
-
   pub plain-prefixed_octal : form s ≡ prefixed_form 8 → integer_of (is_negative (drop 2 s)) (digits_value 8 0 (unsigned (drop 2 s))) ≡ plain s
-  plain-prefixed_octal e =
-      without_sign 8 (drop 2 s) (no_sign is_octal_digit 8 high_octal small_octal (drop 2 s) (behind 48 111 is_octal_digit s (prefixed-octal s e))) ∙ at_form (prefixed_form 8) e
+  plain-prefixed_octal e = integer-behind is_octal_digit 8 in_octal 48 111 s (prefixed-octal s e) ∙ at_form (prefixed_form 8) e
 
   pub plain-prefixed_hex : form s ≡ prefixed_form 16 → integer_of (is_negative (drop 2 s)) (digits_value 16 0 (unsigned (drop 2 s))) ≡ plain s
-  plain-prefixed_hex e =
-      without_sign 16 (drop 2 s) (no_sign is_hex_digit 16 high_hex small_hex (drop 2 s) (behind 48 120 is_hex_digit s (prefixed-hex s e))) ∙ at_form (prefixed_form 16) e
+  plain-prefixed_hex e = integer-behind is_hex_digit 16 in_hex 48 120 s (prefixed-hex s e) ∙ at_form (prefixed_form 16) e
 
   pub plain-float : form s ≡ float_form → Err kind.FloatScalar ≡ plain s
   plain-float e = at_form float_form e

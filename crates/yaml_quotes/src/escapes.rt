@@ -1,5 +1,5 @@
 // What stands in a quoted scalar behind bytes that stand for themselves.
-ghost use Rattle.std.specs.Prelude.{◌≡◌, ◌+◌, ◌<◌, ◌≤◌, None, Some, false, if◌then◌else◌, length, true};
+ghost use Rattle.std.specs.Prelude.{◌≡◌, ◌+◌, ◌<◌, None, Some, false, if◌then◌else◌, length, true};
 ghost use Rattle.std.specs.List.{prefix_len};
 ghost use Rattle.yaml_spec.specs.Bytes.{digit_value, is_hex_digit};
 ghost use Rattle.yaml_spec.specs.Quotes.{escape_digits, escaped};

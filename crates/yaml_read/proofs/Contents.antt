@@ -1,5 +1,5 @@
 -- What stands behind the last head of a row.
-use Rattle.std.proofs.Common.{◌≡◌, ℕ, ◌+◌, ◌-◌, ◌≤◌, ◌<◌, Bool, true, false, List, [], ◌∷◌, length, Option, Some, None, Result, Ok, Err, refl, sym, ◌∙◌, ap, arith, if◌then◌else◌}
+use Rattle.std.proofs.Common.{◌≡◌, ℕ, ◌+◌, ◌-◌, ◌≤◌, ◌<◌, true, false, List, [], ◌∷◌, length, Option, Result, Ok, Err, refl, sym, ◌∙◌, ap, arith, if◌then◌else◌}
 use Rattle.ytt_base.specs.declared.fault.Stop.{Stop}
 use Rattle.ytt_base.specs.Outcomes.{Gives, Outcome, ◌>>=◌}
 use Rattle.ytt_base.specs.Trees.{max_depth}
@@ -13,8 +13,7 @@ use Rattle.yaml_spec.specs.Values.{Value}
 use Rattle.yaml_rows.specs.declared.row.Head as held
 use Rattle.yaml_rows.specs.declared.row.Row as held_row
 use Rattle.yaml_rows.specs.View.{heads_of, row_of}
-use Rattle.ytt_laws.proofs.Chains.{gives_same}
-use Rattle.yaml_read.proofs.Gives.{gives_first, when_true, when_false}
+use Rattle.ytt_laws.proofs.Chains.{gives_first, gives_same, when_false, when_true}
 
 pub no_passing : (hs : List held.Head) (before : List Comment) → 0 < length hs → (if is_empty (heads_of hs) then before else []) ≡ []
 no_passing [] before h = absurd (omega arith)

@@ -1,20 +1,17 @@
 -- How the heads of a row open blocks, one after another.
-use Rattle.std.proofs.Common.{◌≡◌, ℕ, zero, suc, ◌≤◌, ◌<◌, Bool, true, false, not, ◌&&◌, ◌||◌, ◌==◌, List, [], ◌∷◌, ◌++◌, length, Option, Some, None, Result, Ok, Err, refl, sym, ◌∙◌, ap, arith, append_assoc, eq-eqb, get_or, if◌then◌else◌}
-use Rattle.ytt_base.specs.declared.fault.FaultKind.{FaultKind}
-use Rattle.ytt_base.specs.declared.fault.FaultKind.TheVariants as kind
+use Rattle.std.proofs.Common.{◌≡◌, ℕ, suc, ◌<◌, Bool, true, false, not, ◌&&◌, ◌||◌, ◌==◌, List, [], ◌∷◌, ◌++◌, length, Option, Some, None, Ok, Err, refl, sym, ◌∙◌, ap, arith, append_assoc, eq-eqb, get_or}
 use Rattle.ytt_base.specs.Outcomes.{Outcome, ◌>>=◌}
 use Rattle.ytt_base.specs.Trees.{Scalar}
-use Rattle.yaml_pass.specs.Machine.{Begun, Frame, Hole, Opened, begin_at, begin_content, begin_entry, opens}
-use Rattle.yaml_spec.specs.Entries.{behind_head, is_dash_mark, misplaced, note_of, stray}
+use Rattle.yaml_pass.specs.Machine.{Begun, Frame, Hole, Opened, begin_content, begin_entry, opens}
+use Rattle.yaml_spec.specs.Entries.{behind_head, is_dash_mark, note_of}
 use Rattle.yaml_spec.specs.Noted.{Comment, Note}
 use Rattle.yaml_spec.specs.Plain.{typed}
-use Rattle.yaml_spec.specs.Refusals.{refused}
 use Rattle.yaml_spec.specs.Rows.{Head, Mark, Row, dash_mark, key_mark}
 use Rattle.yaml_rows.specs.declared.row.Head as held
 use Rattle.yaml_rows.specs.declared.row.Row as held_row
 use Rattle.yaml_rows.specs.View.{head_of, heads_of, mark_of, row_of}
 use Rattle.yaml_read.specs.Heads.{begin_last, goes_on, new_frame, onto, opens_in, row_from}
-use Rattle.yaml_read.proofs.Gives.{when_true, when_false}
+use Rattle.ytt_laws.proofs.Chains.{when_true}
 
 -- the row from these heads on
 abbrev pub at_heads : ℕ → List Head → Row → Row

@@ -7,7 +7,7 @@ ghost use Rattle.yaml_pass.specs.Machine.{begin_entry, opens};
 ghost use Rattle.yaml_noted.specs.View.{comments_of};
 ghost use Rattle.yaml_read.specs.Heads.{FitsRow, first_dash, first_tab, goes_on, new_frame, opens_in, row_from};
 ghost use Rattle.yaml_read.specs.View.{begun_of, extent_of, frames_of, note_of, opened_of};
-ghost use Rattle.yaml_rows.specs.View.{head_of, heads_of, mark_of, row_of};
+ghost use Rattle.yaml_rows.specs.View.{heads_of, mark_of, row_of};
 ghost use Rattle.yaml_spec.specs.Entries as plain;
 ghost use Rattle.yaml_spec.specs.Entries.{is_dash_mark};
 ghost use Rattle.yaml_spec.specs.Noted.{Comment};

@@ -1,5 +1,5 @@
 // Positions in lines.
-ghost use Rattle.std.specs.Prelude.{◌≡◌, ◌<◌, ◌==◌, drop, length};
+ghost use Rattle.std.specs.Prelude.{◌≡◌, ◌<◌, length};
 ghost use Rattle.ytt_base.specs.declared.fault.Place.{Place};
 ghost use Rattle.yaml_spec.specs.Held.{plain_lines};
 ghost use Rattle.yaml_spec.specs.Positions.{cursor_at, read_up_to};
