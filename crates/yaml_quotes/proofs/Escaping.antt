@@ -5,7 +5,7 @@ use Rattle.std.proofs.lemmas.List.{drop_more}
 use Rattle.std.specs.Char.{IsScalar}
 use Rattle.yaml_spec.specs.Bytes.{is_hex_digit, digit_value}
 use Rattle.yaml_spec.specs.Quotes.{escaped, escape_digits, is_scalar_value}
-use Rattle.yaml_quotes.specs.Turns.{ends, gives, fails, number_at, escape_at}
+use Rattle.yaml_quotes.specs.Turns.{Turn, ends, gives, fails, number_at, escape_at}
 
 pub escape-end : (t : List ℕ) → length t ≡ 0 → escape_at t ≡ ends true
 unfolding escape_at
