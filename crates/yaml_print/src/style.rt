@@ -3,7 +3,7 @@ ghost use Rattle.std.specs.Prelude.{◌≡◌, ◌<◌, ◌∷◌, ◌&&◌, [],
 ghost use Rattle.yaml_spec.specs.Bytes.{first, is_white};
 ghost use Rattle.yaml_spec.specs.Text.{all_chars, are_trimmed, final_breaks, fits_literal, has_break, is_literal_char, last, literal_header, pieces};
 
-use yaml_scalar::is_shown;
+use yaml_styles::is_shown;
 use yaml_text::{first, is_white};
 
 fn is_literal_char(c: char) -> bool
@@ -18,7 +18,7 @@ fn all_literal(text: &str) -> bool
     text.chars().all(|c| is_literal_char(c))
 }
 
-#[tactic(auto, using(yaml_scalar::proofs::StyleTests::marks))]
+#[tactic(auto, using(yaml_styles::proofs::StyleTests::marks))]
 fn has_break(text: &str) -> bool
     ensures { result ≡ has_break text.now }
 {
@@ -34,7 +34,7 @@ pub fn split_at_break(text: &str) -> Option<(&str, &str)>
 }
 
 /// The last byte, or 0 where there is none.
-#[tactic(auto, using(yaml_scalar::proofs::StyleTests::lasts))]
+#[tactic(auto, using(yaml_styles::proofs::StyleTests::lasts))]
 fn last(text: &str) -> u8
     ensures { result ≡ last text.now }
 {
