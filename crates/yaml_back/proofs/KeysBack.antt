@@ -1,6 +1,7 @@
 -- A scalar on one line reads back, as a value and as a key.
 use Rattle.ytt_base.specs.declared.fault.Place.{Place}
 use Rattle.std.proofs.Common.{◌≡◌, ℕ, suc, ◌<◌, ◌≤◌, pos, negsuc, Bool, true, false, ◌&&◌, ◌==◌, List, [], ◌∷◌, ◌++◌, Option, Some, None, Ok, refl, sym, ◌∙◌, ap, append_assoc, arith, true≢false, if◌then◌else◌, ◌⊎◌, inl, inr}
+use Rattle.std.specs.List.{list_all}
 use Rattle.std.proofs.lemmas.List.{append-nil}
 use Rattle.std.proofs.Math.Seq.{drop-append_seam}
 use Rattle.std.proofs.lemmas.Bool.{ne_eqb, leb-true, le-leb, and_parts}
@@ -9,7 +10,7 @@ use Rattle.std.specs.Prelude.{IsUtf8, chars, codes, bytes_eq, decimal, nat_le, F
 use Rattle.std.specs.Int.{w128}
 use Rattle.std.specs.Prelude.{ℤ}
 use Rattle.std.specs.Fmt.{signed_decimal}
-use Rattle.yaml_spec.specs.Bytes.{hash, colon, space, tab, quote, first, is_white, is_empty, is_gap, is_one_of, is_digit, all_bytes}
+use Rattle.yaml_spec.specs.Bytes.{hash, colon, space, tab, quote, first, is_white, is_empty, is_gap, is_one_of, is_digit}
 use Rattle.yaml_spec.specs.Lines.{Line}
 use Rattle.ytt_base.specs.Trees.{Scalar, null, boolean, integer, string, IsScalar, scalar}
 use Rattle.yaml_spec.specs.Scalars.{form, plain}
@@ -68,30 +69,30 @@ is_numeric b = nat_le 45 b && nat_le b 57
 numeric_bounds : (b : ℕ) → is_numeric b ≡ true → (45 ≤ b) × (b ≤ 57)
 numeric_bounds b e = let k = and_parts (nat_le 45 b) (nat_le b 57) e in (leb-true 45 b k.0, leb-true b 57 k.1)
 
-numeric_tabs : (t : List ℕ) → all_bytes is_numeric t ≡ true → NoTab t
+numeric_tabs : (t : List ℕ) → list_all is_numeric t ≡ true → NoTab t
 unfolding NoTab
 numeric_tabs [] e = tt
 numeric_tabs (b ∷ bs) e =
-    let k = and_parts (is_numeric b) (all_bytes is_numeric bs) e in
+    let k = and_parts (is_numeric b) (list_all is_numeric bs) e in
     let l = numeric_bounds b k.0 in
     (ne_eqb b 9 (omega arith), numeric_tabs bs k.1)
 
-numeric_pair : (x y : ℕ) → (x < 45) ⊎ (57 < x) → (t : List ℕ) → all_bytes is_numeric t ≡ true → has_pair x y t ≡ false
+numeric_pair : (x y : ℕ) → (x < 45) ⊎ (57 < x) → (t : List ℕ) → list_all is_numeric t ≡ true → has_pair x y t ≡ false
 numeric_pair x y h [] e = refl
 numeric_pair x y h (b ∷ []) e = refl
 numeric_pair x y h (b ∷ c ∷ t) e =
-    let k = and_parts (is_numeric b) (all_bytes is_numeric (c ∷ t)) e in
+    let k = and_parts (is_numeric b) (list_all is_numeric (c ∷ t)) e in
     let l = numeric_bounds b k.0 in
     let n : (b == x) ≡ false = ne_eqb b x (omega arith) in
     rw n (numeric_pair x y h (c ∷ t) k.1)
 
-numeric_last : (t : List ℕ) (b : ℕ) → all_bytes is_numeric (b ∷ t) ≡ true → is_numeric (last (b ∷ t)) ≡ true
+numeric_last : (t : List ℕ) (b : ℕ) → list_all is_numeric (b ∷ t) ≡ true → is_numeric (last (b ∷ t)) ≡ true
 numeric_last [] b e = (and_parts (is_numeric b) true e).0
-numeric_last (c ∷ t) b e = numeric_last t c (and_parts (is_numeric b) (all_bytes is_numeric (c ∷ t)) e).1
+numeric_last (c ∷ t) b e = numeric_last t c (and_parts (is_numeric b) (list_all is_numeric (c ∷ t)) e).1
 
-numeric_quiet : (b : ℕ) (bs : List ℕ) → all_bytes is_numeric (b ∷ bs) ≡ true → IsQuiet true (b ∷ bs) × (is_white (last (b ∷ bs)) ≡ false)
+numeric_quiet : (b : ℕ) (bs : List ℕ) → list_all is_numeric (b ∷ bs) ≡ true → IsQuiet true (b ∷ bs) × (is_white (last (b ∷ bs)) ≡ false)
 numeric_quiet b bs e =
-    let l = numeric_bounds b (and_parts (is_numeric b) (all_bytes is_numeric bs) e).0 in
+    let l = numeric_bounds b (and_parts (is_numeric b) (list_all is_numeric bs) e).0 in
     let m = numeric_bounds (last (b ∷ bs)) (numeric_last bs b e) in (
       record {
         tabs = numeric_tabs (b ∷ bs) e;
@@ -109,27 +110,27 @@ digit_numeric b e =
     let l = leb-true 48 b k.0 in
     rw (le-leb 45 b (omega arith)) k.1
 
-digits_numeric : (t : List ℕ) → all_bytes is_digit t ≡ true → all_bytes is_numeric t ≡ true
+digits_numeric : (t : List ℕ) → list_all is_digit t ≡ true → list_all is_numeric t ≡ true
 digits_numeric [] e = refl
 digits_numeric (b ∷ bs) e =
-    let k = and_parts (is_digit b) (all_bytes is_digit bs) e in
+    let k = and_parts (is_digit b) (list_all is_digit bs) e in
     rw (digit_numeric b k.0) (digits_numeric bs k.1)
 
-bare_digits : (t : List ℕ) (s : Scalar) → is_empty t ≡ false → all_bytes is_digit t ≡ true → plain t ≡ Ok s → IsBare t s
+bare_digits : (t : List ℕ) (s : Scalar) → is_empty t ≡ false → list_all is_digit t ≡ true → plain t ≡ Ok s → IsBare t s
 bare_digits [] s e d p = absurd (true≢false e)
 bare_digits (b ∷ bs) s e d p =
     let q = numeric_quiet b bs (digits_numeric (b ∷ bs) d) in
-    let k = and_parts (nat_le 48 b) (nat_le b 57) (and_parts (is_digit b) (all_bytes is_digit bs) d).0 in
+    let k = and_parts (nat_le 48 b) (nat_le b 57) (and_parts (is_digit b) (list_all is_digit bs) d).0 in
     let l = leb-true 48 b k.0 in
     let h = leb-true b 57 k.1 in
     bare_from b bs s q.0 q.1 (grind (arith, nat_tests)) p
 
-bare_negative : (t : List ℕ) (s : Scalar) → is_empty t ≡ false → all_bytes is_digit t ≡ true → plain (45 ∷ t) ≡ Ok s → IsBare (45 ∷ t) s
+bare_negative : (t : List ℕ) (s : Scalar) → is_empty t ≡ false → list_all is_digit t ≡ true → plain (45 ∷ t) ≡ Ok s → IsBare (45 ∷ t) s
 unfolding start_fault
 bare_negative [] s e d p = absurd (true≢false e)
 bare_negative (b ∷ bs) s e d p =
     let q = numeric_quiet 45 (b ∷ bs) (digits_numeric (b ∷ bs) d) in
-    let k = and_parts (nat_le 48 b) (nat_le b 57) (and_parts (is_digit b) (all_bytes is_digit bs) d).0 in
+    let k = and_parts (nat_le 48 b) (nat_le b 57) (and_parts (is_digit b) (list_all is_digit bs) d).0 in
     let l = leb-true 48 b k.0 in
     let g : (rest : List ℕ) → is_gap (b ∷ (bs ++ rest)) ≡ false = λ rest. no_gap b (bs ++ rest) (ne_eqb b 32 (omega arith)) (ne_eqb b 9 (omega arith)) in
     record {

@@ -3,7 +3,6 @@ use Rattle.std.proofs.Common.{◌≡◌, ℕ, List, refl, Bool, true, false, ◌
 use Rattle.std.specs.List.{list_all}
 use Rattle.yaml_spec.specs.Bytes.{is_word, null_words, true_words, false_words, yes_words, is_digit, is_octal_digit, is_hex_digit}
 use Rattle.yaml_spec.specs.Scalars.{Form, null_form, bool_form, octal_form, bad_octal_form, integer_form, prefixed_form, float_form, word_form, string_form, form, unsigned, some_of, has_leading_zero, has_prefix, is_float}
-use Rattle.yaml_kinds.proofs.ByteTests.{all_bytes-list_all}
 
 abbrev pub by_tests : (n t f z e d o x l y : Bool) → Form
 by_tests n t f z e d o x l y =
@@ -36,7 +35,7 @@ module _ (s : List ℕ) where
 
   pub form-tests : form s ≡ by_tests null truth falsehood zero (list_all is_octal_digit (unsigned s)) digits octal hex (is_float s) (is_word yes_words s)
   unfolding form
-  form-tests = rw (← all_bytes-list_all is_octal_digit (unsigned s)) refl
+  form-tests = refl
 
   pub form-null : null ≡ true → form s ≡ null_form
   form-null a = form-tests ∙ rw a refl

@@ -9,9 +9,9 @@ use Rattle.std.specs.Str.{IsCharBoundary}
 use Rattle.std.specs.Str.Parse.{AllDigits, IsNumeral, without_leading_sign}
 use Rattle.ytt_base.specs.declared.fault.FaultKind.TheVariants as kind
 use Rattle.ytt_base.specs.Trees.{null, boolean, string}
-use Rattle.yaml_spec.specs.Bytes.{all_bytes, is_word, yes_words, is_digit, is_octal_digit, is_hex_digit}
+use Rattle.yaml_spec.specs.Bytes.{is_word, yes_words, is_digit, is_octal_digit, is_hex_digit}
 use Rattle.yaml_spec.specs.Scalars.{Form, null_form, bool_form, octal_form, bad_octal_form, integer_form, prefixed_form, float_form, word_form, string_form, form, plain, value_of, integer_of, digits_value, unsigned, is_negative, some_of, has_leading_zero, has_prefix, is_float}
-use Rattle.yaml_kinds.proofs.ByteTests.{all_bytes-list_all, too_short}
+use Rattle.yaml_kinds.proofs.ByteTests.{too_short}
 use Rattle.yaml_kinds.proofs.FormTests.{by_tests, form-tests, null as is_null, truth, falsehood, zero as leading, digits, octal, hex}
 use Rattle.yaml_kinds.proofs.Integers.{unsigned-std}
 
@@ -31,9 +31,9 @@ in_hex : AreDigits is_hex_digit 16
 in_hex b h = (grind (arith, nat_tests), grind (arith, nat_tests), grind (arith, nat_tests))
 
 module _ (test : ℕ → Bool) (base : ℕ) (are : AreDigits test base) where
-  all_digits : (ds : List ℕ) → all_bytes test ds ≡ true → AllDigits base ds
+  all_digits : (ds : List ℕ) → list_all test ds ≡ true → AllDigits base ds
   all_digits [] h = tt
-  all_digits (d ∷ ds) h = let p = and_parts (test d) (all_bytes test ds) h in ((are d p.0).1, all_digits ds p.1)
+  all_digits (d ∷ ds) h = let p = and_parts (test d) (list_all test ds) h in ((are d p.0).1, all_digits ds p.1)
 
   numeral : (ds : List ℕ) → some_of test ds ≡ true → IsNumeral base ds
   numeral [] h = cc
@@ -42,7 +42,7 @@ module _ (test : ℕ → Bool) (base : ℕ) (are : AreDigits test base) where
   no_sign : (ds : List ℕ) → some_of test ds ≡ true → (unsigned ds ≡ ds) × (is_negative ds ≡ false)
   no_sign [] h = cc
   no_sign (d ∷ ds) h =
-      let l = (are d (and_parts (test d) (all_bytes test ds) h).0).0 in
+      let l = (are d (and_parts (test d) (list_all test ds) h).0).0 in
       (rw (ne_eqb d 43 (omega arith), ne_eqb d 45 (omega arith)) refl, ne_eqb d 45 (omega arith))
 
   module _ (p q : ℕ) (s : List ℕ) (h : has_prefix (p ∷ q ∷ []) test s ≡ true) where
@@ -59,7 +59,7 @@ module _ (test : ℕ → Bool) (base : ℕ) (are : AreDigits test base) where
   boundary p q [] h = cc
   boundary p q (a ∷ []) h = cc (too_short p q test (a ∷ []) (omega arith))
   boundary p q (a ∷ b ∷ []) h = cc (too_short p q test (a ∷ b ∷ []) (omega arith))
-  boundary p q (a ∷ b ∷ c ∷ s) h = IsCharBoundary-before_ascii (a ∷ b ∷ c ∷ s) 2 (omega arith) (are c (and_parts (test c) (all_bytes test s) (and_parts _ _ h).1).0).2
+  boundary p q (a ∷ b ∷ c ∷ s) h = IsCharBoundary-before_ascii (a ∷ b ∷ c ∷ s) 2 (omega arith) (are c (and_parts (test c) (list_all test s) (and_parts _ _ h).1).0).2
 
 -- ---- what a form says
 
@@ -94,7 +94,7 @@ form-holds s f e =
 
 some_octal : (u : List ℕ) → has_leading_zero u ≡ true → list_all is_octal_digit u ≡ true → some_of is_octal_digit u ≡ true
 some_octal [] h k = cc
-some_octal (b ∷ bs) h k = all_bytes-list_all is_octal_digit (b ∷ bs) ∙ k
+some_octal (b ∷ bs) h k = k
 
 -- ---- integers
 

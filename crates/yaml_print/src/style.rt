@@ -1,7 +1,8 @@
 // The literal style: where it fits, and its lines.
 ghost use Rattle.std.specs.Prelude.{◌≡◌, ◌<◌, ◌∷◌, ◌&&◌, [], IfSome, MatchOption, chars, length, not, suc};
+ghost use Rattle.std.specs.List.{list_all};
 ghost use Rattle.yaml_spec.specs.Bytes.{first, is_white};
-ghost use Rattle.yaml_spec.specs.Text.{all_chars, are_trimmed, final_breaks, fits_literal, has_break, is_literal_char, last, literal_header, pieces};
+ghost use Rattle.yaml_spec.specs.Text.{are_trimmed, final_breaks, fits_literal, has_break, is_literal_char, last, literal_header, pieces};
 
 use yaml_styles::is_shown;
 use yaml_text::{first, is_white};
@@ -13,7 +14,7 @@ fn is_literal_char(c: char) -> bool
 }
 
 fn all_literal(text: &str) -> bool
-    ensures { result ≡ all_chars is_literal_char (chars text.now) }
+    ensures { result ≡ list_all is_literal_char (chars text.now) }
 {
     text.chars().all(|c| is_literal_char(c))
 }

@@ -1,9 +1,9 @@
 -- The tests of the first byte of a text, of its last and of each character.
 use Rattle.std.proofs.Common.{◌≡◌, ℕ, List, [], ◌∷◌, ◌++◌, length, refl, ap, ◌∙◌, arith, ◌<◌, Bool, false, ◌||◌, ◌&&◌, eqb}
-use Rattle.std.specs.List.{list_any, list_all}
+use Rattle.std.specs.List.{list_any}
 use Rattle.std.proofs.lemmas.Bool.Decides.{nat_tests}
 use Rattle.yaml_spec.specs.Bytes.{is_one_of}
-use Rattle.yaml_spec.specs.Text.{all_chars, has_pair, last}
+use Rattle.yaml_spec.specs.Text.{has_pair, last}
 
 same-eqb : (a b : ℕ) → eqb a b ≡ eqb b a
 same-eqb a b = grind (arith, nat_tests)
@@ -26,10 +26,6 @@ pub no_pair : (a b : ℕ) (bs : List ℕ) → length bs < 2 → has_pair a b bs 
 no_pair a b [] h = refl
 no_pair a b (x ∷ []) h = refl
 no_pair a b (x ∷ y ∷ bs) h = absurd (omega arith)
-
-pub all_chars-list_all : (test : ℕ → Bool) (cs : List ℕ) → all_chars test cs ≡ list_all test cs
-all_chars-list_all test [] = refl
-all_chars-list_all test (c ∷ cs) = ap (λ v. test c && v) (all_chars-list_all test cs)
 
 pub ruleset marks = (is_one_of-list_any)
 

@@ -1,7 +1,8 @@
 // The style of a string on one line.
 ghost use Rattle.std.specs.Prelude.{◌≡◌, ◌∷◌, [], bytes_eq, chars, codes, take};
+ghost use Rattle.std.specs.List.{list_all};
 ghost use Rattle.yaml_spec.specs.Bytes.{colon, first, is_one_of, space};
-ghost use Rattle.yaml_spec.specs.Text.{all_chars, fits_plain, has_pair, is_hidden, is_shown, last, start_marks};
+ghost use Rattle.yaml_spec.specs.Text.{fits_plain, has_pair, is_hidden, is_shown, last, start_marks};
 
 use yaml_kinds::is_string;
 use yaml_lines::is_printable;
@@ -21,7 +22,7 @@ pub fn is_shown(c: char) -> bool
 }
 
 fn all_shown(text: &str) -> bool
-    ensures { result ≡ all_chars is_shown (chars text.now) }
+    ensures { result ≡ list_all is_shown (chars text.now) }
 {
     text.chars().all(|c| is_shown(c))
 }
