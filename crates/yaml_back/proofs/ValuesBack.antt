@@ -1,6 +1,6 @@
 -- A string, as it is printed on one line, is read as a value.
 use Rattle.ytt_base.specs.declared.fault.Place.{Place}
-use Rattle.std.proofs.Common.{◌≡◌, ℕ, Bool, true, false, not, ◌&&◌, ◌||◌, ◌==◌, List, [], ◌∷◌, ◌++◌, None, Ok, refl, sym, ◌∙◌, ap, subst, arith, true≢false, if◌then◌else◌}
+use Rattle.std.proofs.Common.{◌≡◌, ℕ, Bool, true, false, not, ◌&&◌, ◌==◌, List, [], ◌∷◌, ◌++◌, None, Ok, refl, sym, ◌∙◌, ap, subst, arith, true≢false}
 use Rattle.std.specs.List.{list_all}
 use Rattle.std.proofs.lemmas.List.{append-nil}
 use Rattle.std.proofs.lemmas.Bool.{ne_eqb, eqb-true, ltb-true, ltb-false, and_parts, not-true}
@@ -13,11 +13,11 @@ use Rattle.ytt_base.specs.Trees.{string, scalar}
 use Rattle.yaml_spec.specs.Scalars.{is_string_form, Form, null_form, bool_form, octal_form, bad_octal_form, integer_form, prefixed_form, float_form, word_form, string_form, form, plain, value_of}
 use Rattle.yaml_spec.specs.Folding.{fold_parts}
 use Rattle.yaml_spec.specs.Quotes.{Cursor, closed, scan, parts, Quote}
-use Rattle.yaml_spec.specs.Plain.{start_fault, form_indicators, out_indicators, part, behind, ends_with_colon, further, ends_scalar, plain_lines}
+use Rattle.yaml_spec.specs.Plain.{start_fault, form_indicators, out_indicators, ends_with_colon, further, ends_scalar}
 use Rattle.yaml_spec.specs.Noted.{Comment, noted_scalar}
 use Rattle.yaml_spec.specs.Values.{Value, value, ended, noted}
-use Rattle.yaml_spec.specs.Text.{is_shown, start_marks, has_pair, last, fits_plain, quoted_text, quoted_chars, string_text}
-use Rattle.yaml_back.proofs.PlainBack.{NoTab, IsTail, IsQuiet, part-quiet, behind-quiet}
+use Rattle.yaml_spec.specs.Text.{is_shown, start_marks, has_pair, last, fits_plain, quoted_text, quoted_chars}
+use Rattle.yaml_back.proofs.PlainBack.{NoTab, IsQuiet}
 use Rattle.yaml_back.proofs.QuotesBack.{AreHigh, encode_high, encode_low, closes_chars, Closes}
 
 -- ---- what `fits_plain` says

@@ -6,7 +6,7 @@ use Rattle.std.proofs.lemmas.Bool.{leb-true, ltb-true}
 use Rattle.ytt_base.specs.declared.fault.FaultKind.{FaultKind}
 use Rattle.ytt_base.specs.declared.fault.FaultKind.TheVariants as kind
 use Rattle.ytt_base.specs.declared.fault.Place.{Place}
-use Rattle.ytt_base.specs.Trees.{Scalar, null, boolean, integer, string, IsScalar}
+use Rattle.ytt_base.specs.Trees.{Scalar, integer, IsScalar}
 use Rattle.yaml_spec.specs.Bytes.{is_blank}
 use Rattle.yaml_spec.specs.Scalars.{Form, null_form, bool_form, octal_form, bad_octal_form, integer_form, prefixed_form, float_form, word_form, string_form, form, digits_value, unsigned, with_sign, integer_of, is_negative, value_of, plain}
 use Rattle.yaml_spec.specs.Folding.{Fold}

@@ -6,7 +6,7 @@ use Rattle.std.proofs.lemmas.Bool.{and_parts, eqb-true, ne_eqb, ltb-true, ltb-fa
 use Rattle.std.proofs.lemmas.Bool.Decides.{nat_tests}
 use Rattle.std.proofs.lemmas.Str.{IsUtf8-nil, IsUtf8-append, IsUtf8-encode, length-encode, len_utf8_bounds}
 use Rattle.yaml_spec.specs.Bytes.{quote, apostrophe, backslash, is_white, is_hex_digit, digit_value}
-use Rattle.yaml_spec.specs.Quotes.{Scan, open_end, closed, wrong, prepend, line_ends, single, Mode, normal, escape, digits, escaped, escape_digits, is_scalar_value, double, scan}
+use Rattle.yaml_spec.specs.Quotes.{Scan, open_end, closed, wrong, prepend, single, Mode, normal, escape, digits, escaped, escape_digits, is_scalar_value, double, scan}
 use Rattle.yaml_back.proofs.QuotesBack.{AreHigh, high, encode_high, encode_low}
 use Rattle.yaml_held.proofs.TextParts.{utf8_one}
 

@@ -1,12 +1,7 @@
 -- Tests of every byte of a text, and of its first two.
-use Rattle.std.proofs.Common.{◌≡◌, ℕ, ◌≤◌, List, [], ◌∷◌, length, refl, arith, Bool, false, ◌&&◌, not}
+use Rattle.std.proofs.Common.{◌≡◌, ℕ, ◌≤◌, List, [], ◌∷◌, length, refl, arith, Bool, false}
 use Rattle.std.proofs.lemmas.Bool.{and_right}
-use Rattle.std.specs.List.{list_all}
-use Rattle.yaml_spec.specs.Bytes.{is_empty}
-use Rattle.yaml_spec.specs.Scalars.{some_of, has_prefix}
-
-pub some_all : (test : ℕ → Bool) (bs : List ℕ) → some_of test bs ≡ (not (is_empty bs) && list_all test bs)
-some_all test bs = refl
+use Rattle.yaml_spec.specs.Scalars.{has_prefix}
 
 -- a text of two bytes or fewer is no prefix of two with digits behind it
 pub too_short : (p q : ℕ) (test : ℕ → Bool) (t : List ℕ) → length t ≤ 2 → has_prefix (p ∷ q ∷ []) test t ≡ false

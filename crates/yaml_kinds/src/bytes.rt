@@ -44,7 +44,6 @@ fn all_hex_digits(bytes: &[u8]) -> bool
 }
 
 /// Whether the text is one or more decimal digits.
-#[tactic(auto, using(crate::proofs::ByteTests::some_all))]
 pub fn some_digits(text: &[u8]) -> bool
     ensures { result ≡ some_of is_digit text.now }
 {
@@ -52,7 +51,6 @@ pub fn some_digits(text: &[u8]) -> bool
 }
 
 /// Whether the text is one or more octal digits.
-#[tactic(auto, using(crate::proofs::ByteTests::some_all))]
 pub fn some_octal_digits(text: &[u8]) -> bool
     ensures { result ≡ some_of is_octal_digit text.now }
 {
@@ -60,7 +58,6 @@ pub fn some_octal_digits(text: &[u8]) -> bool
 }
 
 /// Whether the text is one or more hexadecimal digits, in capitals or not.
-#[tactic(auto, using(crate::proofs::ByteTests::some_all))]
 pub fn some_hex_digits(text: &[u8]) -> bool
     ensures { result ≡ some_of is_hex_digit text.now }
 {
