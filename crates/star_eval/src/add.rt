@@ -11,7 +11,7 @@ ghost use Rattle.template_spec.specs.Adding.{add_child, key_shown, keys_equal, o
 use crate::built::{Built, BuiltItem, BuiltNotes};
 use crate::list::push;
 use std::alloc::Global;
-use yaml_scalar::key_text;
+use yaml_styles::key_text;
 use ytt_base::fault::{Fault, FaultKind, Place, Stop};
 use ytt_base::text::{Memory, Text};
 use ytt_base::tree::Key;
