@@ -4,7 +4,7 @@ use Rattle.std.proofs.lemmas.Iterator.Search.{all_from_yields_List}
 use borrow.Author.Tests.{tests}
 use Rattle.yaml_spec.specs.Text.{is_literal_char}
 use Rattle.yaml_scalar.proofs.StyleTests.{all_chars-list_all}
-use Rattle.yaml_print.proofs.style.all_literal.Goals as goal
+use Rattle.yaml_print.proofs.literal_fit.all_literal.Goals as goal
 
 pub returns : goal.returns
 returns c =
