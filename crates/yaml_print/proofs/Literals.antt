@@ -1,7 +1,8 @@
 -- The lines of a literal, one after another.
-use Rattle.std.proofs.Common.{◌≡◌, ℕ, false, ◌==◌, List, [], ◌∷◌, ◌++◌, length, refl}
+use Rattle.std.proofs.Common.{◌≡◌, ℕ, true, false, ◌==◌, List, [], ◌∷◌, ◌++◌, length, refl, ap, ◌∙◌, arith}
+use Rattle.std.proofs.lemmas.Bool.Decides.{nat_tests}
 use Rattle.yaml_print.proofs.Pieces.{pieces_some}
-use Rattle.yaml_print.proofs.Putting.{puts_then}
+use Rattle.yaml_print.proofs.Putting.{puts_none, puts_then}
 use Rattle.yaml_print.specs.Puts.{Puts}
 use Rattle.yaml_print.specs.Start.{Start}
 use Rattle.yaml_spec.specs.Bytes.{is_empty}
@@ -31,6 +32,21 @@ leads_more has a b c n text rest line below w e h = record {
 }
 
 -- the last line, which is not empty
+last_line : (n : ℕ) (l : List ℕ) → is_empty l ≡ false → literal_lines n (l ∷ []) ≡ literal_line n l
+last_line n [] h = absurd (cc)
+last_line n (b ∷ bs) h = refl
+
 pub leads_last : {W : Type 0} (has : Start → W → List ℕ → Type 0) (a b c : W) (n : ℕ) (text rest : List ℕ) → Leads has a b n text rest → pieces rest ≡ rest ∷ [] → (length rest == 0) ≡ false
     → Puts has b c (literal_line n rest) → Puts has a c (literal_lines n (pieces text))
-leads_last has a b c n text rest w e h k = w.on c (rw (e, none_empty rest h) k)
+leads_last has a b c n text rest w e h k = let f : literal_lines n (pieces rest) ≡ literal_line n rest = ap (literal_lines n) e ∙ last_line n rest (none_empty rest h) in w.on c (rw f k)
+
+-- nothing behind the last break
+no_last : (n : ℕ) (l : List ℕ) → (length l == 0) ≡ true → literal_lines n (l ∷ []) ≡ []
+no_last n [] h = refl
+no_last n (b ∷ bs) h = absurd (grind (arith, nat_tests))
+
+pub leads_end : {W : Type 0} (has : Start → W → List ℕ → Type 0) (a b : W) (n : ℕ) (text rest : List ℕ) → Leads has a b n text rest → pieces rest ≡ rest ∷ [] → (length rest == 0) ≡ true
+    → Puts has a b (literal_lines n (pieces text))
+leads_end has a b n text rest w e h = let f : literal_lines n (pieces rest) ≡ [] = ap (literal_lines n) e ∙ no_last n rest h in w.on b (rw f (puts_none has b))
+
+pub ruleset lines = (leads_none, leads_more, leads_last, leads_end)

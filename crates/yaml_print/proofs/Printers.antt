@@ -52,15 +52,15 @@ put_waits held faults p q bytes e f b w = record {
 
 -- What waited was written, and the bytes behind it.
 pub put_sent : {O : Type 0} (held : O → Option (List ℕ)) (faults : O → ℕ) (p q : Printer O) (bytes : List ℕ) → p.failed ≡ false → q.failed ≡ false → q.out.ghost_name ≡ p.out.ghost_name
-    → q.buffer.ghost_name ≡ p.buffer.ghost_name → held q.out.now ≡ grown (held p.out.now) (waiting p ++ bytes) → faults q.out.now ≡ faults p.out.now → waiting q ≡ [] → Puts (IsPrinter held faults) p q bytes
-put_sent held faults p q bytes f g n b w k e = record {
+    → q.buffer.ghost_name ≡ p.buffer.ghost_name → held q.out.now ≡ grown (held p.out.now) (waiting p ++ bytes) → faults q.out.now ≡ faults p.out.now → q.filled ≡ 0 → Puts (IsPrinter held faults) p q bytes
+put_sent held faults p q bytes f g n b w k z = record {
   behind = λ start text h.
       let m : (h.rest ≡ waiting p) × (faults p.out.now ≡ start.faults) = rw f at h.stands in record {
         taken = h.taken ++ (waiting p ++ bytes);
         rest = [];
         parts = append-nil (h.taken ++ (waiting p ++ bytes)) ∙ behind-both h.taken (waiting p) text bytes (ap (λ t. h.taken ++ t) (sym m.0) ∙ h.parts);
         told = w ∙ ap (λ o. grown o (waiting p ++ bytes)) h.told ∙ grown-grown start.held h.taken (waiting p ++ bytes);
-        stands = rw g (sym e, k ∙ m.1);
+        stands = rw (g, z) (refl, k ∙ m.1);
         same_out = n ∙ h.same_out;
         same_buffer = b ∙ h.same_buffer;
       };
@@ -86,11 +86,14 @@ put_cut held faults p q bytes f g n b (i, w) k = record {
 
 -- ---- at the end
 
+front_of : (taken rest text : List ℕ) → taken ++ rest ≡ text → take (length taken) text ≡ taken
+front_of taken rest text e = rw (← e) (take-append_seam taken rest)
+
 -- Something failed.
 pub finished_cut : {O : Type 0} (held : O → Option (List ℕ)) (faults : O → ℕ) (start : Start) (p : Printer O) (text : List ℕ) (e : SinkFailed) → p.failed ≡ true → IsPrinter held faults start p text
     → Finished held faults start p text (Err e)
 finished_cut held faults start p text e f h = record {
-  bytes = (length h.taken, h.told ∙ ap (grown start.held) (sym (rw (← h.parts) take-append_seam)));
+  bytes = (length h.taken, h.told ∙ ap (grown start.held) (sym (front_of h.taken h.rest text h.parts)));
   cause = rw f at h.stands;
   same_out = h.same_out;
   same_buffer = h.same_buffer;

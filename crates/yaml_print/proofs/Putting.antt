@@ -1,8 +1,8 @@
 -- Texts put one behind another.
-use Rattle.std.proofs.Common.{◌≡◌, ℕ, ◌+◌, ◌<◌, List, [], ◌∷◌, ◌++◌, length, get_or, take, ap, sym, ◌∙◌, append_assoc, append-nil}
+use Rattle.std.proofs.Common.{◌≡◌, ℕ, ◌+◌, ◌<◌, ◌≤◌, None, List, [], ◌∷◌, ◌++◌, length, get_or, take, ap, sym, ◌∙◌, append_assoc, append-nil}
 use Rattle.std.specs.List.{flat_map}
 use Rattle.std.proofs.lemmas.Grind.{flat_map-append}
-use Rattle.std.proofs.lemmas.List.{take_more}
+use Rattle.std.proofs.lemmas.List.{take_all, take_more}
 use Rattle.yaml_print.specs.Puts.{Puts}
 use Rattle.yaml_print.specs.Start.{Start}
 
@@ -33,3 +33,12 @@ flat_map-next f xs i x h e =
 pub puts_next : {W X : Type 0} (has : Start → W → List ℕ → Type 0) (a b c : W) (f : X → List ℕ) (xs : List X) (i : ℕ) (x : X) → Puts has a b (flat_map f (take i xs)) → Puts has b c (f x) → i < length xs
     → x ≡ get_or xs i x → Puts has a c (flat_map f (take (i + 1) xs))
 puts_next has a b c f xs i x h k l e = rw (flat_map-next f xs i x l e) (puts_then has a b c (flat_map f (take i xs)) (f x) h k)
+
+-- all members
+pub puts_all : {W X : Type 0} (has : Start → W → List ℕ → Type 0) (a b : W) (f : X → List ℕ) (xs : List X) (i : ℕ) → Puts has a b (flat_map f (take i xs)) → length xs ≤ i → Puts has a b (flat_map f xs)
+puts_all has a b f xs i h l = rw take_all at h
+
+-- ---- a start of which nothing is told
+
+abbrev pub any_start : Start
+any_start = record { held = None; faults = 0; out = 0; buffer = 0 }

@@ -1,7 +1,6 @@
 // The length of a text that isn't written.
 ghost use Rattle.std.specs.Prelude.{◌≡◌, ◌-◌, ◌^◌, length, min};
 ghost use Rattle.ytt_base.specs.View.{trees_of};
-ghost use Rattle.yaml_print.specs.Length.{IsLength};
 ghost use Rattle.yaml_spec.specs.Text.{Text};
 
 use crate::print::write_documents;
@@ -15,7 +14,7 @@ struct Length {
 }
 
 impl Put for Length {
-    ghost has = { λ _. IsLength };
+    ghost has = { λ _ l s. l.bytes ≡ min (length s) (2 ^ 64 - 1) };
 
     fn put(&mut self, piece: &str) {
         self.bytes = self.bytes.saturating_add(piece.len() as u64);
