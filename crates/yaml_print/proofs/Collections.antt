@@ -1,11 +1,12 @@
 -- The text of a list or a map, one member after another.
-use Rattle.std.proofs.Common.{◌≡◌, ℕ, ◌+◌, ◌<◌, List, [], ◌∷◌, ◌++◌, length, codes, refl, ap, ◌∙◌, sym, arith, append_assoc}
+use Rattle.std.proofs.Common.{◌≡◌, ℕ, ◌+◌, ◌<◌, List, [], ◌∷◌, ◌++◌, length, codes, refl, ap, ◌∙◌, sym, arith, rules, append_assoc}
 use Rattle.std.specs.List.{flat_map}
 use Rattle.ytt_base.specs.declared.tree.Key.{Key}
 use Rattle.ytt_base.specs.declared.tree.Tree as held
-use Rattle.ytt_base.specs.declared.tree.Tree.{Tree}
+use Rattle.ytt_base.specs.declared.tree.Tree.{Tree, the_lemmas}
 use Rattle.ytt_base.specs.View.{key_of, pairs_of, tree_of, trees_of}
 use Rattle.ytt_base.proofs.Views.{tree_of-List, tree_of-Map}
+use Rattle.yaml_print.specs.LineText.{line_text}
 use Rattle.yaml_spec.specs.Text.{key_text, list_text, map_text, node_text, pair_text, spaces}
 
 -- ---- a member from the start of a line
@@ -44,6 +45,10 @@ behind-no_list n t (u ∷ us) e h = absurd (omega arith)
 pub behind-no_map : (n : ℕ) (t : Tree) (ps : List (Key × Tree)) → t ≡ held.Map ps → length ps ≡ 0 → pair_text n (tree_of t) ≡ codes " {}\n"
 behind-no_map n t [] e h = rw (e, tree_of-Map) refl
 behind-no_map n t (p ∷ ps) e h = absurd (omega arith)
+
+-- a scalar
+pub behind-scalar : (n : ℕ) (t : Tree) → ((ts : List Tree) → t ≡ held.List ts → ⊥) → ((ps : List (Key × Tree)) → t ≡ held.Map ps → ⊥) → pair_text n (tree_of t) ≡ 32 ∷ line_text (n + 2) (tree_of t)
+behind-scalar n t h k = search (rules, the_lemmas)
 
 -- ---- what stands behind a dash
 

@@ -21,14 +21,14 @@ pub record Leads {W : Type 0} (has : Start → W → List ℕ → Type 0) (befor
   pub on : (end : W) → Puts has now end (literal_lines n (pieces rest)) → Puts has before end (literal_lines n (pieces text))
 
 -- before the first line
-pub leads_none : {W : Type 0} (has : Start → W → List ℕ → Type 0) (a : W) (n : ℕ) (text : List ℕ) → Leads has a a n text text
-leads_none has a n text = record { on = λ end h. h }
+pub leads_none : {W : Type 0} {has : Start → W → List ℕ → Type 0} {a : W} (n : ℕ) (text : List ℕ) → Leads has a a n text text
+leads_none n text = record { on = λ end h. h }
 
 -- one more line
-pub leads_more : {W : Type 0} (has : Start → W → List ℕ → Type 0) (a b c : W) (n : ℕ) (text rest line below : List ℕ) → Leads has a b n text rest → pieces rest ≡ line ∷ pieces below
+pub leads_more : {W : Type 0} {has : Start → W → List ℕ → Type 0} {a b c : W} (n : ℕ) (text rest line below : List ℕ) → Leads has a b n text rest → pieces rest ≡ line ∷ pieces below
     → Puts has b c (literal_line n line) → Leads has a c n text below
-leads_more has a b c n text rest line below w e h = record {
-  on = λ end k. w.on end (rw (e, lines_cons n line (pieces below) (pieces_some below)) (puts_then has b c end (literal_line n line) (literal_lines n (pieces below)) h k));
+leads_more n text rest line below w e h = record {
+  on = λ end k. w.on end (rw (e, lines_cons n line (pieces below) (pieces_some below)) (puts_then h k));
 }
 
 -- the last line, which is not empty
@@ -36,17 +36,17 @@ last_line : (n : ℕ) (l : List ℕ) → is_empty l ≡ false → literal_lines 
 last_line n [] h = absurd (cc)
 last_line n (b ∷ bs) h = refl
 
-pub leads_last : {W : Type 0} (has : Start → W → List ℕ → Type 0) (a b c : W) (n : ℕ) (text rest : List ℕ) → Leads has a b n text rest → pieces rest ≡ rest ∷ [] → (length rest == 0) ≡ false
+pub leads_last : {W : Type 0} {has : Start → W → List ℕ → Type 0} {a b c : W} (n : ℕ) (text rest : List ℕ) → Leads has a b n text rest → pieces rest ≡ rest ∷ [] → (length rest == 0) ≡ false
     → Puts has b c (literal_line n rest) → Puts has a c (literal_lines n (pieces text))
-leads_last has a b c n text rest w e h k = let f : literal_lines n (pieces rest) ≡ literal_line n rest = ap (literal_lines n) e ∙ last_line n rest (none_empty rest h) in w.on c (rw f k)
+leads_last n text rest w e h k = let f : literal_lines n (pieces rest) ≡ literal_line n rest = ap (literal_lines n) e ∙ last_line n rest (none_empty rest h) in w.on _ (rw f k)
 
 -- nothing behind the last break
 no_last : (n : ℕ) (l : List ℕ) → (length l == 0) ≡ true → literal_lines n (l ∷ []) ≡ []
 no_last n [] h = refl
 no_last n (b ∷ bs) h = absurd (grind (arith, nat_tests))
 
-pub leads_end : {W : Type 0} (has : Start → W → List ℕ → Type 0) (a b : W) (n : ℕ) (text rest : List ℕ) → Leads has a b n text rest → pieces rest ≡ rest ∷ [] → (length rest == 0) ≡ true
+pub leads_end : {W : Type 0} {has : Start → W → List ℕ → Type 0} {a b : W} (n : ℕ) (text rest : List ℕ) → Leads has a b n text rest → pieces rest ≡ rest ∷ [] → (length rest == 0) ≡ true
     → Puts has a b (literal_lines n (pieces text))
-leads_end has a b n text rest w e h = let f : literal_lines n (pieces rest) ≡ [] = ap (literal_lines n) e ∙ no_last n rest h in w.on b (rw f (puts_none has b))
+leads_end n text rest w e h = let f : literal_lines n (pieces rest) ≡ [] = ap (literal_lines n) e ∙ no_last n rest h in w.on _ (rw f puts_none)
 
 pub ruleset lines = (leads_none, leads_more, leads_last, leads_end)

@@ -17,39 +17,6 @@ grown-grown (Some held) s t = ap Some (append_assoc held s t)
 behind-both : (taken rest text bytes : List ℕ) → taken ++ rest ≡ text → taken ++ (rest ++ bytes) ≡ text ++ bytes
 behind-both taken rest text bytes e = sym (append_assoc taken rest bytes) ∙ ap (λ t. t ++ bytes) e
 
-stands_more : (failed : Bool) (m n : ℕ) (rest w v bytes : List ℕ) → v ≡ w ++ bytes → Stands failed m n rest w → Stands failed m n (rest ++ bytes) v
-stands_more true m n rest w v bytes e h = h
-stands_more false m n rest w v bytes e h = (ap (λ t. t ++ bytes) h.0 ∙ sym e, h.1)
-
--- nothing is put where something has failed
-pub put_failed : {O : Type 0} (held : O → Option (List ℕ)) (faults : O → ℕ) (p : Printer O) (bytes : List ℕ) → p.failed ≡ true → Puts (IsPrinter held faults) p p bytes
-put_failed held faults p bytes e = record {
-  behind = λ start text h. record {
-    taken = h.taken;
-    rest = h.rest ++ bytes;
-    parts = behind-both h.taken h.rest text bytes h.parts;
-    told = h.told;
-    stands = rw e (rw e at h.stands);
-    same_out = h.same_out;
-    same_buffer = h.same_buffer;
-  };
-}
-
--- Bytes wait behind what waited.
-pub put_waits : {O : Type 0} (held : O → Option (List ℕ)) (faults : O → ℕ) (p q : Printer O) (bytes : List ℕ) → q.out ≡ p.out → q.failed ≡ p.failed → q.buffer.ghost_name ≡ p.buffer.ghost_name
-    → waiting q ≡ waiting p ++ bytes → Puts (IsPrinter held faults) p q bytes
-put_waits held faults p q bytes e f b w = record {
-  behind = λ start text h. record {
-    taken = h.taken;
-    rest = h.rest ++ bytes;
-    parts = behind-both h.taken h.rest text bytes h.parts;
-    told = rw e h.told;
-    stands = rw (f, e) (stands_more p.failed start.faults (faults p.out.now) h.rest (waiting p) (waiting q) bytes w h.stands);
-    same_out = rw e h.same_out;
-    same_buffer = b ∙ h.same_buffer;
-  };
-}
-
 -- What waited was written, and the bytes behind it.
 pub put_sent : {O : Type 0} (held : O → Option (List ℕ)) (faults : O → ℕ) (p q : Printer O) (bytes : List ℕ) → p.failed ≡ false → q.failed ≡ false → q.out.ghost_name ≡ p.out.ghost_name
     → q.buffer.ghost_name ≡ p.buffer.ghost_name → held q.out.now ≡ grown (held p.out.now) (waiting p ++ bytes) → faults q.out.now ≡ faults p.out.now → q.filled ≡ 0 → Puts (IsPrinter held faults) p q bytes

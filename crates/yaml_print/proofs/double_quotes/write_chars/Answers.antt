@@ -7,7 +7,7 @@ use Rattle.yaml_print.proofs.Putting.{puts_then}
 use Rattle.yaml_print.proofs.double_quotes.write_chars.Goals as goal
 
 pub loop-c-preserved : goal.loop-c-preserved
-loop-c-preserved g c = rw (quoted_chars-next c.loop-c.yielded c.in-Some.c) (puts_then _ _ _ _ _ _ c.loop-c.invariant c.write_char.ensures)
+loop-c-preserved g c = rw (quoted_chars-next c.loop-c.yielded c.in-Some.c) (puts_then c.loop-c.invariant c.write_char.ensures)
 
 pub returns : goal.returns
 returns g c =
