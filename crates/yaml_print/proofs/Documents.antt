@@ -1,5 +1,5 @@
 -- The text of documents, one after another.
-use Rattle.std.proofs.Common.{◌≡◌, ℕ, List, [], ◌∷◌, ◌++◌, codes, refl, ap, ◌∙◌, sym, append_assoc, append-nil}
+use Rattle.std.proofs.Common.{◌≡◌, ℕ, List, [], ◌∷◌, ◌++◌, codes, ap, ◌∙◌, sym, append_assoc, append-nil}
 use Rattle.std.specs.List.{flat_map}
 use Rattle.ytt_base.specs.declared.tree.Tree.{Tree}
 use Rattle.ytt_base.specs.View.{tree_of, trees_of}

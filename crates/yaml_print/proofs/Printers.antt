@@ -1,11 +1,11 @@
 -- What is put into a printer.
-use Rattle.std.proofs.Common.{◌≡◌, ℕ, Bool, true, false, List, [], ◌++◌, length, take, drop, Option, Some, None, Result, Ok, Err, refl, ap, sym, ◌∙◌, append_assoc, append-nil}
+use Rattle.std.proofs.Common.{◌≡◌, ℕ, true, false, List, [], ◌++◌, length, take, drop, Option, Some, None, Ok, Err, refl, ap, sym, ◌∙◌, append_assoc, append-nil}
 use Rattle.std.proofs.Math.Seq.{take-append_seam}
 use Rattle.std.proofs.lemmas.List.{take-append-drop}
 use Rattle.ytt_outside.specs.Counts.{Rose}
-use Rattle.ytt_outside.specs.Sink.{GrowsByFront, SinkCounts, Writes, grown}
+use Rattle.ytt_outside.specs.Sink.{GrowsByFront, grown}
 use Rattle.ytt_outside.specs.declared.sink.SinkFailed.{SinkFailed}
-use Rattle.yaml_print.specs.Printer.{Finished, IsPrinter, Stands, waiting}
+use Rattle.yaml_print.specs.Printer.{Finished, IsPrinter, waiting}
 use Rattle.yaml_print.specs.Puts.{Puts}
 use Rattle.yaml_print.specs.Start.{Start}
 use Rattle.yaml_print.specs.declared.printer.Printer.{Printer}

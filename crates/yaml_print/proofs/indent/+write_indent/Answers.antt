@@ -1,4 +1,4 @@
-use Rattle.std.proofs.Common.{[], ◌∷◌, sym}
+use Rattle.std.proofs.Common.{sym}
 use Rattle.yaml_print.proofs.Indents.{spaces-inside}
 use Rattle.yaml_print.proofs.Putting.{puts_then}
 use Rattle.yaml_print.proofs.indent.+write_indent.Goals as goal

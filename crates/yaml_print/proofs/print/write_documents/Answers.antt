@@ -1,4 +1,3 @@
-use Rattle.ytt_base.specs.View.{tree_of, trees_of}
 use Rattle.yaml_print.proofs.Documents.{Text-first, document_line}
 use Rattle.yaml_print.proofs.Putting.{puts_all, puts_then}
 use Rattle.yaml_print.proofs.print.write_documents.Goals as goal

@@ -1,4 +1,4 @@
-use Rattle.std.proofs.Common.{◌++◌, take}
+use Rattle.std.proofs.Common.{take}
 use Rattle.std.specs.List.{flat_map}
 use Rattle.yaml_print.specs.Puts.{Puts}
 use Rattle.yaml_print.proofs.Documents.{document_line}
