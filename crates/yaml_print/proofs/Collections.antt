@@ -67,3 +67,7 @@ node-list n t ts u us e h = rw (e, h, tree_of-List) refl
 pub node-map : (n : ℕ) (t : Tree) (ps : List (Key × Tree)) (p : Key × Tree) (qs : List (Key × Tree)) → t ≡ held.Map ps → ps ≡ p ∷ qs
     → node_text n (tree_of t) ≡ (key_text (key_of p.0) ++ (58 ∷ pair_text n (tree_of p.1))) ++ map_text (spaces n) n (pairs_of qs)
 node-map n t ps p qs e h = rw (e, h, tree_of-Map) (sym (append_assoc (key_text (key_of p.0)) (58 ∷ pair_text n (tree_of p.1)) (map_text (spaces n) n (pairs_of qs))))
+
+-- a scalar
+pub node-scalar : (n : ℕ) (t : Tree) → ((ts : List Tree) → t ≡ held.List ts → ⊥) → ((ps : List (Key × Tree)) → t ≡ held.Map ps → ⊥) → node_text n (tree_of t) ≡ line_text n (tree_of t)
+node-scalar n t h k = search (rules, the_lemmas)

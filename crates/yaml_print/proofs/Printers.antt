@@ -17,6 +17,20 @@ grown-grown (Some held) s t = ap Some (append_assoc held s t)
 behind-both : (taken rest text bytes : List ℕ) → taken ++ rest ≡ text → taken ++ (rest ++ bytes) ≡ text ++ bytes
 behind-both taken rest text bytes e = sym (append_assoc taken rest bytes) ∙ ap (λ t. t ++ bytes) e
 
+-- nothing is put where something has failed
+pub put_failed : {O : Type 0} (held : O → Option (List ℕ)) (faults : O → ℕ) (p : Printer O) (bytes : List ℕ) → p.failed ≡ true → Puts (IsPrinter held faults) p p bytes
+put_failed held faults p bytes e = record {
+  behind = λ start text h. record {
+    taken = h.taken;
+    rest = h.rest ++ bytes;
+    parts = behind-both h.taken h.rest text bytes h.parts;
+    told = h.told;
+    stands = rw e (rw e at h.stands);
+    same_out = h.same_out;
+    same_buffer = h.same_buffer;
+  };
+}
+
 -- What waited was written, and the bytes behind it.
 pub put_sent : {O : Type 0} (held : O → Option (List ℕ)) (faults : O → ℕ) (p q : Printer O) (bytes : List ℕ) → p.failed ≡ false → q.failed ≡ false → q.out.ghost_name ≡ p.out.ghost_name
     → q.buffer.ghost_name ≡ p.buffer.ghost_name → held q.out.now ≡ grown (held p.out.now) (waiting p ++ bytes) → faults q.out.now ≡ faults p.out.now → q.filled ≡ 0 → Puts (IsPrinter held faults) p q bytes

@@ -1,7 +1,7 @@
--- Where a text begins that is put piece behind piece.
+-- How a place stood before anything was put there.
 use Rattle.std.specs.Prelude.{ℕ, List, Option}
 
--- What a sink told that it holds, how often it had failed, and which loans of the sink and of a buffer were made, before anything was put.
+-- What its sink told that it holds, how often that had failed, and which loans of the sink and of the buffer the place has.
 pub record Start : Type 0 where
   pub held : Option (List ℕ)
   pub faults : ℕ

@@ -13,7 +13,6 @@ use ytt_base::tree::{Key, Tree};
 
 /// What stands behind a key and its colon, in a map at this indent.
 #[cycle(print)]
-#[tactic(auto, using(crate::proofs::Putting::putting))]
 fn write_behind_key<W: Put>(tree: &Tree, indent: &Indent<'_>, out: &mut W)
     ensures { Puts W.has out.old out.new (pair_text (width indent.now) (tree_of tree.now)) }
 {
@@ -44,7 +43,6 @@ fn write_behind_key<W: Put>(tree: &Tree, indent: &Indent<'_>, out: &mut W)
 /// What stands behind a dash and its space, or in a document: a list or map there has this
 /// indent, and its first line begins here.
 #[cycle(print)]
-#[tactic(auto, using(crate::proofs::Putting::putting))]
 pub fn write_node<W: Put>(tree: &Tree, indent: &Indent<'_>, out: &mut W)
     ensures { Puts W.has out.old out.new (node_text (width indent.now) (tree_of tree.now)) }
 {
@@ -69,7 +67,6 @@ pub fn write_node<W: Put>(tree: &Tree, indent: &Indent<'_>, out: &mut W)
 
 /// A dash, its space and what stands behind.
 #[cycle(print)]
-#[tactic(auto, using(crate::proofs::Putting::putting))]
 fn write_element<W: Put>(tree: &Tree, indent: &Indent<'_>, out: &mut W)
     ensures { Puts W.has out.old out.new (codes "- " ++ node_text (width indent.now + 2) (tree_of tree.now)) }
 {
@@ -79,7 +76,6 @@ fn write_element<W: Put>(tree: &Tree, indent: &Indent<'_>, out: &mut W)
 
 /// A key, its colon and what stands behind.
 #[cycle(print)]
-#[tactic(auto, using(crate::proofs::Putting::putting))]
 fn write_pair<W: Put>(key: &Key, tree: &Tree, indent: &Indent<'_>, out: &mut W)
     ensures { Puts W.has out.old out.new (key_text (key_of key.now) ++ (colon ∷ pair_text (width indent.now) (tree_of tree.now))) }
 {

@@ -8,7 +8,7 @@ ghost use Rattle.yaml_print.specs.Start.{Start};
 /// It keeps its first failure and drops what is put afterwards: whoever made it asks at the end, and
 /// the writers between go on as if nothing had failed.
 pub trait Put {
-    /// What began so, and was given this text in all.
+    /// Whether what began so was given this text in all.
     ghost has: { Start → Self → List ℕ → Type 0 };
 
     /// Puts the piece behind what was put.

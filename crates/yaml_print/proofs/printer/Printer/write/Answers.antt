@@ -1,6 +1,9 @@
 use Rattle.std.proofs.Common.{refl}
-use Rattle.yaml_print.proofs.Printers.{put_cut, put_sent}
+use Rattle.yaml_print.proofs.Printers.{put_cut, put_failed, put_sent}
 use Rattle.yaml_print.proofs.printer.Printer.write.Goals as goal
+
+pub returns-then-self : goal.returns-then-self
+returns-then-self g c = put_failed _ _ c.args.self.now c.args.bytes.now c.if-self.true
 
 pub returns-in-Ok : goal.returns-in-Ok
 returns-in-Ok g c =
