@@ -2,14 +2,15 @@
 #![tactic(auto)]
 
 mod blocks;
+mod double_quotes;
 mod indent;
 mod length;
 mod literal;
-mod pending;
+mod literal_fit;
 mod print;
-mod quoted;
+mod printer;
+mod put;
 mod scalar;
-mod style;
 mod text;
 
 pub use length::text_length;
