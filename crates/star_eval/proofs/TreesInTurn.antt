@@ -11,7 +11,8 @@ use Rattle.template_spec.specs.Meaning.{documents, unless_null}
 use Rattle.template_spec.specs.Take.{body_tree, children_pairs, children_trees}
 use Rattle.star_eval.specs.declared.built.BuiltItem.{BuiltItem}
 use Rattle.star_eval.specs.Following.{and_pairs, and_trees, with_document}
-use Rattle.star_eval.specs.View.{body_of, built_notes_of, children_of, in_scalar_key}
+use Rattle.star_eval.specs.Positions.{in_scalar_key}
+use Rattle.star_eval.specs.View.{body_of, built_notes_of, children_of}
 use Rattle.star_eval.proofs.ValuesInTurn.{dropped}
 use Rattle.star_eval.proofs.Views.{child_of-item}
 

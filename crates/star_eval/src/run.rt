@@ -75,7 +75,7 @@ fn documents_in(alloc: Global, mut stack: Stack) -> Result<Trees, Memory>
 {
     match stack.pop() {
         None => Ok(Items::new(alloc)),
-        Some(node) => documents_of(alloc, &node.children),
+        Some(node) => documents_of(alloc, &node.children.items),
     }
 }
 

@@ -117,7 +117,7 @@ fn step_at(
             put_back(stack, noted(alloc, file, node, *place, name, args, steps))
         }
         NodeOp::Key(_, key) => put_back(stack, keyed(node, key)),
-        NodeOp::Value(_, tree) => put_back(stack, valued(node, tree)),
+        NodeOp::Value(_, value) => put_back(stack, valued(node, value)),
         NodeOp::ValueFrom(_, expr) => value_from(alloc, file, stack, node, expr, steps),
         NodeOp::End(_) => end(alloc, stack, node),
     }

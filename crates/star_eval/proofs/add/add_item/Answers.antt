@@ -2,7 +2,8 @@ use Rattle.std.proofs.Common.{slice_set, ap, sym, ◌∙◌}
 use Rattle.star_spec.specs.Outcomes.{done}
 use Rattle.template_spec.specs.Adding.{in_place_if}
 use Rattle.star_eval.specs.Meets.{with_steps}
-use Rattle.star_eval.specs.View.{children_of, in_scalar_key}
+use Rattle.star_eval.specs.Positions.{in_scalar_key}
+use Rattle.star_eval.specs.View.{children_of}
 use Rattle.star_eval.proofs.Placing.{add_at, add_last}
 use Rattle.star_eval.proofs.add.add_item.Goals as goal
 

@@ -7,8 +7,8 @@ use Rattle.std.specs.Bool.{Decides}
 use Rattle.std.proofs.lemmas.Bool.Decides.{Decides-like, Decides-eqb, Decides-int_eq, same_from_decides}
 use Rattle.std.proofs.lemmas.Slice.Eq.{bytes_eq-Decides}
 use Rattle.ytt_base.specs.Trees.{Scalar, null, boolean, integer, string, same_key, same_integer}
-use Rattle.yaml_trees.specs.declared.seen.Seen.{Seen}
-use Rattle.yaml_trees.specs.Seen.{is_seen}
+use Rattle.yaml_keys.specs.declared.seen.Seen.{Seen}
+use Rattle.yaml_keys.specs.Seen.{is_seen}
 
 same_text : (a b : List ℕ) → bytes_eq a b ≡ bytes_eq b a
 same_text a b = same_from_decides (bytes_eq a b) (bytes_eq b a) (bytes_eq-Decides a b) (Decides-like (bytes_eq b a) sym sym (bytes_eq-Decides b a))

@@ -3,7 +3,7 @@ use Rattle.std.specs.Prelude.{Bool, if◌then◌else◌}
 use Rattle.std.specs.HashSet.{contains, contains_text}
 use Rattle.std.specs.Ordering.{int_eq}
 use Rattle.ytt_base.specs.Trees.{Scalar, null, boolean, integer, string}
-use Rattle.yaml_trees.specs.declared.seen.Seen.{Seen}
+use Rattle.yaml_keys.specs.declared.seen.Seen.{Seen}
 
 -- the key is in the set
 abbrev pub is_seen : Scalar → Seen → Bool

@@ -1,4 +1,4 @@
-// The keys that a map has up to one of its pairs.
+// The keys of a map, as a set.
 
 use std::alloc::Global;
 use std::collections::HashSet;
@@ -20,7 +20,7 @@ impl Seen {
     ghost use Rattle.std.specs.Prelude.{◌≡◌, ◌||◌, not, false, IfOk, OnOk};
     ghost use Rattle.ytt_base.specs.Trees.{Scalar, same_key};
     ghost use Rattle.ytt_base.specs.View.{key_of};
-    ghost use Rattle.yaml_trees.specs.Seen.{is_seen};
+    ghost use Rattle.yaml_keys.specs.Seen.{is_seen};
 
     /// No key. It takes no memory.
     pub fn new(alloc: Global) -> Seen

@@ -2,8 +2,8 @@ use Rattle.std.proofs.Common.{◌∙◌, true, rules, ◌≡◌}
 use Rattle.std.proofs.lemmas.Int.{to_z-of_z}
 use Rattle.std.proofs.lemmas.Map.Text.{hash_set_updates_text}
 use Rattle.std.specs.Prelude.{string_bytes}
-use Rattle.yaml_trees.proofs.Sets.{integer_added, text_added}
-use Rattle.yaml_trees.proofs.seen.Seen.add.Goals as goal
+use Rattle.yaml_keys.proofs.Sets.{integer_added, text_added}
+use Rattle.yaml_keys.proofs.seen.Seen.add.Goals as goal
 
 pub returns-in_ok-insert-in-Int-clause-seen : goal.returns-in_ok-insert-in-Int-clause-seen
 returns-in_ok-insert-in-Int-clause-seen c = rw c.in-Int.is (integer_added c.args.self.now c.in-Int.n c.insert.new.self (search (rules, to_z-of_z)))
