@@ -1,0 +1,4 @@
+pub mod Chains
+pub mod InTurn
+pub mod Lists
+pub mod Yielded
