@@ -1,20 +1,13 @@
 -- The keys of a collection, and the set that has them.
 use Rattle.std.proofs.Common.{◌≡◌, ℕ, zero, suc, Bool, true, false, ◌||◌, List, [], ◌∷◌, ◌++◌, slice_set, Option, Some, None, refl, sym, ap, ◌∙◌}
-use Rattle.ytt_base.specs.Trees.{Scalar, same_key}
+use Rattle.std.proofs.lemmas.Bool.{or_from, or_parts}
+use Rattle.ytt_base.specs.Trees.{Scalar}
+use Rattle.ytt_laws.proofs.Keys.{same_key-sym}
 use Rattle.yaml_keys.specs.declared.seen.Seen.{Seen}
 use Rattle.yaml_keys.specs.Seen.{is_seen}
 use Rattle.template_spec.specs.Adding.{keys_equal}
 use Rattle.star_eval.specs.declared.built.BuiltItem.{BuiltItem}
 use Rattle.star_eval.specs.Positions.{AreKnown, here_or, in_scalar_key, is_known, position_of, stands}
-
--- ---- what is false in parts
-
-neither : (a b : Bool) → a || b ≡ false → (a ≡ false) × (b ≡ false)
-neither true b e = cc
-neither false b e = (refl, e)
-
-both_false : (a b : Bool) → a ≡ false → b ≡ false → a || b ≡ false
-both_false a b e f = λ i. e i || f i
 
 -- ---- items of which none has a key
 
@@ -22,51 +15,26 @@ both_false a b e f = λ i. e i || f i
 stands_last : (x : Scalar) (is : List BuiltItem) (i : BuiltItem) → stands x (i ∷ is) ≡ false → stands x (is ++ i ∷ []) ≡ false
 stands_last x [] i h = h
 stands_last x (j ∷ is) i h =
-    let p = neither (keys_equal (in_scalar_key i.key) (Some x)) (stands x (j ∷ is)) h in
-    let q = neither (keys_equal (in_scalar_key j.key) (Some x)) (stands x is) p.1 in
-    both_false _ _ q.0 (stands_last x is i (both_false _ _ p.0 q.1))
+    let p = or_parts (keys_equal (in_scalar_key i.key) (Some x)) (stands x (j ∷ is)) h in
+    let q = or_parts (keys_equal (in_scalar_key j.key) (Some x)) (stands x is) p.1 in
+    or_from _ _ q.0 (stands_last x is i (or_from _ _ p.0 q.1))
 
 -- so is one in the place of another
 stands_set : (x : Scalar) (is : List BuiltItem) (n : ℕ) (i : BuiltItem) → stands x (i ∷ is) ≡ false → stands x (slice_set is n i) ≡ false
 stands_set x [] n i h = refl
 stands_set x (j ∷ is) zero i h =
-    let p = neither (keys_equal (in_scalar_key i.key) (Some x)) (stands x (j ∷ is)) h in
-    both_false _ _ p.0 (neither (keys_equal (in_scalar_key j.key) (Some x)) (stands x is) p.1).1
+    let p = or_parts (keys_equal (in_scalar_key i.key) (Some x)) (stands x (j ∷ is)) h in
+    or_from _ _ p.0 (or_parts (keys_equal (in_scalar_key j.key) (Some x)) (stands x is) p.1).1
 stands_set x (j ∷ is) (suc n) i h =
-    let p = neither (keys_equal (in_scalar_key i.key) (Some x)) (stands x (j ∷ is)) h in
-    let q = neither (keys_equal (in_scalar_key j.key) (Some x)) (stands x is) p.1 in
-    both_false _ _ q.0 (stands_set x is n i (both_false _ _ p.0 q.1))
+    let p = or_parts (keys_equal (in_scalar_key i.key) (Some x)) (stands x (j ∷ is)) h in
+    let q = or_parts (keys_equal (in_scalar_key j.key) (Some x)) (stands x is) p.1 in
+    or_from _ _ q.0 (stands_set x is n i (or_from _ _ p.0 q.1))
 
 pub known_last : (keys : Seen) (is : List BuiltItem) (i : BuiltItem) → AreKnown keys (i ∷ is) → AreKnown keys (is ++ i ∷ [])
 known_last keys is i h x unseen = stands_last x is i (h x unseen)
 
 pub known_set : (keys : Seen) (is : List BuiltItem) (n : ℕ) (i : BuiltItem) → AreKnown keys (i ∷ is) → AreKnown keys (slice_set is n i)
 known_set keys is n i h x unseen = stands_set x is n i (h x unseen)
-
--- FROM LAWS
-same_key-sym : (a b : Scalar) → same_key a b ≡ same_key b a
-same_key-sym null null = refl
-same_key-sym (boolean true) (boolean true) = refl
-same_key-sym (boolean true) (boolean false) = refl
-same_key-sym (boolean false) (boolean true) = refl
-same_key-sym (boolean false) (boolean false) = refl
-same_key-sym (integer (pos m)) (integer (pos n)) = eqb-sym m n
-same_key-sym (integer (negsuc m)) (integer (negsuc n)) = eqb-sym m n
-same_key-sym (integer (pos m)) (integer (negsuc n)) = refl
-same_key-sym (integer (negsuc m)) (integer (pos n)) = refl
-same_key-sym (string a) (string b) = bytes_eq-sym a b
-same_key-sym null (boolean b) = refl
-same_key-sym null (integer b) = refl
-same_key-sym null (string b) = refl
-same_key-sym (boolean b) null = refl
-same_key-sym (boolean a) (integer b) = refl
-same_key-sym (boolean a) (string b) = refl
-same_key-sym (integer b) null = refl
-same_key-sym (integer a) (boolean b) = refl
-same_key-sym (integer a) (string b) = refl
-same_key-sym (string b) null = refl
-same_key-sym (string a) (boolean b) = refl
-same_key-sym (string a) (integer b) = refl
 
 equal_turned : (x : Scalar) (k : Option Scalar) → keys_equal k (Some x) ≡ keys_equal (Some x) k
 equal_turned x None = refl
@@ -76,8 +44,8 @@ equal_turned x (Some y) = same_key-sym y x
 pub known_with : (before after : Seen) (is : List BuiltItem) (i : BuiltItem) → AreKnown before is →
     ((x : Scalar) → is_seen x after ≡ (keys_equal (Some x) (in_scalar_key i.key) || is_seen x before)) → AreKnown after (i ∷ is)
 known_with before after is i h seen x unseen =
-    let p = neither (keys_equal (Some x) (in_scalar_key i.key)) (is_seen x before) (sym (seen x) ∙ unseen) in
-    both_false _ _ (equal_turned x (in_scalar_key i.key) ∙ p.0) (h x p.1)
+    let p = or_parts (keys_equal (Some x) (in_scalar_key i.key)) (is_seen x before) (sym (seen x) ∙ unseen) in
+    or_from _ _ (equal_turned x (in_scalar_key i.key) ∙ p.0) (h x p.1)
 
 -- ---- a new key
 
@@ -95,7 +63,7 @@ without_key (i ∷ is) = nowhere _ _ (no_key_stands (in_scalar_key i.key)) (with
 with_key : (x : Scalar) (is : List BuiltItem) → stands x is ≡ false → position_of (Some x) is ≡ None
 with_key x [] h = refl
 with_key x (i ∷ is) h =
-    let p = neither (keys_equal (in_scalar_key i.key) (Some x)) (stands x is) h in
+    let p = or_parts (keys_equal (in_scalar_key i.key) (Some x)) (stands x is) h in
     nowhere _ _ p.0 (with_key x is p.1)
 
 -- no item has a key that isn't in the set

@@ -5,13 +5,10 @@ use Rattle.std.specs.Ordering.{int_eq}
 use Rattle.std.specs.Prelude.{bytes_eq}
 use Rattle.std.specs.Bool.{Decides}
 use Rattle.std.proofs.lemmas.Bool.Decides.{Decides-like, Decides-eqb, Decides-int_eq, same_from_decides}
-use Rattle.std.proofs.lemmas.Slice.Eq.{bytes_eq-Decides}
 use Rattle.ytt_base.specs.Trees.{Scalar, null, boolean, integer, string, same_key, same_integer}
+use Rattle.ytt_laws.proofs.Lists.{bytes_eq-sym}
 use Rattle.yaml_keys.specs.declared.seen.Seen.{Seen}
 use Rattle.yaml_keys.specs.Seen.{is_seen}
-
-same_text : (a b : List ℕ) → bytes_eq a b ≡ bytes_eq b a
-same_text a b = same_from_decides (bytes_eq a b) (bytes_eq b a) (bytes_eq-Decides a b) (Decides-like (bytes_eq b a) sym sym (bytes_eq-Decides b a))
 
 abbrev magnitude : ℤ → ℕ
 magnitude (pos n) = n
@@ -36,7 +33,7 @@ pub text_added : (s : Seen) (t : List ℕ) (n : HashSet (String Global) _) → (
 text_added s t n h null = refl
 text_added s t n h (boolean b) = refl
 text_added s t n h (integer z) = refl
-text_added s t n h (string u) = h u ∙ either (bytes_eq t u) (bytes_eq u t) (contains_text s.texts u) (same_text t u)
+text_added s t n h (string u) = h u ∙ either (bytes_eq t u) (bytes_eq u t) (contains_text s.texts u) (bytes_eq-sym t u)
 
 pub integer_added : (s : Seen) (z : ℤ) (n : HashSet ℤ _) → ((y : ℤ) → contains int_eq n y ≡ cond (int_eq z y) true (contains int_eq s.integers y))
     → (other : Scalar) → is_seen other (record s { integers = n }) ≡ (same_key other (integer z) || is_seen other s)
