@@ -1,5 +1,5 @@
 -- The keys of a collection, and the set that has them.
-use Rattle.std.proofs.Common.{◌≡◌, ℕ, zero, suc, Bool, true, false, ◌||◌, List, [], ◌∷◌, ◌++◌, slice_set, Option, Some, None, refl, sym, ap, ◌∙◌}
+use Rattle.std.proofs.Common.{◌≡◌, ℕ, zero, suc, Bool, false, ◌||◌, List, [], ◌∷◌, ◌++◌, slice_set, Option, Some, None, refl, sym, ◌∙◌}
 use Rattle.std.proofs.lemmas.Bool.{or_from, or_parts}
 use Rattle.ytt_base.specs.Trees.{Scalar}
 use Rattle.ytt_laws.proofs.Keys.{same_key-sym}

@@ -3,7 +3,7 @@ use Rattle.std.proofs.Common.{◌≡◌, ℕ, Result, Err, nat_le, Bool, true, f
 use Rattle.ytt_base.specs.declared.fault.Place.{Place}
 use Rattle.ytt_base.specs.declared.fault.Stop.{Stop}
 use Rattle.ytt_base.specs.declared.fault.Stop.TheVariants as stop
-use Rattle.star_spec.specs.Outcomes.{State, Ending, done, bad, then_do, Computation, give, paid_if, paid_by}
+use Rattle.star_spec.specs.Outcomes.{State, Ending, done, then_do, Computation, give, paid_if, paid_by}
 use Rattle.star_eval.specs.Meets.{with_steps, Meets}
 
 -- a refusal is the end of all that would follow

@@ -10,7 +10,7 @@ use Rattle.template_spec.specs.Meaning.{documents, unless_null}
 use Rattle.template_spec.specs.Take.{body_tree, children_pairs, children_trees}
 use Rattle.star_eval.specs.declared.built.BuiltItem.{BuiltItem}
 use Rattle.star_eval.specs.Positions.{in_scalar_key}
-use Rattle.star_eval.specs.View.{body_of, built_notes_of, child_of, children_of}
+use Rattle.star_eval.specs.View.{body_of, built_notes_of, children_of}
 use Rattle.star_eval.proofs.Views.{child_of-item}
 
 abbrev pub trees_in : List BuiltItem → Trees
