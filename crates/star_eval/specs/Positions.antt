@@ -44,4 +44,4 @@ is_known None keys = false
 is_known (Some x) keys = is_seen x keys
 
 abbrev pub fault_with : FaultKind → Place → (detail : List ℕ) → Fault
-fault_with kind place detail = record { kind = kind; place = place; detail = detail }
+fault_with kind place detail = record { kind = kind; place = Some place; detail = detail }
