@@ -3,8 +3,8 @@ use Rattle.std.proofs.Common.{◌≡◌, ℕ, ◌+◌, ◌-◌, ◌≤◌, ◌<�
 use Rattle.ytt_base.specs.declared.fault.Stop.{Stop}
 use Rattle.ytt_base.specs.Outcomes.{Gives, Outcome, ◌>>=◌}
 use Rattle.ytt_base.specs.Trees.{max_depth}
-use Rattle.yaml_laws.specs.Machine.{Hole, wanting, filled, begin_content}
-use Rattle.yaml_laws.proofs.Depth.{grows_row}
+use Rattle.yaml_pass.specs.Machine.{Hole, wanting, filled, begin_content}
+use Rattle.yaml_pass.proofs.Depth.{grows_row}
 use Rattle.yaml_spec.specs.Bytes.{is_empty}
 use Rattle.yaml_spec.specs.Entries.{row_comment}
 use Rattle.yaml_spec.specs.Noted.{Comment}

@@ -4,7 +4,7 @@ use Rattle.ytt_base.specs.declared.fault.FaultKind.{FaultKind}
 use Rattle.ytt_base.specs.declared.fault.FaultKind.TheVariants as kind
 use Rattle.ytt_base.specs.Outcomes.{Outcome, ◌>>=◌}
 use Rattle.ytt_base.specs.Trees.{Scalar}
-use Rattle.yaml_laws.specs.Machine.{Begun, Frame, Hole, Opened, begin_at, begin_content, begin_entry, opens}
+use Rattle.yaml_pass.specs.Machine.{Begun, Frame, Hole, Opened, begin_at, begin_content, begin_entry, opens}
 use Rattle.yaml_spec.specs.Entries.{behind_head, is_dash_mark, misplaced, note_of, stray}
 use Rattle.yaml_spec.specs.Noted.{Comment, Content, Note}
 use Rattle.yaml_spec.specs.Plain.{typed}

@@ -6,7 +6,7 @@ use Rattle.ytt_base.specs.declared.fault.Stop.{Stop}
 use Rattle.ytt_base.specs.declared.line.Line as held_line
 use Rattle.ytt_base.specs.Outcomes.{Outcome}
 use Rattle.ytt_base.specs.Trees.{Scalar}
-use Rattle.yaml_laws.specs.Machine.{Frame, Hole, Passed, own_comment, pass}
+use Rattle.yaml_pass.specs.Machine.{Frame, Hole, Passed, own_comment, pass}
 use Rattle.yaml_noted.specs.View.{comments_of}
 use Rattle.yaml_rows.specs.declared.row.Row as held
 use Rattle.yaml_rows.specs.View.{heads_of, row_of}

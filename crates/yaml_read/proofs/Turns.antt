@@ -5,7 +5,7 @@ use Rattle.std.proofs.lemmas.List.{map-append, take-map, take_more}
 use Rattle.std.proofs.lemmas.Option.{get_or_from_slice_get}
 use Rattle.ytt_base.specs.declared.fault.FaultKind.TheVariants as kind
 use Rattle.ytt_base.specs.Outcomes.{Outcome, ◌>>=◌}
-use Rattle.yaml_laws.specs.Machine.{Begun, Frame, Hole, begin_at, finish, opens, step}
+use Rattle.yaml_pass.specs.Machine.{Begun, Frame, Hole, begin_at, finish, opens, step}
 use Rattle.yaml_spec.specs.Entries.{Found, misplaced}
 use Rattle.yaml_spec.specs.Noted.{Comment, Content, Note}
 use Rattle.yaml_spec.specs.Refusals.{refused}

@@ -3,7 +3,7 @@ use Rattle.std.specs.Prelude.{ℕ, ◌+◌, ◌<◌, ◌≤◌, ◌^◌, Bool, t
 use Rattle.ytt_base.specs.declared.fault.Place.{Place}
 use Rattle.ytt_base.specs.Outcomes.{Outcome, ◌>>=◌}
 use Rattle.ytt_base.specs.Trees.{Scalar}
-use Rattle.yaml_laws.specs.Machine.{Begun, Frame, Hole, Opened, begin_content, opens}
+use Rattle.yaml_pass.specs.Machine.{Begun, Frame, Hole, Opened, begin_content, opens}
 use Rattle.yaml_spec.specs.Entries.{is_dash_mark, note_of}
 use Rattle.yaml_spec.specs.Noted.{Comment}
 use Rattle.yaml_spec.specs.Plain.{typed}

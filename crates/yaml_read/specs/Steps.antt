@@ -3,7 +3,7 @@ use Rattle.std.specs.Prelude.{◌≡◌, ℕ, suc, Bool, true, false, not, ◌&&
 use Rattle.ytt_base.specs.declared.fault.FaultKind.{FaultKind}
 use Rattle.ytt_base.specs.declared.fault.FaultKind.TheVariants as kind
 use Rattle.ytt_base.specs.Outcomes.{Outcome, ◌>>=◌}
-use Rattle.yaml_laws.specs.Machine.{Frame, Hole, begin_at, finish, opens, step}
+use Rattle.yaml_pass.specs.Machine.{Frame, Hole, begin_at, finish, opens, step}
 use Rattle.yaml_spec.specs.Entries.{begins_entry, is_dash_mark, stray}
 use Rattle.yaml_spec.specs.Noted.{Content, Note}
 use Rattle.yaml_spec.specs.Rows.{Head, Row}

@@ -1,7 +1,7 @@
 // Documents, one after another.
 ghost use Rattle.std.specs.Prelude.{◌≡◌, ◌≤◌, ◌^◌, [], List, Ok, option_map, IfOk, OnOk, true, false};
 ghost use Rattle.ytt_base.specs.Outcomes.{Gives};
-ghost use Rattle.yaml_laws.specs.Machine.{wanting};
+ghost use Rattle.yaml_pass.specs.Machine.{wanting};
 ghost use Rattle.yaml_noted.specs.View.{comment_of, comments_of, content_of, documents_of, items_of, noted_of};
 ghost use Rattle.yaml_rows.specs.View.{row_of};
 ghost use Rattle.yaml_spec.specs.Held.{plain_line, plain_lines};

@@ -3,7 +3,7 @@ ghost use Rattle.std.specs.Prelude.{◌≡◌, ◌<◌, ◌≤◌, [], ◌∷◌
 ghost use Rattle.ytt_base.specs.declared.fault.FaultKind.TheVariants as kind;
 ghost use Rattle.ytt_base.specs.declared.fault.Stop.TheVariants as stop;
 ghost use Rattle.ytt_base.specs.Outcomes.{Gives, fault_at};
-ghost use Rattle.yaml_laws.specs.Machine.{begin_entry, opens};
+ghost use Rattle.yaml_pass.specs.Machine.{begin_entry, opens};
 ghost use Rattle.yaml_noted.specs.View.{comments_of};
 ghost use Rattle.yaml_read.specs.Heads.{FitsRow, first_dash, first_tab, goes_on, opens_in, row_from};
 ghost use Rattle.yaml_read.specs.View.{begun_of, extent_of, frame_of, frames_of, note_of, opened_of};

@@ -178,6 +178,6 @@ plain_trees ds = distinct ds >>= (λ es. Ok (drop_null (bare_trees es.items)))
 unfoldable pub read_trees : ℕ → List ℕ → Outcome Trees
 read_trees file bytes = Read file bytes >>= (λ ds. plain_trees ds)
 
--- the text reads as these trees and no others, whichever file it is
+-- the text reads as these trees, whichever file it is
 abbrev pub Reads : List ℕ → Trees → Type 0
 Reads bytes ts = (file : ℕ) → read_trees file bytes ≡ Ok ts

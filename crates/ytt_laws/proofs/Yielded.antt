@@ -1,5 +1,5 @@
 -- What holds of the value of an outcome, if there is one.
-use Rattle.std.proofs.Common.{◌≡◌, Bool, true, false, Option, Some, None, Result, Ok, Err, refl, ap}
+use Rattle.std.proofs.Common.{◌≡◌, Bool, true, false, Option, Some, None, Result, Ok, Err, refl, ap, if◌then◌else◌}
 use Rattle.std.specs.Result.{IfOk}
 use Rattle.ytt_base.specs.Outcomes.{Outcome, ◌>>=◌}
 
@@ -20,6 +20,9 @@ pub yielded_where : {A E : Type 0} (P : A → Type 0) (o : Result A E) → ((x :
 yielded_where P (Ok x) h = h x refl
 yielded_where P (Err e) h = tt
 
+pub yielded_itself : {A E : Type 0} (o : Result A E) → IfOk o (λ x. o ≡ Ok x)
+yielded_itself o = yielded_where (λ x. o ≡ Ok x) o (λ x e. e)
+
 -- behind a part of whose value Q holds
 pub yielded_then : {A B : Type 0} (Q : A → Type 0) (P : B → Type 0) (o : Outcome A) (f : A → Outcome B) → IfOk o Q → ((x : A) → Q x → IfOk (f x) P) → IfOk (o >>= f) P
 yielded_then Q P (Ok x) f h k = k x h
@@ -30,8 +33,15 @@ pub yielded_behind : {A B : Type 0} (P : B → Type 0) (o : Outcome A) (f : A �
 yielded_behind P (Ok x) f k = k x
 yielded_behind P (Err e) f k = tt
 
--- by a test
-pub yielded_if : {A E : Type 0} (P : A → Type 0) (b : Bool) (o p : Result A E) → (b ≡ true → IfOk o P) → (b ≡ false → IfOk p P) → IfOk (elim b as (λ _. Result A E) [ true ↦ o | false ↦ p ]) P
+-- by a test: with what it says, without, and where it is written `if`
+pub yielded_test : {A E : Type 0} (P : A → Type 0) (b : Bool) (o p : Result A E) → (b ≡ true → IfOk o P) → (b ≡ false → IfOk p P) → IfOk (elim b as (λ _. Result A E) [ true ↦ o | false ↦ p ]) P
+yielded_test P true o p h k = h refl
+yielded_test P false o p h k = k refl
+
+pub yielded_either : {A E : Type 0} (P : A → Type 0) (b : Bool) (o p : Result A E) → IfOk o P → IfOk p P → IfOk (elim b as (λ _. Result A E) [ true ↦ o | false ↦ p ]) P
+yielded_either P b o p h k = yielded_test P b o p (λ _. h) (λ _. k)
+
+pub yielded_if : {A E : Type 0} (P : A → Type 0) (b : Bool) (o p : Result A E) → (b ≡ true → IfOk o P) → (b ≡ false → IfOk p P) → IfOk (if b then o else p) P
 yielded_if P true o p h k = h refl
 yielded_if P false o p h k = k refl
 

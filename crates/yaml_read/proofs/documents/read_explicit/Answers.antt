@@ -1,7 +1,7 @@
 use Rattle.std.proofs.Common.{List, Some, Ok, Err, ap, sym, ◌∙◌, [], false}
 use Rattle.std.proofs.lemmas.Result.{err_from_is_err_and}
 use Rattle.ytt_base.specs.Outcomes.{Outcome, ◌>>=◌}
-use Rattle.yaml_laws.specs.Machine.{pass, wanting}
+use Rattle.yaml_pass.specs.Machine.{pass, wanting}
 use Rattle.yaml_noted.specs.View.{comments_of, content_of}
 use Rattle.yaml_noted.specs.declared.noted.RawComment.{RawComment}
 use Rattle.yaml_spec.specs.Entries.{row_comment}
