@@ -23,7 +23,8 @@ use Rattle.yaml_held.proofs.TextParts.{skip_utf8, utf8_marker}
 use Rattle.yaml_held.proofs.GoodParts.{AreGoodLines}
 use Rattle.yaml_held.proofs.Held.{Held, AreHeld}
 use Rattle.yaml_held.proofs.HeldRows.{IsGoodRow, AreGoodHeads, AreGoodRows, good_rows, GoodFound, good_content, good_doc}
-use Rattle.yaml_back.proofs.DistinctBack.{AllNew, same_key-sym}
+use Rattle.yaml_back.proofs.DistinctBack.{AllNew}
+use Rattle.ytt_laws.proofs.Keys.{same_key-sym}
 
 -- ---- lines
 

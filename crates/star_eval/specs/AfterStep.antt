@@ -15,9 +15,9 @@ place_in (name p x) = p
 place_in (unary p o a) = p
 place_in (binary p o a b) = p
 
-abbrev pub acts : {H : Type 0} → Call H → Expr → Env → Computation H Value
-acts call (int p z) env = give (int_value z)
-acts call (text p t) env = give (text_value t)
-acts call (name p x) env = read_name p x (box_of x env)
-acts call (unary p o a) env = eval call a env >>= unary_row p o
-acts call (binary p o a b) env = eval call a env >>= λ x. eval call b env >>= λ y. binary_row p o x y
+abbrev pub after_step : {H : Type 0} → Call H → Expr → Env → Computation H Value
+after_step call (int p z) env = give (int_value z)
+after_step call (text p t) env = give (text_value t)
+after_step call (name p x) env = read_name p x (box_of x env)
+after_step call (unary p o a) env = eval call a env >>= unary_row p o
+after_step call (binary p o a b) env = eval call a env >>= λ x. eval call b env >>= λ y. binary_row p o x y
