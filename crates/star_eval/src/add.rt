@@ -15,7 +15,7 @@ use crate::list::push;
 use crate::members::Members;
 use std::alloc::Global;
 use yaml_keys::Seen;
-use yaml_scalar::key_text;
+use yaml_styles::key_text;
 use ytt_base::fault::{Fault, FaultKind, Place, Stop};
 use ytt_base::text::{Memory, Text};
 use ytt_base::tree::Key;

@@ -1,5 +1,6 @@
 -- What is printed is UTF-8 of printable characters, without a break.
 use Rattle.std.proofs.Common.{◌≡◌, ℕ, zero, suc, ◌+◌, ◌/◌, ◌%◌, ◌<◌, ◌≤◌, pos, negsuc, Bool, true, false, not, ◌&&◌, ◌||◌, ◌==◌, List, [], ◌∷◌, ◌++◌, refl, sym, ◌∙◌, ap, subst, arith, true≢false, if◌then◌else◌, ◌⊎◌, inl, inr}
+use Rattle.std.specs.List.{list_all}
 use Rattle.std.proofs.lemmas.List.{append-nil}
 use Rattle.std.proofs.lemmas.Bool.{cond_both, ne_eqb, eqb-true, eqb-false, leb-true, le-leb, ltb-true, ltb-false, or_parts, or_right, and_cases, cases_lt, lt-leb, leb-false, and_parts}
 use Rattle.std.proofs.lemmas.Bool.Decides.{nat_tests}
@@ -8,10 +9,10 @@ use Rattle.std.specs.Prelude.{ℤ, IsUtf8, chars, codes, nat_le, nat_lt, decimal
 use Rattle.std.specs.Str.{is_utf8}
 use Rattle.std.specs.Fmt.{signed_decimal}
 use lib.Utf8.{encode, encodes, scalar as is_scalar_char, scalars, scalar_cases}
-use Rattle.yaml_spec.specs.Bytes.{tab, line_feed, carriage_return, quote, is_digit, all_bytes, is_empty, is_one_of, is_between, first}
+use Rattle.yaml_spec.specs.Bytes.{tab, line_feed, carriage_return, quote, is_digit, is_empty, is_one_of, is_between, first}
 use Rattle.yaml_spec.specs.Lines.{is_printable, all_printable, has_good_chars, start_line}
 use Rattle.ytt_base.specs.Trees.{Scalar, null, boolean, integer, string, IsScalar}
-use Rattle.yaml_spec.specs.Text.{spaces, is_hidden, is_shown, all_chars, is_literal_char, hex_digit, hex2, quoted_char, quoted_chars, quoted_text, key_text, fits_plain, fits_literal, pieces, are_trimmed, has_break}
+use Rattle.yaml_spec.specs.Text.{spaces, is_hidden, is_shown, is_literal_char, hex_digit, hex2, quoted_char, quoted_chars, quoted_text, key_text, fits_plain, fits_literal, pieces, are_trimmed, has_break}
 use Rattle.yaml_back.proofs.QuotesBack.{AreHigh, encode_high, encode_low}
 use Rattle.yaml_back.proofs.ValuesBack.{plain_of}
 use Rattle.yaml_back.proofs.LiteralsBack.{pieces_some}
@@ -55,10 +56,10 @@ good-byte b l m =
 abbrev pub is_ascii_shown : ℕ → Bool
 is_ascii_shown b = nat_le 32 b && nat_le b 126
 
-pub good-ascii : (t : List ℕ) → all_bytes is_ascii_shown t ≡ true → IsGood t
+pub good-ascii : (t : List ℕ) → list_all is_ascii_shown t ≡ true → IsGood t
 good-ascii [] e = good-nil
 good-ascii (b ∷ bs) e =
-    let k = and_parts (is_ascii_shown b) (all_bytes is_ascii_shown bs) e in
+    let k = and_parts (is_ascii_shown b) (list_all is_ascii_shown bs) e in
     let r = and_parts (nat_le 32 b) (nat_le b 126) k.0 in
     good-append (b ∷ []) bs (good-byte b (leb-true 32 b r.0) (leb-true b 126 r.1)) (good-ascii bs k.1)
 
@@ -114,11 +115,11 @@ good-break t g = subst NoBreak g.is (chars_no_break g.cs g.shown)
 shown_printable : (c : ℕ) → is_shown c ≡ true → (c == tab || is_printable c) ≡ true
 shown_printable c e = or_right (c == tab) (is_printable c) (and_parts (is_printable c) (not (is_hidden c)) e).0
 
-all_shown_printable : (cs : List ℕ) → all_chars is_shown cs ≡ true → all_printable cs ≡ true
+all_shown_printable : (cs : List ℕ) → list_all is_shown cs ≡ true → all_printable cs ≡ true
 all_shown_printable [] e = refl
-all_shown_printable (c ∷ cs) e = let k = and_parts (is_shown c) (all_chars is_shown cs) e in rw (shown_printable c k.0) (all_shown_printable cs k.1)
+all_shown_printable (c ∷ cs) e = let k = and_parts (is_shown c) (list_all is_shown cs) e in rw (shown_printable c k.0) (all_shown_printable cs k.1)
 
-pub good-shown : (s : List ℕ) → IsUtf8 s → all_chars is_shown (chars s) ≡ true → IsGood s
+pub good-shown : (s : List ℕ) → IsUtf8 s → list_all is_shown (chars s) ≡ true → IsGood s
 good-shown s u e = record { cs = chars s; is = encodes-chars s u; scalars = scalars-chars s u; shown = all_shown_printable (chars s) e }
 
 good-hex : (n : ℕ) → n < 16 → IsGood (hex_digit n ∷ [])
@@ -172,10 +173,10 @@ good-quoted s u =
     good-append (quote ∷ []) (quoted_chars (chars s) ++ quote ∷ []) (good-ascii (quote ∷ []) refl)
     (good-append (quoted_chars (chars s)) (quote ∷ []) (good-quoted_chars (chars s) (scalars-chars s u)) (good-ascii (quote ∷ []) refl))
 
-digits_ascii : (t : List ℕ) → all_bytes is_digit t ≡ true → all_bytes is_ascii_shown t ≡ true
+digits_ascii : (t : List ℕ) → list_all is_digit t ≡ true → list_all is_ascii_shown t ≡ true
 digits_ascii [] e = refl
 digits_ascii (b ∷ bs) e =
-    let k = and_parts (is_digit b) (all_bytes is_digit bs) e in
+    let k = and_parts (is_digit b) (list_all is_digit bs) e in
     let r = and_parts (nat_le 48 b) (nat_le b 57) k.0 in
     let l = leb-true 48 b r.0 in
     let m = leb-true b 57 r.1 in
@@ -246,17 +247,17 @@ by_break c cs s l h false e =
     let p = literal_printable c l e in
     rw (pieces-onto (encode c) (encodes cs) (char_no_break c p)) (good-onto (encode c) (pieces (encodes cs)) (good-char c s p) h)
 
-pieces-good : (cs : List ℕ) → scalars cs ≡ true → all_chars is_literal_char cs ≡ true → AllGood (pieces (encodes cs))
+pieces-good : (cs : List ℕ) → scalars cs ≡ true → list_all is_literal_char cs ≡ true → AllGood (pieces (encodes cs))
 unfolding AllGood
 pieces-good [] s e = (good-nil, tt)
 pieces-good (c ∷ cs) s e =
     let k = and_parts (is_scalar_char c) (scalars cs) s in
-    let l = and_parts (is_literal_char c) (all_chars is_literal_char cs) e in
+    let l = and_parts (is_literal_char c) (list_all is_literal_char cs) e in
     by_break c cs k.0 l.0 (pieces-good cs k.1 l.1) (c == line_feed) refl
 
 pub pieces_are_good : (s : List ℕ) → IsUtf8 s → fits_literal s ≡ true → AllGood (pieces s)
 unfolding fits_literal
 pieces_are_good s u e =
     let g = and_parts _ (are_trimmed (pieces s)) e in
-    let f = and_parts (has_break s && not (first s == line_feed)) (all_chars is_literal_char (chars s)) g.0 in
+    let f = and_parts (has_break s && not (first s == line_feed)) (list_all is_literal_char (chars s)) g.0 in
     subst (λ t. AllGood (pieces t)) (encodes-chars s u) (pieces-good (chars s) (scalars-chars s u) f.1)

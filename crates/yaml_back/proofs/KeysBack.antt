@@ -1,6 +1,7 @@
 -- A scalar on one line reads back, as a value and as a key.
 use Rattle.ytt_base.specs.declared.fault.Place.{Place}
 use Rattle.std.proofs.Common.{◌≡◌, ℕ, suc, ◌<◌, ◌≤◌, pos, negsuc, Bool, true, false, ◌&&◌, ◌==◌, List, [], ◌∷◌, ◌++◌, Option, Some, None, Ok, refl, sym, ◌∙◌, ap, append_assoc, arith, true≢false, if◌then◌else◌, ◌⊎◌, inl, inr}
+use Rattle.std.specs.List.{list_all}
 use Rattle.std.proofs.lemmas.List.{append-nil}
 use Rattle.std.proofs.Math.Seq.{drop-append_seam}
 use Rattle.std.proofs.lemmas.Bool.{ne_eqb, leb-true, le-leb, and_parts}
@@ -9,7 +10,7 @@ use Rattle.std.specs.Prelude.{IsUtf8, chars, codes, bytes_eq, decimal, nat_le, F
 use Rattle.std.specs.Int.{w128}
 use Rattle.std.specs.Prelude.{ℤ}
 use Rattle.std.specs.Fmt.{signed_decimal}
-use Rattle.yaml_spec.specs.Bytes.{hash, colon, space, tab, quote, first, is_white, is_empty, is_gap, is_one_of, is_digit, all_bytes}
+use Rattle.yaml_spec.specs.Bytes.{hash, colon, space, tab, quote, first, is_white, is_empty, is_gap, is_one_of, is_digit}
 use Rattle.yaml_spec.specs.Lines.{Line}
 use Rattle.ytt_base.specs.Trees.{Scalar, null, boolean, integer, string, IsScalar, scalar}
 use Rattle.yaml_spec.specs.Scalars.{form, plain}
@@ -22,11 +23,14 @@ use Rattle.yaml_spec.specs.Rows.{quoted_key, key_at, behind_colon, key_with, is_
 use Rattle.yaml_spec.specs.Text.{start_marks, has_pair, last, fits_plain, quoted_text, quoted_chars, key_text}
 use Rattle.yaml_back.proofs.PlainBack.{no_gap, NoTab, IsTail, IsQuiet, part-quiet, behind-quiet}
 use Rattle.yaml_spec.proofs.IntegersBack.{plain-positive, plain-negative, decimal-digits, decimal-some}
-use Rattle.yaml_back.proofs.ValuesBack.{IsPlain, plain_of, Stops, further-stops, no_start_fault, last_colon, outside_one, scan-quoted, value-quoted}
+use Rattle.yaml_back.proofs.ValuesBack.{IsPlain, plain_of, Stops, further-stops, no_start_fault, last_colon, outside_all, outside_one, scan-quoted, value-quoted}
 
 -- bytes that begin no scalar without quotes
+abbrev shown_marks : List ℕ
+shown_marks = space ∷ 91 ∷ 123 ∷ 34 ∷ 39 ∷ 124 ∷ 62 ∷ hash ∷ 37 ∷ []
+
 abbrev pub line_marks : List ℕ
-line_marks = space ∷ tab ∷ 91 ∷ 123 ∷ 34 ∷ 39 ∷ 124 ∷ 62 ∷ hash ∷ 37 ∷ []
+line_marks = tab ∷ shown_marks
 
 -- a text without quotes that is typed as this scalar
 pub record IsBare (t : List ℕ) (s : Scalar) : Type 0 where
@@ -40,34 +44,23 @@ pub record IsBare (t : List ℕ) (s : Scalar) : Type 0 where
 
 -- ---- what such texts are
 
-bare_plain : (s : List ℕ) → IsPlain s → IsBare s (string s)
-unfolding plain form NoTab
-bare_plain [] p = absurd (let v = p.value in cc)
-bare_plain (b ∷ bs) p = record {
-  quiet = p.quiet;
-  trimmed = p.trimmed;
-  value = p.value;
-  no_fault = λ rest i. no_start_fault (b ∷ (bs ++ rest)) p.start;
-  no_dash = λ rest i. rw (outside_one start_marks b 45 p.start refl) refl;
-  no_merge = rw (outside_one start_marks b 60 p.start refl) refl;
-  some = (
-    b,
-    bs,
-    refl,
-    rw (
-      outside_one start_marks b 32 p.start refl,
-      p.quiet.tabs.0,
-      outside_one start_marks b 91 p.start refl,
-      outside_one start_marks b 123 p.start refl,
-      outside_one start_marks b 34 p.start refl,
-      outside_one start_marks b 39 p.start refl,
-      outside_one start_marks b 124 p.start refl,
-      outside_one start_marks b 62 p.start refl,
-      outside_one start_marks b 35 p.start refl,
-      outside_one start_marks b 37 p.start refl,
-    ) refl,
-  );
+-- by its first byte, which begins a plain string too
+bare_from : (b : ℕ) (bs : List ℕ) (s : Scalar) → IsQuiet true (b ∷ bs) → is_white (last (b ∷ bs)) ≡ false → is_one_of start_marks b ≡ false → plain (b ∷ bs) ≡ Ok s → IsBare (b ∷ bs) s
+unfolding NoTab
+bare_from b bs s q w o v = record {
+  quiet = q;
+  trimmed = w;
+  value = v;
+  no_fault = λ rest i. no_start_fault (b ∷ (bs ++ rest)) o;
+  no_dash = λ rest i. rw (outside_one start_marks b 45 o refl) refl;
+  no_merge = rw (outside_one start_marks b 60 o refl) refl;
+  some = (b, bs, refl, rw (q.tabs.0, outside_all shown_marks start_marks b o refl) refl);
 }
+
+bare_plain : (s : List ℕ) → IsPlain s → IsBare s (string s)
+unfolding plain form
+bare_plain [] p = absurd (let v = p.value in cc)
+bare_plain (b ∷ bs) p = bare_from b bs (string (b ∷ bs)) p.quiet p.trimmed p.start p.value
 
 -- bytes from `-` to `9`
 abbrev is_numeric : ℕ → Bool
@@ -76,30 +69,30 @@ is_numeric b = nat_le 45 b && nat_le b 57
 numeric_bounds : (b : ℕ) → is_numeric b ≡ true → (45 ≤ b) × (b ≤ 57)
 numeric_bounds b e = let k = and_parts (nat_le 45 b) (nat_le b 57) e in (leb-true 45 b k.0, leb-true b 57 k.1)
 
-numeric_tabs : (t : List ℕ) → all_bytes is_numeric t ≡ true → NoTab t
+numeric_tabs : (t : List ℕ) → list_all is_numeric t ≡ true → NoTab t
 unfolding NoTab
 numeric_tabs [] e = tt
 numeric_tabs (b ∷ bs) e =
-    let k = and_parts (is_numeric b) (all_bytes is_numeric bs) e in
+    let k = and_parts (is_numeric b) (list_all is_numeric bs) e in
     let l = numeric_bounds b k.0 in
     (ne_eqb b 9 (omega arith), numeric_tabs bs k.1)
 
-numeric_pair : (x y : ℕ) → (x < 45) ⊎ (57 < x) → (t : List ℕ) → all_bytes is_numeric t ≡ true → has_pair x y t ≡ false
+numeric_pair : (x y : ℕ) → (x < 45) ⊎ (57 < x) → (t : List ℕ) → list_all is_numeric t ≡ true → has_pair x y t ≡ false
 numeric_pair x y h [] e = refl
 numeric_pair x y h (b ∷ []) e = refl
 numeric_pair x y h (b ∷ c ∷ t) e =
-    let k = and_parts (is_numeric b) (all_bytes is_numeric (c ∷ t)) e in
+    let k = and_parts (is_numeric b) (list_all is_numeric (c ∷ t)) e in
     let l = numeric_bounds b k.0 in
     let n : (b == x) ≡ false = ne_eqb b x (omega arith) in
     rw n (numeric_pair x y h (c ∷ t) k.1)
 
-numeric_last : (t : List ℕ) (b : ℕ) → all_bytes is_numeric (b ∷ t) ≡ true → is_numeric (last (b ∷ t)) ≡ true
+numeric_last : (t : List ℕ) (b : ℕ) → list_all is_numeric (b ∷ t) ≡ true → is_numeric (last (b ∷ t)) ≡ true
 numeric_last [] b e = (and_parts (is_numeric b) true e).0
-numeric_last (c ∷ t) b e = numeric_last t c (and_parts (is_numeric b) (all_bytes is_numeric (c ∷ t)) e).1
+numeric_last (c ∷ t) b e = numeric_last t c (and_parts (is_numeric b) (list_all is_numeric (c ∷ t)) e).1
 
-numeric_quiet : (b : ℕ) (bs : List ℕ) → all_bytes is_numeric (b ∷ bs) ≡ true → IsQuiet true (b ∷ bs) × (is_white (last (b ∷ bs)) ≡ false)
+numeric_quiet : (b : ℕ) (bs : List ℕ) → list_all is_numeric (b ∷ bs) ≡ true → IsQuiet true (b ∷ bs) × (is_white (last (b ∷ bs)) ≡ false)
 numeric_quiet b bs e =
-    let l = numeric_bounds b (and_parts (is_numeric b) (all_bytes is_numeric bs) e).0 in
+    let l = numeric_bounds b (and_parts (is_numeric b) (list_all is_numeric bs) e).0 in
     let m = numeric_bounds (last (b ∷ bs)) (numeric_last bs b e) in (
       record {
         tabs = numeric_tabs (b ∷ bs) e;
@@ -117,36 +110,27 @@ digit_numeric b e =
     let l = leb-true 48 b k.0 in
     rw (le-leb 45 b (omega arith)) k.1
 
-digits_numeric : (t : List ℕ) → all_bytes is_digit t ≡ true → all_bytes is_numeric t ≡ true
+digits_numeric : (t : List ℕ) → list_all is_digit t ≡ true → list_all is_numeric t ≡ true
 digits_numeric [] e = refl
 digits_numeric (b ∷ bs) e =
-    let k = and_parts (is_digit b) (all_bytes is_digit bs) e in
+    let k = and_parts (is_digit b) (list_all is_digit bs) e in
     rw (digit_numeric b k.0) (digits_numeric bs k.1)
 
-bare_digits : (t : List ℕ) (s : Scalar) → is_empty t ≡ false → all_bytes is_digit t ≡ true → plain t ≡ Ok s → IsBare t s
-unfolding start_fault
+bare_digits : (t : List ℕ) (s : Scalar) → is_empty t ≡ false → list_all is_digit t ≡ true → plain t ≡ Ok s → IsBare t s
 bare_digits [] s e d p = absurd (true≢false e)
 bare_digits (b ∷ bs) s e d p =
     let q = numeric_quiet b bs (digits_numeric (b ∷ bs) d) in
-    let k = and_parts (nat_le 48 b) (nat_le b 57) (and_parts (is_digit b) (all_bytes is_digit bs) d).0 in
+    let k = and_parts (nat_le 48 b) (nat_le b 57) (and_parts (is_digit b) (list_all is_digit bs) d).0 in
     let l = leb-true 48 b k.0 in
     let h = leb-true b 57 k.1 in
-    record {
-      quiet = q.0;
-      trimmed = q.1;
-      value = p;
-      no_fault = λ rest i. grind (arith, nat_tests);
-      no_dash = λ rest i. rw (ne_eqb b 45 (omega arith)) refl;
-      no_merge = rw (ne_eqb b 60 (omega arith)) refl;
-      some = (b, bs, refl, grind (arith, nat_tests));
-    }
+    bare_from b bs s q.0 q.1 (grind (arith, nat_tests)) p
 
-bare_negative : (t : List ℕ) (s : Scalar) → is_empty t ≡ false → all_bytes is_digit t ≡ true → plain (45 ∷ t) ≡ Ok s → IsBare (45 ∷ t) s
+bare_negative : (t : List ℕ) (s : Scalar) → is_empty t ≡ false → list_all is_digit t ≡ true → plain (45 ∷ t) ≡ Ok s → IsBare (45 ∷ t) s
 unfolding start_fault
 bare_negative [] s e d p = absurd (true≢false e)
 bare_negative (b ∷ bs) s e d p =
     let q = numeric_quiet 45 (b ∷ bs) (digits_numeric (b ∷ bs) d) in
-    let k = and_parts (nat_le 48 b) (nat_le b 57) (and_parts (is_digit b) (all_bytes is_digit bs) d).0 in
+    let k = and_parts (nat_le 48 b) (nat_le b 57) (and_parts (is_digit b) (list_all is_digit bs) d).0 in
     let l = leb-true 48 b k.0 in
     let g : (rest : List ℕ) → is_gap (b ∷ (bs ++ rest)) ≡ false = λ rest. no_gap b (bs ++ rest) (ne_eqb b 32 (omega arith)) (ne_eqb b 9 (omega arith)) in
     record {
@@ -160,40 +144,16 @@ bare_negative (b ∷ bs) s e d p =
     }
 
 bare_null : IsBare (codes "null") null
-unfolding start_fault plain form NoTab
-bare_null = record {
-  quiet = record { tabs = (refl, (refl, (refl, (refl, tt)))); colons = refl; hashes = refl; start = refl; end = refl };
-  trimmed = refl;
-  value = refl;
-  no_fault = λ rest i. refl;
-  no_dash = λ rest i. refl;
-  no_merge = refl;
-  some = (110, codes "ull", refl, refl);
-}
+unfolding plain form NoTab
+bare_null = bare_from 110 (codes "ull") null (record { tabs = (refl, (refl, (refl, (refl, tt)))); colons = refl; hashes = refl; start = refl; end = refl }) refl refl refl
 
 bare_true : IsBare (codes "true") (boolean true)
-unfolding start_fault plain form NoTab
-bare_true = record {
-  quiet = record { tabs = (refl, (refl, (refl, (refl, tt)))); colons = refl; hashes = refl; start = refl; end = refl };
-  trimmed = refl;
-  value = refl;
-  no_fault = λ rest i. refl;
-  no_dash = λ rest i. refl;
-  no_merge = refl;
-  some = (116, codes "rue", refl, refl);
-}
+unfolding plain form NoTab
+bare_true = bare_from 116 (codes "rue") (boolean true) (record { tabs = (refl, (refl, (refl, (refl, tt)))); colons = refl; hashes = refl; start = refl; end = refl }) refl refl refl
 
 bare_false : IsBare (codes "false") (boolean false)
-unfolding start_fault plain form NoTab
-bare_false = record {
-  quiet = record { tabs = (refl, (refl, (refl, (refl, (refl, tt))))); colons = refl; hashes = refl; start = refl; end = refl };
-  trimmed = refl;
-  value = refl;
-  no_fault = λ rest i. refl;
-  no_dash = λ rest i. refl;
-  no_merge = refl;
-  some = (102, codes "alse", refl, refl);
-}
+unfolding plain form NoTab
+bare_false = bare_from 102 (codes "alse") (boolean false) (record { tabs = (refl, (refl, (refl, (refl, (refl, tt))))); colons = refl; hashes = refl; start = refl; end = refl }) refl refl refl
 
 -- a scalar as it is printed on one line: without quotes, or a string in quotes
 pub data IsLine : List ℕ → Scalar → Type 0 where

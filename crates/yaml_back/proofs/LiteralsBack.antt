@@ -2,6 +2,7 @@
 use Rattle.yaml_spec.specs.Refusals.{place_below}
 use Rattle.ytt_base.specs.declared.fault.Place.{Place}
 use Rattle.std.proofs.Common.{◌≡◌, ℕ, zero, suc, ◌+◌, ◌-◌, ◌≤◌, Bool, true, false, not, ◌&&◌, ◌||◌, ◌==◌, List, [], ◌∷◌, ◌++◌, length, drop, Some, None, Ok, refl, sym, ◌∙◌, ap, subst, append_assoc, arith, true≢false, if◌then◌else◌}
+use Rattle.std.specs.List.{list_all}
 use Rattle.std.proofs.lemmas.List.{append-nil, length-replicate, length-append}
 use Rattle.std.proofs.Math.Seq.{drop-append_seam, drop-nil}
 use Rattle.std.proofs.lemmas.Bool.{ne_eqb, eqb-true, le-leb, and_right, eq-eqb, or_parts, and_parts, not-true}
@@ -14,7 +15,7 @@ use Rattle.yaml_spec.specs.Quotes.{Cursor}
 use Rattle.yaml_spec.specs.Blocks.{Chomp, strip, clip, keep, Body, header, is_spaces, found_indent, too_long, lines_within, body_at, body, drop_empty_end, literal, end_breaks, block_text, Block}
 use Rattle.yaml_spec.specs.Noted.{Comment}
 use Rattle.yaml_spec.specs.Values.{value, noted, has_stray_note}
-use Rattle.yaml_spec.specs.Text.{spaces, pieces, are_trimmed, final_breaks, literal_header, fits_literal, has_break, all_chars, is_literal_char, last}
+use Rattle.yaml_spec.specs.Text.{spaces, pieces, are_trimmed, final_breaks, literal_header, fits_literal, has_break, is_literal_char, last}
 use Rattle.yaml_back.proofs.KeysBack.{leaf_value}
 use Rattle.yaml_back.proofs.TextLines.{content_line, content_lines}
 
@@ -290,6 +291,6 @@ module _ (left : ℕ) (open_place : Place) (least owner : ℕ) (n : Place) (m : 
   unfolding Reads_pieces lines_of_literal fits_literal
   value-literal s e =
       let g = and_parts _ (are_trimmed (pieces s)) e in
-      let f = and_parts (has_break s && not (first s == line_feed)) (all_chars is_literal_char (chars s)) g.0 in
+      let f = and_parts (has_break s && not (first s == line_feed)) (list_all is_literal_char (chars s)) g.0 in
       let d = and_parts (has_break s) (not (first s == line_feed)) f.0 in
       fits_pieces s d.0 (not-true (first s == line_feed) d.1) g.1

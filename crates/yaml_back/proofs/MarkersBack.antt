@@ -1,16 +1,17 @@
 -- No printed line is a marker, and no printed text begins with a byte order mark.
 use Rattle.std.proofs.Common.{◌≡◌, ℕ, zero, suc, ◌+◌, pos, negsuc, Bool, true, false, not, ◌&&◌, ◌==◌, List, [], ◌∷◌, ◌++◌, Ok, refl, sym, ◌∙◌, ap, subst, append_assoc, arith, true≢false, if◌then◌else◌}
+use Rattle.std.specs.List.{list_all}
 use Rattle.std.proofs.lemmas.List.{append-nil}
 use Rattle.std.proofs.lemmas.Bool.{ne_eqb, eqb-true, leb-true, and_left, and_right, and_parts}
 use Rattle.std.proofs.lemmas.Str.{encodes-chars, encode_same}
 use Rattle.std.specs.Prelude.{ℤ, IsUtf8, chars, codes, nat_le, decimal, bytes_eq, take, slice_index}
 use Rattle.std.specs.Fmt.{signed_decimal}
 use lib.Utf8.{encode, encodes}
-use Rattle.yaml_spec.specs.Bytes.{space, dash, colon, quote, is_digit, all_bytes, is_empty}
+use Rattle.yaml_spec.specs.Bytes.{space, dash, colon, quote, is_digit, is_empty}
 use Rattle.ytt_base.specs.Trees.{Scalar, null, boolean, integer, string, IsScalar, Tree, scalar, list, map, Trees, no_trees, tree, Pairs, no_pairs, pair, IsTree, AreTrees, ArePairs}
 use Rattle.yaml_spec.specs.Scalars.{form, plain}
 use Rattle.yaml_spec.specs.Read.{begins_with}
-use Rattle.yaml_spec.specs.Text.{spaces, is_shown, all_chars, quoted_chars, quoted_text, key_text, fits_plain, fits_literal, pieces, literal_header, final_breaks, start_marks}
+use Rattle.yaml_spec.specs.Text.{spaces, is_shown, quoted_chars, quoted_text, key_text, fits_plain, fits_literal, pieces, literal_header, final_breaks, start_marks}
 use Rattle.yaml_back.proofs.PlainBack.{IsTail}
 use Rattle.yaml_back.proofs.ValuesBack.{outside_one, IsPlain, plain_of}
 use Rattle.yaml_spec.proofs.IntegersBack.{decimal-digits, decimal-some}
@@ -50,10 +51,10 @@ quiet-plain (b ∷ bs) rest p t = record {
   stop = and_left _ _ (dots_ahead (b ∷ bs) rest p.dots t);
 }
 
-quiet-digits : (t rest : List ℕ) → is_empty t ≡ false → all_bytes is_digit t ≡ true → IsQuietLine (t ++ rest) × IsQuietLine (45 ∷ (t ++ rest))
+quiet-digits : (t rest : List ℕ) → is_empty t ≡ false → list_all is_digit t ≡ true → IsQuietLine (t ++ rest) × IsQuietLine (45 ∷ (t ++ rest))
 quiet-digits [] rest e d = absurd (true≢false e)
 quiet-digits (b ∷ bs) rest e d =
-    let k = and_parts (nat_le 48 b) (nat_le b 57) (and_parts (is_digit b) (all_bytes is_digit bs) d).0 in
+    let k = and_parts (nat_le 48 b) (nat_le b 57) (and_parts (is_digit b) (list_all is_digit bs) d).0 in
     let l = leb-true 48 b k.0 in
     (quiet-first b (bs ++ rest) (ne_eqb b 45 (omega arith)) (ne_eqb b 46 (omega arith)), quiet-dash b (bs ++ rest) (ne_eqb b 45 (omega arith)))
 
@@ -90,7 +91,7 @@ mark-is (x ∷ y ∷ z ∷ r) e =
     let l = and_parts (x == 0xEF) (y == 0xBB) k.0 in
     (r, rw (eqb-true x 0xEF l.0, eqb-true y 0xBB l.1, eqb-true z 0xBF k.1) refl)
 
-mark-shown : (cs : List ℕ) (rest : List ℕ) → all_chars is_shown cs ≡ true → is_empty cs ≡ false → has_mark (encodes cs ++ rest) ≡ false
+mark-shown : (cs : List ℕ) (rest : List ℕ) → list_all is_shown cs ≡ true → is_empty cs ≡ false → has_mark (encodes cs ++ rest) ≡ false
 mark-shown [] rest e n = absurd (true≢false n)
 mark-shown (c ∷ cs) rest e n = go (has_mark ((encode c ++ encodes cs) ++ rest)) refl
   where
@@ -99,7 +100,7 @@ mark-shown (c ∷ cs) rest e n = go (has_mark ((encode c ++ encodes cs) ++ rest)
     go true p =
         let m = mark-is ((encode c ++ encodes cs) ++ rest) p in
         let i = (encode_same c 0xFEFF (encodes cs ++ rest) m.0 (sym (append_assoc (encode c) (encodes cs) rest) ∙ m.1)).0 in
-        absurd (true≢false (sym (and_parts (is_shown c) (all_chars is_shown cs) e).0 ∙ ap is_shown i))
+        absurd (true≢false (sym (and_parts (is_shown c) (list_all is_shown cs) e).0 ∙ ap is_shown i))
 
 mark-plain : (s rest : List ℕ) → IsUtf8 s → IsPlain s → has_mark (s ++ rest) ≡ false
 unfolding plain form
@@ -109,10 +110,10 @@ mark-plain s rest u p = subst (λ (t : List ℕ). has_mark (t ++ rest) ≡ false
     go [] e = absurd (let i : s ≡ [] = sym (encodes-chars s u) ∙ ap encodes e in let v : plain [] ≡ Ok (string []) = subst (λ t. plain t ≡ Ok (string t)) i p.value in cc)
     go (c ∷ cs) e = refl
 
-mark-digits : (t rest : List ℕ) → is_empty t ≡ false → all_bytes is_digit t ≡ true → has_mark (t ++ rest) ≡ false
+mark-digits : (t rest : List ℕ) → is_empty t ≡ false → list_all is_digit t ≡ true → has_mark (t ++ rest) ≡ false
 mark-digits [] rest e d = absurd (true≢false e)
 mark-digits (b ∷ bs) rest e d =
-    let k = and_parts (nat_le 48 b) (nat_le b 57) (and_parts (is_digit b) (all_bytes is_digit bs) d).0 in
+    let k = and_parts (nat_le 48 b) (nat_le b 57) (and_parts (is_digit b) (list_all is_digit bs) d).0 in
     let l = leb-true b 57 k.1 in
     mark-first b (bs ++ rest) (ne_eqb b 0xEF (omega arith))
 

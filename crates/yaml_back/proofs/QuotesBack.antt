@@ -1,7 +1,7 @@
 -- A string in double quotes, as it is printed, reads back.
-use Rattle.std.proofs.Common.{◌≡◌, ℕ, zero, suc, ◌+◌, ◌*◌, ◌/◌, ◌%◌, ◌<◌, ◌≤◌, Bool, true, false, cond, ◌||◌, ◌==◌, List, [], ◌∷◌, ◌++◌, refl, sym, ◌∙◌, ap, subst, append_assoc, arith, true≢false, inl, inr, ◌⊎◌}
+use Rattle.std.proofs.Common.{◌≡◌, ℕ, ◌+◌, ◌*◌, ◌/◌, ◌%◌, ◌<◌, ◌≤◌, Bool, true, false, cond, ◌||◌, ◌==◌, List, [], ◌∷◌, ◌++◌, refl, sym, ◌∙◌, ap, subst, append_assoc, arith, true≢false, inl, inr, ◌⊎◌}
 use Rattle.std.proofs.lemmas.List.{append-nil}
-use Rattle.std.proofs.lemmas.Bool.{cond_both, le-ltb, ne_eqb, eqb-true, ltb-true, ltb-false, le-leb, leb-true, lt-ltb}
+use Rattle.std.proofs.lemmas.Bool.{agree_below_at, cond_both, or_cases, le-ltb, ne_eqb, eqb-true, ltb-true, ltb-false, le-leb, leb-true, lt-ltb}
 use Rattle.std.specs.Prelude.{nat_lt, nat_le, codes}
 use Rattle.std.specs.Cmp.{second_so}
 use lib.Utf8.{encode, encodes}
@@ -25,23 +25,10 @@ record IsHex (n : ℕ) : Type 0 where
   value : digit_value (hex_digit n) ≡ n
 
 hex : (n : ℕ) → n < 16 → IsHex n
-hex zero h = record { is = refl; value = refl }
-hex (suc zero) h = record { is = refl; value = refl }
-hex (suc (suc zero)) h = record { is = refl; value = refl }
-hex (suc (suc (suc zero))) h = record { is = refl; value = refl }
-hex (suc (suc (suc (suc zero)))) h = record { is = refl; value = refl }
-hex (suc (suc (suc (suc (suc zero))))) h = record { is = refl; value = refl }
-hex (suc (suc (suc (suc (suc (suc zero)))))) h = record { is = refl; value = refl }
-hex (suc (suc (suc (suc (suc (suc (suc zero))))))) h = record { is = refl; value = refl }
-hex (suc (suc (suc (suc (suc (suc (suc (suc zero)))))))) h = record { is = refl; value = refl }
-hex (suc (suc (suc (suc (suc (suc (suc (suc (suc zero))))))))) h = record { is = refl; value = refl }
-hex (suc (suc (suc (suc (suc (suc (suc (suc (suc (suc zero)))))))))) h = record { is = refl; value = refl }
-hex (suc (suc (suc (suc (suc (suc (suc (suc (suc (suc (suc zero))))))))))) h = record { is = refl; value = refl }
-hex (suc (suc (suc (suc (suc (suc (suc (suc (suc (suc (suc (suc zero)))))))))))) h = record { is = refl; value = refl }
-hex (suc (suc (suc (suc (suc (suc (suc (suc (suc (suc (suc (suc (suc zero))))))))))))) h = record { is = refl; value = refl }
-hex (suc (suc (suc (suc (suc (suc (suc (suc (suc (suc (suc (suc (suc (suc zero)))))))))))))) h = record { is = refl; value = refl }
-hex (suc (suc (suc (suc (suc (suc (suc (suc (suc (suc (suc (suc (suc (suc (suc zero))))))))))))))) h = record { is = refl; value = refl }
-hex (suc (suc (suc (suc (suc (suc (suc (suc (suc (suc (suc (suc (suc (suc (suc (suc n)))))))))))))))) h = absurd (omega arith)
+hex n l = record {
+  is = agree_below_at (λ n. is_hex_digit (hex_digit n)) (λ _. true) 16 n refl l;
+  value = eqb-true _ _ (agree_below_at (λ n. digit_value (hex_digit n) == n) (λ _. true) 16 n refl l);
+}
 
 -- `\xHH`
 two_digits : (a b c : ℕ) → is_hex_digit a ≡ true → is_hex_digit b ≡ true → (0 * 16 + digit_value a) * 16 + digit_value b ≡ c → is_scalar_value c ≡ true →
@@ -123,57 +110,28 @@ four_digits c = codes "\\u" ++ (hex2 (c / 256) ++ hex2 c)
 UnicodeAt : ℕ → Type 0
 UnicodeAt c = (white x : List ℕ) → double normal white (four_digits c ++ x) ≡ prepend (white ++ encode c) (double normal [] x)
 
-unicode_escape : (c : ℕ) → is_one_of (0x2028 ∷ 0x2029 ∷ 0xFEFF ∷ 0xFFFE ∷ 0xFFFF ∷ []) c ≡ true → UnicodeAt c
-unfolding UnicodeAt double encode
-unicode_escape c e =
-    elim (or_parts _ _ e) [
-      | inl p ↦ at_number 0x2028 p (λ white x. refl)
-      | inr e ↦
-          elim (or_parts _ _ e) [
-            | inl p ↦ at_number 0x2029 p (λ white x. refl)
-            | inr e ↦
-                elim (or_parts _ _ e) [
-                  | inl p ↦ at_number 0xFEFF p (λ white x. refl)
-                  | inr e ↦
-                      elim (or_parts _ _ e) [
-                        | inl p ↦ at_number 0xFFFE p (λ white x. refl)
-                        | inr e ↦
-                            elim (or_parts _ _ e) [ inl p ↦ at_number 0xFFFF p (λ white x. refl) | inr e ↦ absurd (true≢false (sym e)) ]
-                      ]
-                ]
-          ]
-    ]
-  where
-    or_parts : (a b : Bool) → (a || b) ≡ true → (a ≡ true) ⊎ (b ≡ true)
-    or_parts true b e = inl refl
-    or_parts false b e = inr e
+-- so are all of these
+AllUnicode : List ℕ → Type 0
+AllUnicode [] = Unit {0}
+AllUnicode (n ∷ ns) = UnicodeAt n × AllUnicode ns
 
-    at_number : (n : ℕ) → (c == n) ≡ true → UnicodeAt n → UnicodeAt c
-    at_number n p h = subst UnicodeAt (sym (eqb-true c n p)) h
+one_unicode : (ns : List ℕ) (c : ℕ) → AllUnicode ns → is_one_of ns c ≡ true → UnicodeAt c
+unfolding AllUnicode
+one_unicode [] c h e = absurd (true≢false (sym e))
+one_unicode (n ∷ ns) c h e =
+    elim (or_cases (c == n) (is_one_of ns c) e) [ inl p ↦ subst UnicodeAt (sym (eqb-true c n p)) h.0 | inr q ↦ one_unicode ns c h.1 q ]
+
+unicode_escape : (c : ℕ) → is_one_of (0x2028 ∷ 0x2029 ∷ 0xFEFF ∷ 0xFFFE ∷ 0xFFFF ∷ []) c ≡ true → UnicodeAt c
+unfolding AllUnicode UnicodeAt double encode
+unicode_escape c e = one_unicode (0x2028 ∷ 0x2029 ∷ 0xFEFF ∷ 0xFFFE ∷ 0xFFFF ∷ []) c (λ white x. refl, (λ white x. refl, (λ white x. refl, (λ white x. refl, (λ white x. refl, tt))))) e
 
 -- the one-letter escapes that are printed
 LetterAt : List ℕ → ℕ → Type 0
 LetterAt t n = (white x : List ℕ) → double normal white (t ++ x) ≡ prepend (white ++ encode n) (double normal [] x)
 
-letter_34 : LetterAt (codes "\\\"") 34
+letters : LetterAt (codes "\\\"") 34 × LetterAt (codes "\\\\") 92 × LetterAt (codes "\\n") 10 × LetterAt (codes "\\t") 9 × LetterAt (codes "\\r") 13
 unfolding LetterAt double encode
-letter_34 white x = refl
-
-letter_92 : LetterAt (codes "\\\\") 92
-unfolding LetterAt double encode
-letter_92 white x = refl
-
-letter_10 : LetterAt (codes "\\n") 10
-unfolding LetterAt double encode
-letter_10 white x = refl
-
-letter_9 : LetterAt (codes "\\t") 9
-unfolding LetterAt double encode
-letter_9 white x = refl
-
-letter_13 : LetterAt (codes "\\r") 13
-unfolding LetterAt double encode
-letter_13 white x = refl
+letters = (λ white x. refl, λ white x. refl, λ white x. refl, λ white x. refl, λ white x. refl)
 
 -- a one-letter escape
 letter : (n c : ℕ) → (c == n) ≡ true → (white t x tail rest : List ℕ) → Closes x tail rest → LetterAt t n →
@@ -199,11 +157,11 @@ at_least_32 c e = go (nat_lt c 0x20) refl e
 one_char : (c : ℕ) → (white x tail rest : List ℕ) → Closes x tail rest → double normal white (quoted_char c ++ x) ≡ closed (white ++ (encode c ++ tail)) rest
 unfolding UnicodeAt
 one_char c white x tail rest h =
-    cond_both (c == 34) _ _ P (λ p. letter 34 c p white _ x tail rest h letter_34) (λ n34.
-    cond_both (c == 92) _ _ P (λ p. letter 92 c p white _ x tail rest h letter_92) (λ n92.
-    cond_both (c == 10) _ _ P (λ p. letter 10 c p white _ x tail rest h letter_10) (λ n10.
-    cond_both (c == 9) _ _ P (λ p. letter 9 c p white _ x tail rest h letter_9) (λ n9.
-    cond_both (c == 13) _ _ P (λ p. letter 13 c p white _ x tail rest h letter_13) (λ n13.
+    cond_both (c == 34) _ _ P (λ p. letter 34 c p white _ x tail rest h letters.0) (λ n34.
+    cond_both (c == 92) _ _ P (λ p. letter 92 c p white _ x tail rest h letters.1) (λ n92.
+    cond_both (c == 10) _ _ P (λ p. letter 10 c p white _ x tail rest h letters.2) (λ n10.
+    cond_both (c == 9) _ _ P (λ p. letter 9 c p white _ x tail rest h letters.3) (λ n9.
+    cond_both (c == 13) _ _ P (λ p. letter 13 c p white _ x tail rest h letters.4) (λ n13.
     cond_both (nat_lt c 0x20 || is_between 0x7F 0xA0 c) _ _ P (λ p. hex_escape c (below_256 c p) white x tail rest h) (λ n.
     cond_both (is_one_of (0x2028 ∷ 0x2029 ∷ 0xFEFF ∷ 0xFFFE ∷ 0xFFFF ∷ []) c) _ _ P
     (λ p. unicode_escape c p white x ∙ prepended white (encode c) x tail rest h)

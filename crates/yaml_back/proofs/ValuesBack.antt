@@ -1,6 +1,7 @@
 -- A string, as it is printed on one line, is read as a value.
 use Rattle.ytt_base.specs.declared.fault.Place.{Place}
 use Rattle.std.proofs.Common.{◌≡◌, ℕ, Bool, true, false, not, ◌&&◌, ◌||◌, ◌==◌, List, [], ◌∷◌, ◌++◌, None, Ok, refl, sym, ◌∙◌, ap, subst, arith, true≢false, if◌then◌else◌}
+use Rattle.std.specs.List.{list_all}
 use Rattle.std.proofs.lemmas.List.{append-nil}
 use Rattle.std.proofs.lemmas.Bool.{ne_eqb, eqb-true, ltb-true, ltb-false, and_parts, not-true}
 use Rattle.std.proofs.lemmas.Str.{encodes-chars}
@@ -15,7 +16,7 @@ use Rattle.yaml_spec.specs.Quotes.{Cursor, closed, scan, parts, Quote}
 use Rattle.yaml_spec.specs.Plain.{start_fault, form_indicators, out_indicators, part, behind, ends_with_colon, further, ends_scalar, plain_lines}
 use Rattle.yaml_spec.specs.Noted.{Comment, noted_scalar}
 use Rattle.yaml_spec.specs.Values.{Value, value, ended, noted}
-use Rattle.yaml_spec.specs.Text.{is_shown, all_chars, start_marks, has_pair, last, fits_plain, quoted_text, quoted_chars, string_text}
+use Rattle.yaml_spec.specs.Text.{is_shown, start_marks, has_pair, last, fits_plain, quoted_text, quoted_chars, string_text}
 use Rattle.yaml_back.proofs.PlainBack.{NoTab, IsTail, IsQuiet, part-quiet, behind-quiet}
 use Rattle.yaml_back.proofs.QuotesBack.{AreHigh, encode_high, encode_low, closes_chars, Closes}
 
@@ -69,10 +70,10 @@ shown_no_tab c e = go (nat_lt c 128) refl (c == tab) refl
     go true l true f = absurd (true≢false (sym e ∙ ap is_shown (eqb-true c tab f)))
     go true l false f = rw (encode_low c (ltb-true c 128 l)) (f, tt)
 
-no_tab_of : (cs : List ℕ) → all_chars is_shown cs ≡ true → NoTab (encodes cs)
+no_tab_of : (cs : List ℕ) → list_all is_shown cs ≡ true → NoTab (encodes cs)
 unfolding NoTab
 no_tab_of [] e = tt
-no_tab_of (c ∷ cs) e = let k = and_parts (is_shown c) (all_chars is_shown cs) e in no_tab-append (encode c) (encodes cs) (shown_no_tab c k.0) (no_tab_of cs k.1)
+no_tab_of (c ∷ cs) e = let k = and_parts (is_shown c) (list_all is_shown cs) e in no_tab-append (encode c) (encodes cs) (shown_no_tab c k.0) (no_tab_of cs k.1)
 
 last_no_tab : (s : List ℕ) → NoTab s → (last s == tab) ≡ false
 unfolding NoTab
@@ -85,7 +86,7 @@ pub record IsPlain (s : List ℕ) : Type 0 where
   pub trimmed : is_white (last s) ≡ false
   pub start : is_one_of start_marks (first s) ≡ false
   pub value : plain s ≡ Ok (string s)
-  pub shown : all_chars is_shown (chars s) ≡ true
+  pub shown : list_all is_shown (chars s) ≡ true
   pub dots : bytes_eq (take 3 s) (codes "...") ≡ false
 
 pub plain_of : (s : List ℕ) → IsUtf8 s → fits_plain s ≡ true → IsPlain s
@@ -96,7 +97,7 @@ plain_of s u e =
     let d = and_parts _ (not (is_one_of (space ∷ colon ∷ []) (last s))) f.0 in
     let c = and_parts _ (not (bytes_eq (take 3 s) (codes "..."))) d.0 in
     let b = and_parts _ (not (is_one_of start_marks (first s))) c.0 in
-    let a = and_parts (is_string_form (form s)) (all_chars is_shown (chars s)) b.0 in
+    let a = and_parts (is_string_form (form s)) (list_all is_shown (chars s)) b.0 in
     let start = not-true (is_one_of start_marks (first s)) b.1 in
     let ends = not-true (is_one_of (space ∷ colon ∷ []) (last s)) d.1 in
     let tabs : NoTab s = subst NoTab (encodes-chars s u) (no_tab_of (chars s) a.1) in
@@ -146,36 +147,7 @@ last_colon (b ∷ c ∷ s) e = last_colon (c ∷ s) e
 abbrev pub text_value : List ℕ → List Comment → ℕ → Value
 text_value s cs n = record { content = noted_scalar (scalar (string s)); loose = cs; trailing = None; last = n }
 
--- a plain scalar that the line and those below end
-plain_lines-text : (least : ℕ) (c : Cursor) → IsPlain c.text → Stops least c.below →
-    plain_lines false least c ≡ Ok (string c.text, record c { text = [] })
-unfolding plain_lines IsTail fold_parts
-plain_lines-text least c p s =
-    let w : part false c.text ≡ c.text = ap (part false) (sym (append-nil c.text)) ∙ part-quiet c.text [] p.quiet tt p.trimmed in
-    let v : behind false c.text ≡ [] = ap (behind false) (sym (append-nil c.text)) ∙ behind-quiet c.text [] p.quiet tt p.trimmed in
-    rw (no_start_fault c.text p.start, plain_lines, w, last_colon c.text p.quiet.end, v, v, further-stops least (record c { text = [] }) c.below s, w)
-    (rw (append-nil c.text, p.value) refl)
-
 -- ---- values
-
-no_start : (x : ℕ) (t : List ℕ) → is_one_of start_marks x ≡ true → is_one_of start_marks (first t) ≡ false → (first t == x) ≡ false
-no_start x t m n = outside_one start_marks (first t) x n m
-
--- a string that is printed plain
-pub value-plain : (left : ℕ) (open_place : Place) (least owner : ℕ) (cs : List Comment) (c : Cursor) → IsPlain c.text → Stops least c.below →
-    value left open_place least owner cs c ≡ Ok (text_value c.text cs c.place.line)
-unfolding value ended noted
-value-plain left open_place least owner cs c p s =
-    rw (
-      no_start 91 c.text refl p.start,
-      value,
-      no_start 123 c.text refl p.start,
-      no_start 34 c.text refl p.start,
-      no_start 39 c.text refl p.start,
-      no_start 124 c.text refl p.start,
-      no_start 62 c.text refl p.start,
-      plain_lines-text least c p s,
-    ) refl
 
 -- a string that is printed in double quotes
 pub scan-quoted : (s rest : List ℕ) → IsUtf8 s → scan true (quoted_chars (chars s) ++ quote ∷ rest) ≡ closed s rest
@@ -192,14 +164,3 @@ pub value-quoted : (left : ℕ) (open_place : Place) (least owner : ℕ) (n : Pl
     value left open_place least owner cs (record { place = n; text = quoted_text s; below = ls }) ≡ Ok (text_value s cs n.line)
 unfolding value ended noted Quote fold_parts
 value-quoted left open_place least owner n cs s ls u = rw (parts-quoted open_place n s [] ls u, value) (rw (append-nil s) refl)
-
--- ---- a string on one line, in its own style
-
-pub value-string : (left : ℕ) (open_place : Place) (least owner : ℕ) (n : Place) (cs : List Comment) (s : List ℕ) (ls : List Line) → IsUtf8 s → Stops least ls →
-    value left open_place least owner cs (record { place = n; text = string_text s; below = ls }) ≡ Ok (text_value s cs n.line)
-value-string left open_place least owner n cs s ls u e = by_style (fits_plain s) refl
-  where
-    by_style : (b : Bool) → fits_plain s ≡ b →
-        value left open_place least owner cs (record { place = n; text = if b then s else quoted_text s; below = ls }) ≡ Ok (text_value s cs n.line)
-    by_style true f = value-plain left open_place least owner cs (record { place = n; text = s; below = ls }) (plain_of s u f) e
-    by_style false f = value-quoted left open_place least owner n cs s ls u

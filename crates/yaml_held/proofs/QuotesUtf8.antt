@@ -22,10 +22,6 @@ good_prepend t (open_end p) u g = IsUtf8-append t p.text u g
 good_prepend t (closed v rest) u g = (IsUtf8-append t v u g.0, g.1)
 good_prepend t wrong u g = tt
 
-good_end : (t : List ℕ) (joined : Bool) → IsUtf8 t → IsGoodScan (line_ends t joined)
-unfolding IsGoodScan
-good_end t joined u = u
-
 good_if : (b : Bool) (x y : Scan) → (b ≡ true → IsGoodScan x) → (b ≡ false → IsGoodScan y) → IsGoodScan (elim b as (λ _. Scan) [ true ↦ x | false ↦ y ])
 good_if true x y h k = h refl
 good_if false x y h k = k refl

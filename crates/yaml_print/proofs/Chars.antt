@@ -3,7 +3,7 @@ use Rattle.std.proofs.Common.{◌≡◌, ℕ, ◌+◌, ◌/◌, ◌<◌, Bool, t
 use Rattle.std.proofs.lemmas.List.{take-append-drop, take_more}
 use Rattle.std.proofs.lemmas.Str.{encode_ascii}
 use Rattle.std.proofs.lemmas.Bool.Decides.{nat_tests}
-use Rattle.yaml_scalar.specs.Numbered.{is_long_escaped, is_short_escaped, numbered_char}
+use Rattle.yaml_styles.specs.Numbered.{is_long_escaped, is_short_escaped, numbered_char}
 use Rattle.yaml_spec.specs.Text.{hex2, hex_digit, quoted_char, quoted_chars}
 
 hex_digit-ascii : (n : ℕ) → n < 16 → hex_digit n < 128

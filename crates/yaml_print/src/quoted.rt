@@ -3,12 +3,12 @@ ghost use Rattle.std.specs.Prelude.{◌≡◌, ◌<◌, ◌/◌, ◌∷◌, ◌+
 ghost use Rattle.ytt_outside.specs.Sink.{SinkCounts};
 ghost use Rattle.yaml_print.specs.Pending.{pending};
 ghost use Rattle.yaml_print.specs.Puts.{Puts};
-ghost use Rattle.yaml_scalar.specs.Numbered.{numbered_char};
+ghost use Rattle.yaml_styles.specs.Numbered.{numbered_char};
 ghost use Rattle.yaml_spec.specs.Bytes.{quote};
 ghost use Rattle.yaml_spec.specs.Text.{hex2, hex_digit, quoted_char, quoted_chars, quoted_text};
 
 use crate::pending::Pending;
-use yaml_scalar::{hex_digit, is_long_escaped, is_short_escaped, short_escape};
+use yaml_styles::{hex_digit, is_long_escaped, is_short_escaped, short_escape};
 use ytt_outside::sink::{Sink, SinkFailed};
 
 #[tactic(auto, using(crate::proofs::Chars::digits))]

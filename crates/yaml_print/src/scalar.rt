@@ -16,7 +16,7 @@ use crate::pending::Pending;
 use crate::quoted::write_quoted;
 use crate::style::fits_literal;
 use itoa::Buffer;
-use yaml_scalar::fits_plain;
+use yaml_styles::fits_plain;
 use ytt_base::tree::{Key, Tree};
 use ytt_outside::sink::{Sink, SinkFailed};
 

@@ -1,9 +1,10 @@
 // The literal style: where it fits, and its lines.
 ghost use Rattle.std.specs.Prelude.{◌≡◌, ◌<◌, ◌∷◌, ◌&&◌, [], IfSome, MatchOption, chars, length, not, suc};
+ghost use Rattle.std.specs.List.{list_all};
 ghost use Rattle.yaml_spec.specs.Bytes.{first, is_white};
-ghost use Rattle.yaml_spec.specs.Text.{all_chars, are_trimmed, final_breaks, fits_literal, has_break, is_literal_char, last, literal_header, pieces};
+ghost use Rattle.yaml_spec.specs.Text.{are_trimmed, final_breaks, fits_literal, has_break, is_literal_char, last, literal_header, pieces};
 
-use yaml_scalar::is_shown;
+use yaml_styles::is_shown;
 use yaml_text::{first, is_white};
 
 fn is_literal_char(c: char) -> bool
@@ -13,12 +14,12 @@ fn is_literal_char(c: char) -> bool
 }
 
 fn all_literal(text: &str) -> bool
-    ensures { result ≡ all_chars is_literal_char (chars text.now) }
+    ensures { result ≡ list_all is_literal_char (chars text.now) }
 {
     text.chars().all(|c| is_literal_char(c))
 }
 
-#[tactic(auto, using(yaml_scalar::proofs::StyleTests::marks))]
+#[tactic(auto, using(yaml_styles::proofs::StyleTests::marks))]
 fn has_break(text: &str) -> bool
     ensures { result ≡ has_break text.now }
 {
@@ -34,7 +35,7 @@ pub fn split_at_break(text: &str) -> Option<(&str, &str)>
 }
 
 /// The last byte, or 0 where there is none.
-#[tactic(auto, using(yaml_scalar::proofs::StyleTests::lasts))]
+#[tactic(auto, using(yaml_styles::proofs::StyleTests::lasts))]
 fn last(text: &str) -> u8
     ensures { result ≡ last text.now }
 {

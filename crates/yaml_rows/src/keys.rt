@@ -12,7 +12,7 @@ use sqlite_items::Items;
 use std::alloc::Global;
 use yaml_flow::read_flow;
 use yaml_plain::{read_plain_key, split_plain, start_fault};
-use yaml_scalar::quote_on_line;
+use yaml_quotes::quote_on_line;
 use yaml_text::{Cursor, behind, first, is_gap, skip_white, starts_collection, starts_quote};
 use ytt_base::fault::{FaultKind, Place, Stop};
 use ytt_base::text::Memory;

@@ -6,10 +6,9 @@ ghost use Rattle.yaml_spec.specs.Openers.{starts_block};
 ghost use Rattle.yaml_spec.specs.Positions.{block_at, cursor_at};
 ghost use Rattle.yaml_scalar.specs.View.{quoted_of};
 
-use crate::blocks::read_lines;
-use crate::indent::least_under;
 use crate::position::{Quoted, cursor_at, read_up_to};
 use std::alloc::Global;
+use yaml_blocks::{least_under, read_lines};
 use ytt_base::fault::Stop;
 use ytt_base::line::Lines;
 
@@ -31,6 +30,7 @@ use ytt_base::line::Lines;
 /// Another header is YamlForm at its line. Without a digit, a line of spaces alone that is longer
 /// than the content indent and stands before the first content is YamlForm there. Want of memory
 /// is `Stop::Memory`.
+#[tactic(auto, using(crate::proofs::Cursors::openers))]
 pub fn read_block(
     alloc: Global,
     lines: &Lines,

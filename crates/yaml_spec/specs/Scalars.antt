@@ -1,9 +1,10 @@
 -- Plain scalars by their form: the first form that fits (YAML 1.2.2, 10.2.1 and 10.3.2, in this profile).
 use Rattle.std.specs.Prelude.{ℕ, zero, suc, ◌+◌, ◌*◌, ◌^◌, ℤ, pos, negsuc, Bool, true, false, not, ◌&&◌, ◌||◌, ◌==◌, nat_le, nat_lt, if◌then◌else◌, List, [], ◌∷◌, take, drop, codes, bytes_eq, Result, Ok, Err}
+use Rattle.std.specs.List.{list_all}
 use Rattle.ytt_base.specs.Trees.{Scalar, null, boolean, integer, string}
 use Rattle.ytt_base.specs.declared.fault.FaultKind.{FaultKind}
 use Rattle.ytt_base.specs.declared.fault.FaultKind.TheVariants as kind
-use Rattle.yaml_spec.specs.Bytes.{plus, dash, dot, first, is_empty, all_bytes, is_one_of, is_word, is_digit, is_octal_digit, is_hex_digit, digit_value, null_words, true_words, false_words, yes_words}
+use Rattle.yaml_spec.specs.Bytes.{plus, dash, dot, first, is_empty, is_one_of, is_word, is_digit, is_octal_digit, is_hex_digit, digit_value, null_words, true_words, false_words, yes_words}
 
 -- The forms of a plain scalar, in the order in which they are tried. A bad octal has a digit from 8 on behind its leading zero;
 -- a prefixed one has `0o` or `0x` and digits of this base; a word is one that YAML 1.1 reads as a bool.
@@ -36,7 +37,7 @@ unsigned t = if has_sign t then drop 1 t else t
 
 -- one or more bytes that pass the test
 abbrev pub some_of : (ℕ → Bool) → List ℕ → Bool
-some_of test t = not (is_empty t) && all_bytes test t
+some_of test t = not (is_empty t) && list_all test t
 
 -- `0` and one or more decimal digits
 abbrev pub has_leading_zero : List ℕ → Bool
@@ -71,7 +72,7 @@ form t =
     if is_word null_words t then null_form
     else if is_word true_words t then bool_form true
     else if is_word false_words t then bool_form false
-    else if has_leading_zero (unsigned t) && all_bytes is_octal_digit (unsigned t) then octal_form
+    else if has_leading_zero (unsigned t) && list_all is_octal_digit (unsigned t) then octal_form
     else if has_leading_zero (unsigned t) then bad_octal_form
     else if some_of is_digit (unsigned t) then integer_form
     else if has_prefix (codes "0o") is_octal_digit t then prefixed_form 8

@@ -1,12 +1,9 @@
-use Rattle.std.proofs.Common.{◌∙◌, sym, rules, chars}
+use Rattle.std.proofs.Common.{rules}
 use Rattle.std.proofs.lemmas.Iterator.{YieldsList-from_chars}
 use Rattle.std.proofs.lemmas.Iterator.Search.{all_from_yields_List}
 use borrow.Author.Tests.{tests}
 use Rattle.yaml_spec.specs.Text.{is_literal_char}
-use Rattle.yaml_scalar.proofs.StyleTests.{all_chars-list_all}
 use Rattle.yaml_print.proofs.style.all_literal.Goals as goal
 
 pub returns : goal.returns
-returns c =
-    all_from_yields_List is_literal_char _ _ _ c.all.ensures.ran (YieldsList-from_chars c.args.text.now c.utf8.text cc) (λ x b q k. search (rules, tests))
-    ∙ sym (all_chars-list_all is_literal_char (chars c.args.text.now))
+returns c = all_from_yields_List is_literal_char _ _ _ c.all.ensures.ran (YieldsList-from_chars c.args.text.now c.utf8.text cc) (λ x b q k. search (rules, tests))
