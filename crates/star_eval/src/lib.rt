@@ -9,6 +9,7 @@ mod end;
 mod eval;
 mod fill;
 mod list;
+mod members;
 mod node;
 mod numbers;
 mod operate;

@@ -1,41 +1,10 @@
 -- The documents of printed trees have no key twice, and none is null.
-use Rattle.std.proofs.Common.{◌≡◌, ℕ, pos, negsuc, Bool, true, false, ◌==◌, List, [], ◌∷◌, None, Ok, refl, sym, ◌∙◌, ap, subst}
-use Rattle.std.proofs.lemmas.Bool.{or_parts, ne_eqb, eqb-true, eqb-false, eq-eqb, or_from}
-use Rattle.ytt_laws.proofs.Lists.{bytes_eq-sym}
-use Rattle.ytt_base.specs.Trees.{Scalar, null, boolean, integer, string, same_key, has_key, keys, Trees, no_trees, tree, IsTree, AreTrees, ArePairs, Writable}
+use Rattle.std.proofs.Common.{◌≡◌, false, List, [], ◌∷◌, None, Ok, refl, sym, ◌∙◌, ap, subst}
+use Rattle.std.proofs.lemmas.Bool.{or_parts, or_from}
+use Rattle.ytt_laws.proofs.Keys.{same_key-sym}
+use Rattle.ytt_base.specs.Trees.{Scalar, same_key, has_key, keys, Trees, no_trees, tree, IsTree, AreTrees, ArePairs, Writable}
 use Rattle.yaml_spec.specs.Noted.{Content, noted_scalar, noted_list, noted_map, Items, no_items, item, Documents, key_of, bare_tree, bare_trees, bare_pairs, drop_null, twice, twice_below, twice_among}
 use Rattle.yaml_spec.specs.Read.{distinct}
-
-eqb-sym : (a b : ℕ) → (a == b) ≡ (b == a)
-eqb-sym a b = go (a == b) refl
-  where
-    go : (t : Bool) → (a == b) ≡ t → t ≡ (b == a)
-    go true e = rw (eqb-true a b e) (sym (eq-eqb b b refl))
-    go false e = sym (ne_eqb b a (λ p. eqb-false a b e (sym p)))
-
-pub same_key-sym : (a b : Scalar) → same_key a b ≡ same_key b a
-same_key-sym null null = refl
-same_key-sym (boolean true) (boolean true) = refl
-same_key-sym (boolean true) (boolean false) = refl
-same_key-sym (boolean false) (boolean true) = refl
-same_key-sym (boolean false) (boolean false) = refl
-same_key-sym (integer (pos m)) (integer (pos n)) = eqb-sym m n
-same_key-sym (integer (negsuc m)) (integer (negsuc n)) = eqb-sym m n
-same_key-sym (integer (pos m)) (integer (negsuc n)) = refl
-same_key-sym (integer (negsuc m)) (integer (pos n)) = refl
-same_key-sym (string a) (string b) = bytes_eq-sym a b
-same_key-sym null (boolean b) = refl
-same_key-sym null (integer b) = refl
-same_key-sym null (string b) = refl
-same_key-sym (boolean b) null = refl
-same_key-sym (boolean a) (integer b) = refl
-same_key-sym (boolean a) (string b) = refl
-same_key-sym (integer b) null = refl
-same_key-sym (integer a) (boolean b) = refl
-same_key-sym (integer a) (string b) = refl
-same_key-sym (string b) null = refl
-same_key-sym (string a) (boolean b) = refl
-same_key-sym (string a) (integer b) = refl
 
 -- none of these keys is among those
 unfoldable pub AllNew : List Scalar → List Scalar → Type 0

@@ -23,7 +23,8 @@ use Rattle.yaml_held.proofs.TextParts.{skip_utf8, utf8_marker}
 use Rattle.yaml_held.proofs.GoodParts.{AreGoodLines}
 use Rattle.yaml_held.proofs.Held.{Held, AreHeld}
 use Rattle.yaml_held.proofs.HeldRows.{IsGoodRow, AreGoodHeads, AreGoodRows, good_rows, GoodFound, good_content, good_doc}
-use Rattle.yaml_back.proofs.DistinctBack.{AllNew, same_key-sym}
+use Rattle.yaml_back.proofs.DistinctBack.{AllNew}
+use Rattle.ytt_laws.proofs.Keys.{same_key-sym}
 
 -- ---- lines
 
@@ -176,7 +177,7 @@ unfolding distinct
 distinct_held ds h = go (twice_below ds.items) refl
   where
     go : (o : Option Note) → twice_below ds.items ≡ o → IfOk (elim o as (λ _. Outcome Documents) [
-      | Some n ↦ Err (record { kind = kind.KeyTwice; place = n.place; detail = key_text (key_of n) })
+      | Some n ↦ Err (record { kind = kind.KeyTwice; place = Some n.place; detail = key_text (key_of n) })
       | None ↦ Ok ds
     ]) AreRead
     go None e = trees_held ds.items h e

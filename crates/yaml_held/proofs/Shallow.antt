@@ -244,7 +244,7 @@ unfolding distinct
 shallow_distinct ds h = go (twice_below ds.items)
   where
     go : (o : Option Note) → IfOk (elim o as (λ _. Outcome Documents) [
-      | Some n ↦ Err (record { kind = kind.KeyTwice; place = n.place; detail = key_text (key_of n) })
+      | Some n ↦ Err (record { kind = kind.KeyTwice; place = Some n.place; detail = key_text (key_of n) })
       | None ↦ Ok ds
     ]) DocumentsIn
     go None = h

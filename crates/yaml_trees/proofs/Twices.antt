@@ -6,8 +6,8 @@ use Rattle.yaml_noted.specs.declared.noted.NotedItem.{NotedItem}
 use Rattle.yaml_noted.specs.View.{content_of, items_of, note_of}
 use Rattle.yaml_noted.proofs.Views.{noted_of-item}
 use Rattle.yaml_spec.specs.Noted.{Content, Items, item, Note, key_of, or_else, twice, twice_among}
-use Rattle.yaml_trees.specs.declared.seen.Seen.{Seen}
-use Rattle.yaml_trees.specs.Seen.{is_seen}
+use Rattle.yaml_keys.specs.declared.seen.Seen.{Seen}
+use Rattle.yaml_keys.specs.Seen.{is_seen}
 
 -- the items that are left give what all give, beside the keys that were seen
 pub record IsPassed (seen : Seen) (left all : Items) : Type 0 where

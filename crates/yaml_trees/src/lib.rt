@@ -2,7 +2,6 @@
 #![tactic(auto)]
 
 mod code;
-mod seen;
 mod trees;
 mod twice;
 
