@@ -4,3 +4,4 @@ pub mod Endings
 pub mod Found
 pub mod Headline
 pub mod Rendering
+pub mod Seen

@@ -1,10 +1,8 @@
 // The run of the program.
-ghost use Rattle.std.specs.Prelude.{◌≡◌, ◌≢◌, IfSome, map, string_bytes};
-ghost use Rattle.ytt_outside.specs.Counts.{NoneRose};
-ghost use Rattle.star_spec.specs.Reading.{IsReader, Reader};
-ghost use Rattle.ytt_spec.specs.Due.{due};
-ghost use Rattle.ytt_main.specs.Endings.{IsDone, IsFault, IsMemory, IsReadFault, IsUsage, IsWriteFault, sink};
-ghost use Rattle.ytt_main.specs.Headline.{IsWhole, Meets};
+ghost use Rattle.std.specs.Prelude.{◌≡◌, ◌≢◌, map, string_bytes};
+ghost use Rattle.ytt_main.specs.Endings.{Ends};
+ghost use Rattle.ytt_main.specs.Headline.{GivesDue, IsWhole};
+ghost use Rattle.ytt_main.specs.Seen.{seen_files, seen_sink};
 
 use crate::answer::{Answer, answer_words};
 use std::alloc::Global;
@@ -51,22 +49,11 @@ pub fn ytt_main<F: Files, O: Sink, E: Sink>(
     err: &mut E,
 ) -> Status
     // Where nothing failed and there was room, the status and all bytes are those that are due.
-    ensures headline { (r : Reader) → IsReader r → IfSome (F.tree files.old) (λ tree. NoneRose (F.faults files.old) (F.faults files.new) → NoneRose (O.faults out.old) (O.faults out.new)
-        → NoneRose (E.faults err.old) (E.faults err.new) → result ≢ Status.Memory
-        → Meets (due r (map string_bytes words.now) tree) result (O.held out.old) (O.held out.new) (E.held err.old) (E.held err.new)) }
+    ensures headline { GivesDue result (map string_bytes words.now) (seen_files F.tree F.faults files.old files.new)
+        (seen_sink O.held O.faults out.old out.new) (seen_sink E.held E.faults err.old err.new) }
     // Each ending has its cause and shows it, also where contents aren't told.
-    ensures done { result ≡ Status.Done → IsDone (map string_bytes words.now) (F.tree files.old) (F.faults files.old) (F.faults files.new)
-        (sink (O.held out.old) (O.held out.new) (O.faults out.old) (O.faults out.new)) (sink (E.held err.old) (E.held err.new) (E.faults err.old) (E.faults err.new)) }
-    ensures fault { result ≡ Status.Fault → IsFault (map string_bytes words.now) (F.tree files.old) (F.faults files.old) (F.faults files.new)
-        (sink (O.held out.old) (O.held out.new) (O.faults out.old) (O.faults out.new)) (sink (E.held err.old) (E.held err.new) (E.faults err.old) (E.faults err.new)) }
-    ensures usage { result ≡ Status.Usage → IsUsage (map string_bytes words.now) (F.faults files.old) (F.faults files.new)
-        (sink (O.held out.old) (O.held out.new) (O.faults out.old) (O.faults out.new)) (sink (E.held err.old) (E.held err.new) (E.faults err.old) (E.faults err.new)) }
-    ensures read_fault { result ≡ Status.ReadFault → IsReadFault (map string_bytes words.now) (F.faults files.old) (F.faults files.new)
-        (sink (O.held out.old) (O.held out.new) (O.faults out.old) (O.faults out.new)) (sink (E.held err.old) (E.held err.new) (E.faults err.old) (E.faults err.new)) }
-    ensures write_fault { result ≡ Status.WriteFault → IsWriteFault (map string_bytes words.now) (F.tree files.old) (F.faults files.old) (F.faults files.new)
-        (sink (O.held out.old) (O.held out.new) (O.faults out.old) (O.faults out.new)) (sink (E.held err.old) (E.held err.new) (E.faults err.old) (E.faults err.new)) }
-    ensures memory { result ≡ Status.Memory → IsMemory
-        (sink (O.held out.old) (O.held out.new) (O.faults out.old) (O.faults out.new)) (sink (E.held err.old) (E.held err.new) (E.faults err.old) (E.faults err.new)) }
+    ensures ending { Ends result (map string_bytes words.now) (seen_files F.tree F.faults files.old files.new)
+        (seen_sink O.held O.faults out.old out.new) (seen_sink E.held E.faults err.old err.new) }
 
     // So only documents are written to `out`, and no failure is passed over.
     ensures out_unchanged { result ≢ Status.Done → result ≢ Status.WriteFault → O.held out.new ≡ O.held out.old }

@@ -38,10 +38,10 @@ same word other h = (bytes_eq-Decides word other).0 h
 -- what holds of all options holds of the one of this name
 pub named_holds : (test : CommandOption → Bool) (name : List ℕ) (os : List CommandOption) (o : CommandOption) → named name os ≡ Some o → list_all test os ≡ true → (test o ≡ true) × (o.name ≡ name)
 named_holds test name [] o h all = cc
-named_holds test name (p ∷ ps) o h all = by (bytes_eq p.name name) refl (λ k. named_holds test name ps o k (second_so (test p) (list_all test ps) all)) h
+named_holds test name (p ∷ ps) o h all = by (bytes_eq name p.name) refl (λ k. named_holds test name ps o k (second_so (test p) (list_all test ps) all)) h
   where
-    by : (b : Bool) → bytes_eq p.name name ≡ b → (named name ps ≡ Some o → (test o ≡ true) × (o.name ≡ name)) → cond b (Some p) (named name ps) ≡ Some o → (test o ≡ true) × (o.name ≡ name)
-    by true e others k = let is : p ≡ o = cc in (subst (λ (x : CommandOption). test x ≡ true) is (first_so (test p) (list_all test ps) all), subst (λ (x : CommandOption). x.name ≡ name) is (same p.name name e))
+    by : (b : Bool) → bytes_eq name p.name ≡ b → (named name ps ≡ Some o → (test o ≡ true) × (o.name ≡ name)) → cond b (Some p) (named name ps) ≡ Some o → (test o ≡ true) × (o.name ≡ name)
+    by true e others k = let is : p ≡ o = cc in (subst (λ (x : CommandOption). test x ≡ true) is (first_so (test p) (list_all test ps) all), subst (λ (x : CommandOption). x.name ≡ name) is (sym (same name p.name e)))
     by false e others k = others k
 
 -- no option's name holds `=`
@@ -62,31 +62,29 @@ pub record MayStand (gs : List Given) (name : List ℕ) (value : Option (List �
   pub joined : (o.is_long || is_none value) ≡ true
   pub follows : may_follow o.often (values_of name gs) ≡ true
 
-abbrev stands : List Given → List ℕ → CommandOption → Bool
-stands gs word p = (p.is_long || is_none (value_in word)) && may_follow p.often (values_of (name_in word) gs)
+abbrev stands : List Given → List ℕ → Option (List ℕ) → CommandOption → Bool
+stands gs name value p = (p.is_long || is_none value) && may_follow p.often (values_of name gs)
 
-by_stands : (gs : List Given) (word : List ℕ) (p o : CommandOption) (b : Bool) → named (name_in word) command_options ≡ Some p → stands gs word p ≡ b → cond b (Some p) None ≡ Some o → MayStand gs (name_in word) (value_in word) o
-by_stands gs word p o true e t j =
+by_stands : (gs : List Given) (name : List ℕ) (value : Option (List ℕ)) (p o : CommandOption) (b : Bool) → named name command_options ≡ Some p → stands gs name value p ≡ b → cond b (Some p) None ≡ Some o → MayStand gs name value o
+by_stands gs name value p o true e t j =
     let is : p ≡ o = cc in
-    let joined = first_so (p.is_long || is_none (value_in word)) (may_follow p.often (values_of (name_in word) gs)) t in
-    let follows = second_so (p.is_long || is_none (value_in word)) (may_follow p.often (values_of (name_in word) gs)) t in
-    subst (MayStand gs (name_in word) (value_in word)) is (record { found = e; joined = joined; follows = follows })
-by_stands gs word p o false e t j = cc
+    let joined = first_so (p.is_long || is_none value) (may_follow p.often (values_of name gs)) t in
+    let follows = second_so (p.is_long || is_none value) (may_follow p.often (values_of name gs)) t in
+    subst (MayStand gs name value) is (record { found = e; joined = joined; follows = follows })
+by_stands gs name value p o false e t j = cc
 
-by_named : (gs : List Given) (word : List ℕ) (o : CommandOption) (r : Option CommandOption) → named (name_in word) command_options ≡ r → option_and_then (λ p. cond (stands gs word p) (Some p) None) r ≡ Some o
-    → MayStand gs (name_in word) (value_in word) o
-by_named gs word o None e k = cc
-by_named gs word o (Some p) e k = by_stands gs word p o (stands gs word p) e refl k
+by_named : (gs : List Given) (name : List ℕ) (value : Option (List ℕ)) (o : CommandOption) (r : Option CommandOption) → named name command_options ≡ r → option_and_then (λ p. cond (stands gs name value p) (Some p) None) r ≡ Some o
+    → MayStand gs name value o
+by_named gs name value o None e k = cc
+by_named gs name value o (Some p) e k = by_stands gs name value p o (stands gs name value p) e refl k
 
-pub begun_stands : (gs : List Given) (word : List ℕ) (o : CommandOption) → begun gs word ≡ Some o → MayStand gs (name_in word) (value_in word) o
-begun_stands gs word o h = by_named gs word o (named (name_in word) command_options) refl h
+pub begun_stands : (gs : List Given) (name : List ℕ) (value : Option (List ℕ)) (o : CommandOption) → begun gs name value ≡ Some o → MayStand gs name value o
+begun_stands gs name value o h = by_named gs name value o (named name command_options) refl h
 
 -- and the other way round
-pub stands_begun : (gs : List Given) (word name : List ℕ) (value : Option (List ℕ)) (o : CommandOption) → name_in word ≡ name → value_in word ≡ value → MayStand gs name value o → begun gs word ≡ Some o
-stands_begun gs word name value o n v m =
-    (λ i. option_and_then (λ p. cond ((p.is_long || is_none (v i)) && may_follow p.often (values_of (n i) gs)) (Some p) None) (named (n i) command_options))
-    ∙ ap (option_and_then (λ p. cond ((p.is_long || is_none value) && may_follow p.often (values_of name gs)) (Some p) None)) m.found
-    ∙ (λ i. cond (m.joined i && m.follows i) (Some o) None)
+pub stands_begun : (gs : List Given) (name : List ℕ) (value : Option (List ℕ)) (o : CommandOption) → MayStand gs name value o → begun gs name value ≡ Some o
+stands_begun gs name value o m =
+    ap (option_and_then (λ p. cond ((p.is_long || is_none value) && may_follow p.often (values_of name gs)) (Some p) None)) m.found ∙ (λ i. cond (m.joined i && m.follows i) (Some o) None)
 
 -- ---- what is read next
 
@@ -96,8 +94,8 @@ next n gs name words None v = wrong n
 next n gs name words (Some o) (Some value) = cond (o.is_value value) (asked_from (n + 1) (added gs name value true) words) (wrong n)
 next n gs name words (Some o) None = asked_value (n + 1) gs o name words
 
-pub asked_next : (n : ℕ) (gs : List Given) (word : List ℕ) (words : List (List ℕ)) → asked_from n gs (word ∷ words) ≡ next n gs (name_in word) words (begun gs word) (value_in word)
-asked_next n gs word words = by (begun gs word) (value_in word)
+pub asked_next : (n : ℕ) (gs : List Given) (word : List ℕ) (words : List (List ℕ)) → asked_from n gs (word ∷ words) ≡ next n gs (name_in word) words (begun gs (name_in word) (value_in word)) (value_in word)
+asked_next n gs word words = by (begun gs (name_in word) (value_in word)) (value_in word)
   where
     by : (o : Option CommandOption) (v : Option (List ℕ)) → elim o [ None ↦ wrong n | Some p ↦ elim v [ Some value ↦ cond (p.is_value value) (asked_from (n + 1) (added gs (name_in word) value true) words) (wrong n) | None ↦ asked_value (n + 1) gs p (name_in word) words ] ] ≡ next n gs (name_in word) words o v
     by None v = refl

@@ -59,16 +59,16 @@ by_value n gs o word value words p s true m v read h e =
     one_more gs (given (name_in word) value true) (word ∷ words) words p s (ap (λ w. w ∷ words) (sym (cut_back word value v))) (good_given (name_in word) value true o m.found m.joined h) (read e)
 by_value n gs o word value words p s false m v read h e = cc
 
-by_next : (n : ℕ) (gs : List Given) (word : List ℕ) (words : List (List ℕ)) (p : List ℕ) (s : ℕ) (o : Option CommandOption) (v : Option (List ℕ)) → begun gs word ≡ o → value_in word ≡ v
+by_next : (n : ℕ) (gs : List Given) (word : List ℕ) (words : List (List ℕ)) (p : List ℕ) (s : ℕ) (o : Option CommandOption) (v : Option (List ℕ)) → begun gs (name_in word) (value_in word) ≡ o → value_in word ≡ v
     → ((value : List ℕ) → asked_from (n + 1) (added gs (name_in word) value true) words ≡ render p s → Rest (added gs (name_in word) value true) words p s)
     → ((q : CommandOption) → asked_value (n + 1) gs q (name_in word) words ≡ render p s → AtValue gs q (name_in word) words p s)
     → next n gs (name_in word) words o v ≡ render p s → Rest gs (word ∷ words) p s
 by_next n gs word words p s None v b w read read_value e = cc
 by_next n gs word words p s (Some o) (Some value) b w read read_value e =
-    let m = begun_stands gs word o b in
+    let m = begun_stands gs (name_in word) (value_in word) o b in
     by_value n gs o word value words p s (o.is_value value) (record { found = m.found; joined = ap (λ x. o.is_long || is_none x) (sym w) ∙ m.joined; follows = m.follows }) w (read value) refl e
 by_next n gs word words p s (Some o) None b w read read_value e =
-    let m = begun_stands gs word o b in
+    let m = begun_stands gs (name_in word) (value_in word) o b in
     let at = read_value o e in
     one_more gs (given (name_in word) at.value false) (word ∷ words) at.words_behind p s (λ i. sym (cut_whole word w) i ∷ at.words_are i) (good_given (name_in word) at.value false o m.found (or_true o.is_long) at.good) at.after
   where
@@ -86,7 +86,7 @@ mutual
   pub read_from : (n : ℕ) (gs : List Given) (words : List (List ℕ)) (p : List ℕ) (s : ℕ) → asked_from n gs words ≡ render p s → Rest gs words p s
   read_from n gs [] p s e = no_more n gs p s (are_all_given gs) refl e
   read_from n gs (word ∷ words) p s e =
-      by_next n gs word words p s (begun gs word) (value_in word) refl refl (λ value. read_from (n + 1) (added gs (name_in word) value true) words p s) (λ o. read_value (n + 1) gs o (name_in word) words p s) (sym (asked_next n gs word words) ∙ e)
+      by_next n gs word words p s (begun gs (name_in word) (value_in word)) (value_in word) refl refl (λ value. read_from (n + 1) (added gs (name_in word) value true) words p s) (λ o. read_value (n + 1) gs o (name_in word) words p s) (sym (asked_next n gs word words) ∙ e)
 
   read_value : (n : ℕ) (gs : List Given) (o : CommandOption) (name : List ℕ) (words : List (List ℕ)) (p : List ℕ) (s : ℕ) → asked_value n gs o name words ≡ render p s → AtValue gs o name words p s
   read_value n gs o name [] p s e = cc
@@ -141,20 +141,22 @@ request_next : (n : ℕ) (gs : List Given) (name value : List ℕ) (is_joined : 
 request_next n gs name value true more good all read =
     let at = is_next gs name value true more good all in
     let cut = cut_joined name value (no_equals name at.option at.found) in
-    let starts = stands_begun gs (name ++ equals ∷ value) name (Some value) at.option cut.0 cut.1 (record { found = at.found; joined = at.joined; follows = at.follows }) in
+    let starts = stands_begun gs name (Some value) at.option (record { found = at.found; joined = at.joined; follows = at.follows }) in
     let assoc = append_assoc gs (given name value true ∷ []) more in
     asked_next n gs (name ++ equals ∷ value) (spelled more)
-    ∙ (λ i. next n gs (cut.0 i) (spelled more) (starts i) (cut.1 i))
+    ∙ (λ i. next n gs (cut.0 i) (spelled more) (begun gs (cut.0 i) (cut.1 i)) (cut.1 i))
+    ∙ ap (λ o. next n gs name (spelled more) o (Some value)) starts
     ∙ ap (λ b. cond b (asked_from (n + 1) (added gs name value true) (spelled more)) (wrong n)) at.good
     ∙ read (n + 1) (added gs name value true) (ap are_all_given assoc ∙ all)
     ∙ ap asks assoc
 request_next n gs name value false more good all read =
     let at = is_next gs name value false more good all in
     let whole = no_equals name at.option at.found in
-    let starts = stands_begun gs name name None at.option (cut_whole name whole) whole (record { found = at.found; joined = at.joined; follows = at.follows }) in
+    let starts = stands_begun gs name None at.option (record { found = at.found; joined = at.joined; follows = at.follows }) in
     let assoc = append_assoc gs (given name value false ∷ []) more in
     asked_next n gs name (value ∷ spelled more)
-    ∙ (λ i. next n gs (cut_whole name whole i) (value ∷ spelled more) (starts i) (whole i))
+    ∙ (λ i. next n gs (cut_whole name whole i) (value ∷ spelled more) (begun gs (cut_whole name whole i) (whole i)) (whole i))
+    ∙ ap (λ o. next n gs name (value ∷ spelled more) o None) starts
     ∙ ap (λ b. cond b (asked_from (n + 1 + 1) (added gs name value false) (spelled more)) (wrong (n + 1))) at.good
     ∙ read (n + 1 + 1) (added gs name value false) (ap are_all_given assoc ∙ all)
     ∙ ap asks assoc

@@ -114,7 +114,7 @@ completes n gs w = by (values_of file_option.name gs) refl (w file_option.name)
     steps_done = steps_fit (values_of steps_option.name gs) (w steps_option.name)
     by : (vs : List (List ℕ)) → values_of file_option.name gs ≡ vs → may_begin exactly_once vs ≡ true → Completes (asked_from n gs)
     by [] e h =
-        let starts = stands_begun gs file_option.name file_option.name None file_option refl refl (record { found = refl; joined = refl; follows = ap (may_follow exactly_once) e }) in
+        let starts = stands_begun gs file_option.name None file_option (record { found = refl; joined = refl; follows = ap (may_follow exactly_once) e }) in
         let all = added gs file_option.name (codes "a") false in
         let paths : values_of file_option.name all ≡ codes "a" ∷ [] = values_of-append file_option.name gs _ ∙ ap (λ vs. vs ++ (codes "a" ∷ [])) e in
         let numbers : values_of steps_option.name all ≡ values_of steps_option.name gs = values_of-append steps_option.name gs _ ∙ append-nil (values_of steps_option.name gs) in
@@ -130,7 +130,7 @@ completes n gs w = by (values_of file_option.name gs) refl (w file_option.name)
 
 -- each option has a value
 sample : (name : List ℕ) (o : CommandOption) → named name command_options ≡ Some o → (value : List ℕ) × (o.is_value value ≡ true)
-sample name o h = by (bytes_eq file_option.name name) (bytes_eq steps_option.name name) h
+sample name o h = by (bytes_eq name file_option.name) (bytes_eq name steps_option.name) h
   where
     by : (a b : Bool) → cond a (Some file_option) (cond b (Some steps_option) None) ≡ Some o → (value : List ℕ) × (o.is_value value ≡ true)
     by true b e = let is : file_option ≡ o = cc in (codes "a", ap (λ (x : CommandOption). x.is_value (codes "a")) (sym is))
@@ -154,7 +154,7 @@ refused_here : (read : List (List ℕ) → Asked) (n : ℕ) (word : List ℕ) (w
 refused_here read n word words m c is refused =
     stops_here read n (word ∷ words) m c is (λ w ws f others. let same_word : w ≡ word = cc in ap (λ v. read (v ∷ others)) same_word ∙ refused others ∙ ap wrong (sym is))
 
-by_value : (n : ℕ) (gs : List Given) (o : CommandOption) (word value : List ℕ) (words : List (List ℕ)) (m : ℕ) (b : Bool) → Within gs → begun gs word ≡ Some o → value_in word ≡ Some value
+by_value : (n : ℕ) (gs : List Given) (o : CommandOption) (word value : List ℕ) (words : List (List ℕ)) (m : ℕ) (b : Bool) → Within gs → begun gs (name_in word) (value_in word) ≡ Some o → value_in word ≡ Some value
     → (asked_from (n + 1) (added gs (name_in word) value true) words ≡ wrong m → Stops (asked_from (n + 1) (added gs (name_in word) value true)) (n + 1) words m)
     → o.is_value value ≡ b → cond b (asked_from (n + 1) (added gs (name_in word) value true) words) (wrong n) ≡ wrong m → Stops (asked_from n gs) n (word ∷ words) m
 by_value n gs o word value words m true w starts v read h e =
@@ -165,7 +165,7 @@ by_value n gs o word value words m false w starts v read h e =
     refused_here (asked_from n gs) n word words m (completes n gs w) is
     (λ others. asked_next n gs word others ∙ (λ i. next n gs (name_in word) others (starts i) (v i)) ∙ ap (λ t. cond t (asked_from (n + 1) (added gs (name_in word) value true) others) (wrong n)) h)
 
-by_next : (n : ℕ) (gs : List Given) (word : List ℕ) (words : List (List ℕ)) (m : ℕ) (o : Option CommandOption) (v : Option (List ℕ)) → Within gs → begun gs word ≡ o → value_in word ≡ v
+by_next : (n : ℕ) (gs : List Given) (word : List ℕ) (words : List (List ℕ)) (m : ℕ) (o : Option CommandOption) (v : Option (List ℕ)) → Within gs → begun gs (name_in word) (value_in word) ≡ o → value_in word ≡ v
     → ((value : List ℕ) → Within (added gs (name_in word) value true) → asked_from (n + 1) (added gs (name_in word) value true) words ≡ wrong m → Stops (asked_from (n + 1) (added gs (name_in word) value true)) (n + 1) words m)
     → ((q : CommandOption) → named (name_in word) command_options ≡ Some q → may_follow q.often (values_of (name_in word) gs) ≡ true → asked_value (n + 1) gs q (name_in word) words ≡ wrong m
       → Stops (asked_value (n + 1) gs q (name_in word)) (n + 1) words m)
@@ -174,10 +174,10 @@ by_next n gs word words m None v w starts cut read read_value e =
     let is : m ≡ n = cc in
     refused_here (asked_from n gs) n word words m (completes n gs w) is (λ others. asked_next n gs word others ∙ ap (λ o. next n gs (name_in word) others o (value_in word)) starts)
 by_next n gs word words m (Some o) (Some value) w starts cut read read_value e =
-    let at = begun_stands gs word o starts in
+    let at = begun_stands gs (name_in word) (value_in word) o starts in
     by_value n gs o word value words m (o.is_value value) w starts cut (read value (added_within gs (name_in word) value true o w at.found at.follows)) refl e
 by_next n gs word words m (Some o) None w starts cut read read_value e =
-    let at = begun_stands gs word o starts in
+    let at = begun_stands gs (name_in word) (value_in word) o starts in
     one_read (asked_from n gs) (asked_value (n + 1) gs o (name_in word)) n word words m (λ others. asked_next n gs word others ∙ (λ i. next n gs (name_in word) others (starts i) (cut i))) (read_value o at.found at.follows e)
 
 at_value : (n : ℕ) (gs : List Given) (o : CommandOption) (name value : List ℕ) (words : List (List ℕ)) (m : ℕ) (b : Bool) → Completes (asked_value n gs o name)
@@ -197,7 +197,7 @@ mutual
   options_stop : (n : ℕ) (gs : List Given) (words : List (List ℕ)) (m : ℕ) → Within gs → asked_from n gs words ≡ wrong m → Stops (asked_from n gs) n words m
   options_stop n gs [] m w e = no_more n gs m (are_all_given gs) w e
   options_stop n gs (word ∷ words) m w e =
-      by_next n gs word words m (begun gs word) (value_in word) w refl refl (λ value. options_stop (n + 1) (added gs (name_in word) value true) words m) (λ o found follows. value_stops (n + 1) gs o (name_in word) words m w found follows)
+      by_next n gs word words m (begun gs (name_in word) (value_in word)) (value_in word) w refl refl (λ value. options_stop (n + 1) (added gs (name_in word) value true) words m) (λ o found follows. value_stops (n + 1) gs o (name_in word) words m w found follows)
       (sym (asked_next n gs word words) ∙ e)
 
   value_stops : (n : ℕ) (gs : List Given) (o : CommandOption) (name : List ℕ) (words : List (List ℕ)) (m : ℕ) → Within gs → named name command_options ≡ Some o → may_follow o.often (values_of name gs) ≡ true

@@ -61,7 +61,7 @@ command_options = file_option ∷ steps_option ∷ []
 -- the option of this name
 abbrev pub named : List ℕ → List CommandOption → Option CommandOption
 named name [] = None
-named name (o ∷ os) = if bytes_eq o.name name then Some o else named name os
+named name (o ∷ os) = if bytes_eq name o.name then Some o else named name os
 
 -- an option that stands in the words: its name and value, and whether these are one word
 pub record Given : Type 0 where
@@ -116,10 +116,9 @@ abbrev pub value_in : List ℕ → Option (List ℕ)
 value_in [] = None
 value_in (b ∷ bs) = if b == equals then Some bs else value_in bs
 
--- the option that a word begins, where it may stand behind those that are given
-abbrev pub begun : List Given → List ℕ → Option CommandOption
-begun gs word =
-    option_and_then (λ o. if (o.is_long || is_none (value_in word)) && may_follow o.often (values_of (name_in word) gs) then Some o else None) (named (name_in word) command_options)
+-- the option that a word begins by its name, where it may stand behind those that are given: a value in the same word needs a long one
+abbrev pub begun : List Given → (name : List ℕ) → (value : Option (List ℕ)) → Option CommandOption
+begun gs name value = option_and_then (λ o. if (o.is_long || is_none value) && may_follow o.often (values_of name gs) then Some o else None) (named name command_options)
 
 abbrev pub added : List Given → List ℕ → List ℕ → Bool → List Given
 added gs name value is_joined = gs ++ record { name = name; value = value; is_joined = is_joined } ∷ []
@@ -129,7 +128,7 @@ abbrev mutual
   pub asked_from : ℕ → List Given → List (List ℕ) → Asked
   asked_from n gs [] = if are_all_given gs then render (path_given gs) (steps_given gs) else wrong n
   asked_from n gs (word ∷ words) =
-      elim (begun gs word) [
+      elim (begun gs (name_in word) (value_in word)) [
         | None ↦ wrong n
         | Some o ↦ elim (value_in word) [
           | Some value ↦ if o.is_value value then asked_from (n + 1) (added gs (name_in word) value true) words else wrong n
