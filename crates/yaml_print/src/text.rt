@@ -45,6 +45,9 @@ impl Sink for Growing {
     ghost faults = { faults_in };
 
     fn write_piece(&mut self, piece: &[u8]) -> Result<(), SinkFailed> {
+        if piece.is_empty() {
+            return Ok(());
+        }
         match self.bytes.extend_from_slice(piece) {
             Ok(()) => Ok(()),
             Err(_) => {

@@ -5,3 +5,4 @@ pub mod Found
 pub mod Headline
 pub mod Rendering
 pub mod Seen
+pub mod Status

@@ -10,7 +10,7 @@ use yaml_print::print_to;
 use ytt_outside::files::Files;
 use ytt_outside::sink::Sink;
 
-/// How a run ended. The program's exit statuses are 0 to 5, in this order.
+/// How a run ended.
 #[derive(Clone, Copy, Debug, PartialEq, Eq)]
 pub enum Status {
     /// The documents are written.
@@ -25,6 +25,26 @@ pub enum Status {
     WriteFault,
     /// There was no room.
     Memory,
+}
+
+impl Status {
+    ghost use Rattle.std.specs.Prelude.{◌≡◌};
+    ghost use Rattle.ytt_main.specs.Status.{code_of};
+
+    /// The exit status with which the program ends: 0 for Done, and 1 to 5 for the others in their
+    /// order.
+    pub fn code(self) -> u8
+        ensures { result ≡ code_of self }
+    {
+        match self {
+            Status::Done => 0,
+            Status::Fault => 1,
+            Status::Usage => 2,
+            Status::ReadFault => 3,
+            Status::WriteFault => 4,
+            Status::Memory => 5,
+        }
+    }
 }
 
 /// All that the program does: it reads the words, which are the command line without the program's

@@ -26,3 +26,8 @@ pub front_appended : {E : Type 0} (a b c : Option (List ℕ)) (piece done rest :
     → (n : ℕ) × Appends a c (take n piece)
 front_appended a b c piece done rest (Ok n) e p q = (length done + n, subst (Appends a c) (sym (ap (take (length done + n)) e ∙ take-append-add done rest n)) (appends_more a b c done (take n rest) p q))
 front_appended a b c piece done rest (Err x) e p q = (length done, subst (Appends a c) (sym (ap (take (length done)) e ∙ take-append_seam done rest)) (appends_kept a b c done p q))
+
+-- of nothing no rest is left
+pub none_left : (done rest : List ℕ) → done ++ rest ≡ [] → length rest ≡ 0
+none_left [] rest e = ap length e
+none_left (b ∷ bs) rest e = cc

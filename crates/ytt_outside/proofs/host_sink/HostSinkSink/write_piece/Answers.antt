@@ -15,3 +15,9 @@ returns-in_default-clause-passes g c =
     let (counted, started) = c.loop-rest.invariant in
     let (done, split, appended) = started in
     front_appended _ _ _ _ done c.loop-rest.rest.now c.write.result split appended c.write.ensures.bytes
+
+pub returns-in_default-clause-empty : goal.returns-in_default-clause-empty
+returns-in_default-clause-empty g c = λ h.
+    let (counted, started) = c.loop-rest.invariant in
+    let (done, split, appended) = started in
+    absurd (none_left done c.loop-rest.rest.now (sym split ∙ h) ?)
