@@ -4,6 +4,7 @@
 pub mod files;
 pub mod host_files;
 pub mod host_sink;
+pub mod host_words;
 pub mod mem_files;
 pub mod mem_sink;
 mod names;

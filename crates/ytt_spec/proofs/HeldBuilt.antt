@@ -31,7 +31,7 @@ use Rattle.template_spec.specs.Take.{children_pairs, take_over}
 use Rattle.template_spec.specs.Template.{no_notes, no_key, written_key, Item, node, Items, no_items, an_item, Content, written_value, value_from, pairs, elements, is_void}
 use Rattle.ytt_outside.specs.Standing.{Standing, nothing, file, folder}
 use Rattle.ytt_spec.specs.Meaning as meant
-use Rattle.ytt_spec.specs.Meaning.{default_depth, documents_meaning, is_template, largest_file, last_part, meaning, outcome_of, started, text_meaning}
+use Rattle.ytt_spec.specs.Meaning.{default_depth, documents_meaning, gives_documents, largest_file, last_part, meaning, outcome_of, started, text_meaning}
 use Rattle.ytt_spec.proofs.HeldChildren.{IsLeaf, AreLeafPairs, IsAdded, added, leaf_pairs, leaf_pairs-depth}
 use Rattle.ytt_spec.proofs.HeldTemplates.{AreHeldDocuments, AreHeldPairs, IsHeldContent, IsHeldDocument, IsHeldPair, template_held}
 use Rattle.std.specs.Result.{IfOk}
@@ -205,7 +205,7 @@ path_holds : (r : Reader) → IsReader r → (path : List ℕ) (steps : ℕ) (st
 path_holds r reads path steps nothing = tt
 path_holds r reads path steps (folder names) = tt
 path_holds r reads path steps (file bytes) =
-    yielded_if AreWritten (not (is_template (last_part path))) _ _ (λ h. tt)
+    yielded_if AreWritten (not (gives_documents (last_part path))) _ _ (λ h. tt)
     (λ h. yielded_if AreWritten (nat_lt largest_file (length bytes)) _ (text_meaning r steps bytes) (λ k. tt) (λ k. text_holds r reads steps bytes))
 
 -- the documents of a text

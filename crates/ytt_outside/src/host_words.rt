@@ -1,11 +1,15 @@
-// The words of the command line.
+// The words of the machine's command line.
+ghost use Rattle.std.specs.Prelude.{◌≡◌, [], IsUtf8, string_bytes};
 
 use std::alloc::{AllocError, Global};
 use std::env::FillError;
 use std::rt::Env;
 
 /// The bytes as text, or an empty text where they are no UTF-8.
-fn text_or_empty(alloc: Global, bytes: Vec<u8>) -> String {
+fn text_or_empty(alloc: Global, bytes: Vec<u8>) -> String
+    ensures text { IsUtf8 bytes.items → string_bytes result ≡ bytes.items }
+    ensures other { (IsUtf8 bytes.items → ⊥) → string_bytes result ≡ [] }
+{
     match String::from_utf8(bytes) {
         Ok(text) => text,
         Err(_) => String::new(alloc),
@@ -29,8 +33,10 @@ fn read_word(alloc: Global, env: &impl Env, number: usize) -> Result<Option<Stri
     Err(AllocError)
 }
 
-/// The words behind the program's name. A word that is no UTF-8 stands as an empty one, which no
-/// request has.
+/// The words behind the program's name, which is word 0, in their order. A word that is no UTF-8
+/// stands as an empty one, which no request has. Its only error is want of memory.
+///
+/// What an `Env` holds isn't told, so no clause says which words these are.
 pub fn read_words(alloc: Global, env: &impl Env) -> Result<Vec<String>, AllocError> {
     let mut words = Vec::new(alloc);
     for number in 1..usize::MAX {
