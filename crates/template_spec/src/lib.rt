@@ -1,4 +1,8 @@
 //! The definitions of templates and of their two meanings, and the law between them. They stand in `specs/`.
+//!
+//! A compiled template runs as it is built: with the same children or the same fault, the same steps left, and the same store
+//! and host, for every state and every host, where in the template and in those of the other files no `break`, `continue` or
+//! `return` leaves a node (`Placed`), in a scope (`scopes`) and for a whole file (`files`) of `compiled_runs_as_built`.
 #![tactic(auto)]
 
 ghost use Rattle.std.specs.Prelude.{ℕ};

@@ -1,3 +1,4 @@
-//! The definitions of the YAML profile: lines, scalars, collections, documents, and the text of documents. They stand in
-//! `specs/`; `proofs/Examples` computes what they give for over a hundred texts.
+//! The definitions of the YAML profile, with the sections of YAML 1.2.2 that they restate. They stand in `specs/`; a list of the
+//! modules is in `docs/yaml.md`. One law of its own: the decimal text of an integer of 128 bits is typed as an integer and reads
+//! as it (`proofs/IntegersBack`).
 #![tactic(auto)]
