@@ -23,4 +23,4 @@ position_of x [] = None
 position_of x (i ∷ is) = here_or (keys_equal (in_scalar_key i.key) x) (position_of x is)
 
 abbrev pub fault_with : FaultKind → Place → (detail : List ℕ) → Fault
-fault_with kind place detail = record { kind = kind; place = place; detail = detail }
+fault_with kind place detail = record { kind = kind; place = Some place; detail = detail }

@@ -64,7 +64,7 @@ fn key_twice(alloc: Global, place: Place, key: &Option<Key>) -> Result<Stop, Mem
     };
     Ok(Stop::Fault(Fault {
         kind: FaultKind::KeyTwice,
-        place,
+        place: Some(place),
         detail,
     }))
 }

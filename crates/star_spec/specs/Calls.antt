@@ -6,7 +6,7 @@ use Rattle.ytt_base.specs.declared.fault.Place.{Place}
 use Rattle.star_spec.specs.Code.{Name, Parameters}
 use Rattle.star_spec.specs.Program.{ItemKind}
 use Rattle.star_spec.specs.Values.{Value, function_value, native_value, Values, Arguments, Env, of_box, of_function, Object}
-use Rattle.star_spec.specs.Outcomes.{Ending, then_do, Computation, paid, give, fail, or_fail, state_after, no_place, ◌>>=◌}
+use Rattle.star_spec.specs.Outcomes.{Ending, then_do, Computation, paid, give, fail, or_fail, ill_formed, or_ill_formed, state_after, ◌>>=◌}
 use Rattle.star_spec.specs.Language.{Call, Language}
 use Rattle.star_spec.specs.Store.{object_at}
 
@@ -58,7 +58,7 @@ pub record Host (H : Type 0) : Type 0 where
 
 -- no native function
 abbrev pub no_natives : {H : Type 0} → Host H
-no_natives = record { ask = λ p k held vs. fail kind.CodeForm no_place; resume = λ p k held tag r. fail kind.CodeForm no_place }
+no_natives = record { ask = λ p k held vs. ill_formed; resume = λ p k held tag r. ill_formed }
 
 -- a native function goes on while it asks for calls, each after a step; no more than the steps left are asked for
 abbrev pub answered : {H : Type 0} → Host H → Call H → (left : ℕ) → Place → (number : ℕ) → Values → Reply → Computation H Value
@@ -79,7 +79,7 @@ call_in host user (suc n) p f vs = by_kind f (user p f vs) (λ k held s. then_do
 abbrev pub user_call : {H B : Type 0} → Language H → (B → List Name) → Enter H B → Table B → (below : Call H) → Call H
 user_call language names enter table below p f vs = do
   g ← function_at p f
-  c ← or_fail kind.CodeForm no_place (table g.file g.number)
+  c ← or_ill_formed (table g.file g.number)
   env ← language.bind p (parameters_of c) (names_of names c) g.defaults vs g.env
   enter_code enter below c env
 

@@ -5,7 +5,7 @@ use Rattle.ytt_base.specs.declared.fault.Fault.{Fault}
 use Rattle.ytt_base.specs.declared.fault.FaultKind.{FaultKind}
 use Rattle.ytt_base.specs.declared.fault.FaultKind.TheVariants as kind
 use Rattle.ytt_base.specs.declared.fault.Place.{Place}
-use Rattle.ytt_base.specs.Outcomes.{place_at}
+use Rattle.ytt_base.specs.Outcomes.{fault_of}
 use Rattle.star_spec.specs.Values.{Object}
 
 -- the objects, in the order in which they were made; the steps that are left; and the host's own state
@@ -35,7 +35,7 @@ abbrev pub give : {H A : Type 0} → A → Computation H A
 give a = λ s. done a s
 
 abbrev pub fail_with : {H A : Type 0} → FaultKind → Place → (detail : List ℕ) → Computation H A
-fail_with k p d = λ s. bad (record { kind = k; place = p; detail = d }) s
+fail_with k p d = λ s. bad (record { kind = k; place = Some p; detail = d }) s
 
 abbrev pub fail : {H A : Type 0} → FaultKind → Place → Computation H A
 fail k p = fail_with k p []
@@ -44,12 +44,13 @@ abbrev pub or_fail : {H A : Type 0} → FaultKind → Place → Option A → Com
 or_fail k p None = fail k p
 or_fail k p (Some a) = give a
 
-abbrev pub no_place : Place
-no_place = place_at 0 0
-
--- what only a program in no proper form meets
+-- what only a program in no proper form meets, a fault of no place
 abbrev pub ill_formed : {H A : Type 0} → Computation H A
-ill_formed = fail kind.CodeForm no_place
+ill_formed = λ s. bad (fault_of kind.CodeForm) s
+
+abbrev pub or_ill_formed : {H A : Type 0} → Option A → Computation H A
+or_ill_formed None = ill_formed
+or_ill_formed (Some a) = give a
 
 -- ---- steps
 

@@ -5,7 +5,7 @@ use Rattle.ytt_base.specs.declared.fault.Place.{Place}
 use Rattle.template_spec.specs.Template.{Items}
 use Rattle.template_spec.specs.Compiled.{compiled}
 use Rattle.star_spec.specs.Values.{Value, Arguments, Children, no_children, Env}
-use Rattle.star_spec.specs.Outcomes.{State, Ending, done, bad, then_do, ◌>>=◌, give, or_fail, no_place}
+use Rattle.star_spec.specs.Outcomes.{State, Ending, done, bad, then_do, ◌>>=◌, give, or_ill_formed}
 use Rattle.star_spec.specs.Language.{Call, Language}
 use Rattle.star_spec.specs.Store.{with_boxes}
 use Rattle.star_spec.specs.Acts.{Flow, on, out}
@@ -36,8 +36,8 @@ module _ {H : Type 0} (language : Language H) where
 
   -- one function's code does the same, where the calls do
   code_agrees : (c c' : Call H) → c ≡ c' → (p : Place) (ds : List Value) (vs : Arguments) (fenv : Env) (o : Option (Code Items)) → IfFound o → (s : State H) →
-      (or_fail kind.CodeForm no_place (lifted o) >>= λ x. language.bind p (parameters_of x) (names_of ops_names x) ds vs fenv >>= λ env. enter_code (enter_ops language) c x env) s
-      ≡ (or_fail kind.CodeForm no_place o >>= λ x. language.bind p (parameters_of x) (names_of items_names x) ds vs fenv >>= λ env. enter_code (enter_items language) c' x env) s
+      (or_ill_formed (lifted o) >>= λ x. language.bind p (parameters_of x) (names_of ops_names x) ds vs fenv >>= λ env. enter_code (enter_ops language) c x env) s
+      ≡ (or_ill_formed o >>= λ x. language.bind p (parameters_of x) (names_of items_names x) ds vs fenv >>= λ env. enter_code (enter_items language) c' x env) s
   code_agrees c c' e p ds vs fenv None h s = refl
   code_agrees c c' e p ds vs fenv (Some (of_def xs z t)) h s =
       (λ i. then_do (language.bind p xs (same_names t i) ds vs fenv s) (λ env. enter_ops language c z (to_ops t) env))
@@ -47,7 +47,7 @@ module _ {H : Type 0} (language : Language H) where
   users_agree : (files : ℕ → Items) → ((f : ℕ) → Placed free (files f)) → (c c' : Call H) → c ≡ c' → (p : Place) (f : Value) (vs : Arguments) (s : State H) →
       user_call language ops_names (enter_ops language) (program_table (λ f. compiled (files f))) c p f vs s ≡ user_call language items_names (enter_items language) (template_table files) c' p f vs s
   users_agree files placed c c' same p f vs s = then_ext (function_at p f s) _ _ (λ g s.
-      (λ i. (or_fail kind.CodeForm no_place (tables_agree files g.file g.number i) >>= λ x. language.bind p (parameters_of x) (names_of ops_names x) g.defaults vs g.env >>= λ env. enter_code (enter_ops language) c x env) s)
+      (λ i. (or_ill_formed (tables_agree files g.file g.number i) >>= λ x. language.bind p (parameters_of x) (names_of ops_names x) g.defaults vs g.env >>= λ env. enter_code (enter_ops language) c x env) s)
       ∙ code_agrees c c' same p g.defaults vs g.env (template_table files g.file g.number) (items_found g.number free (files g.file) (placed g.file)) s)
 
   pub calls_agree : (host : Host H) (files : ℕ → Items) → ((f : ℕ) → Placed free (files f)) → (d : ℕ) → program_calls language host (λ f. compiled (files f)) d ≡ template_calls language host files d

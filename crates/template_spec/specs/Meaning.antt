@@ -4,7 +4,8 @@ use Rattle.ytt_base.specs.Trees.{Trees, no_trees, tree, is_null}
 use Rattle.star_spec.specs.Code.{Name}
 use Rattle.star_spec.specs.Program.{ItemKind, document_item, pair_item, element_item, holds_list, Instruction}
 use Rattle.star_spec.specs.Values.{Value, none_value, fragment_value, child, Children, no_children, a_child, Env}
-use Rattle.star_spec.specs.Outcomes.{State, Computation, done, give, ill_formed, no_place, ◌>>=◌}
+use Rattle.ytt_base.specs.Outcomes.{first_place}
+use Rattle.star_spec.specs.Outcomes.{State, Computation, done, give, ill_formed, ◌>>=◌}
 use Rattle.star_spec.specs.Store.{with_boxes, freeze_since}
 use Rattle.star_spec.specs.Language.{Call, Language, returns}
 use Rattle.star_spec.specs.Acts.{Flow, on, out}
@@ -39,7 +40,7 @@ enter_items language call fragment t env = builds language call (level_of fragme
 
 -- the open place under all nodes
 abbrev pub bottom : ℕ → Node
-bottom n = opened no_place document_item holds_list n
+bottom n = opened first_place document_item holds_list n
 
 abbrev pub bottom_children : List Node → Children
 bottom_children [] = no_children

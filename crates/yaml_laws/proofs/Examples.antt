@@ -116,8 +116,8 @@ blocks_read :
     × (read_trees 1 (codes "[a]: 1\n") ≡ fault kind.YamlOut 1)
     × (read_trees 1 (codes "a: [b]: c\n") ≡ fault kind.YamlForm 1)
     × (read_trees 1 (codes "1: a\n~: c\n") ≡ Ok (tree (map (pair (integer (pos 1)) (text (codes "a")) (pair null (text (codes "c")) no_pairs))) no_trees))
-    × (read_trees 1 (codes "a: 1\na: 2\n") ≡ Err (record { kind = kind.KeyTwice; place = place_at 1 2; detail = codes "a" }))
-    × (read_trees 1 (codes "a: {b: 1, b: 2}\na: 3\n") ≡ Err (record { kind = kind.KeyTwice; place = place_at 1 1; detail = codes "b" }))
+    × (read_trees 1 (codes "a: 1\na: 2\n") ≡ Err (record { kind = kind.KeyTwice; place = Some (place_at 1 2); detail = codes "a" }))
+    × (read_trees 1 (codes "a: {b: 1, b: 2}\na: 3\n") ≡ Err (record { kind = kind.KeyTwice; place = Some (place_at 1 1); detail = codes "b" }))
     × (read_trees 1 (codes "a: 1\na: 1.5\n") ≡ fault kind.FloatScalar 2)
 unfolding is_utf8 chars encode digits cut lines_of checked Lines form plain fold_parts single double parts Quote header body block_text Block start_fault span further plain_lines gap flow_key elements pair_value pairs flow_scalar flow noted ended value key_at heads_of row_at taken rows cut_after content_of entry_content entry entry_at entries Doc segments explicit read_ended documents implicit Read distinct read_trees fits_plain fits_literal
 blocks_read = (refl, refl, refl, refl, refl, refl, refl, refl, refl, refl, refl, refl, refl, refl, refl)
@@ -272,6 +272,6 @@ comments_read = (refl, refl, refl)
 positions :
     ((Lines 1 (codes "a: \"x\n y\" z\n") >>= (λ ls. quoted_at ls 0 3)) ≡ Ok (record { text = codes "x y"; line = 1; column = 3 }))
     × ((Lines 1 (codes "  a: |-\n   x\n\n  b: 1\n") >>= (λ ls. block_at ls 0 5 (pos 2))) ≡ Ok (record { text = codes "x"; line = 2; column = 0 }))
-    × ((Lines 1 (codes "'x") >>= (λ ls. quoted_at ls 0 0)) ≡ Err (record { kind = kind.YamlForm; place = place_at 1 1; detail = [] }))
+    × ((Lines 1 (codes "'x") >>= (λ ls. quoted_at ls 0 0)) ≡ Err (record { kind = kind.YamlForm; place = Some (place_at 1 1); detail = [] }))
 unfolding is_utf8 chars encode digits cut lines_of checked Lines form plain fold_parts single double parts Quote header body block_text Block start_fault span further plain_lines gap flow_key elements pair_value pairs flow_scalar flow noted ended value key_at heads_of row_at taken rows cut_after content_of entry_content entry entry_at entries Doc segments explicit read_ended documents implicit Read distinct read_trees fits_plain fits_literal quoted_at block_at
 positions = (refl, refl, refl)

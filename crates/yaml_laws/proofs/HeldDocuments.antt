@@ -174,7 +174,7 @@ unfolding distinct
 distinct_held ds h = go (twice_below ds.items) refl
   where
     go : (o : Option Note) → twice_below ds.items ≡ o → Yields AreRead (elim o as (λ _. Outcome Documents) [
-      | Some n ↦ Err (record { kind = kind.KeyTwice; place = n.place; detail = key_text (key_of n) })
+      | Some n ↦ Err (record { kind = kind.KeyTwice; place = Some n.place; detail = key_text (key_of n) })
       | None ↦ Ok ds
     ])
     go None e x p = yields_ok AreRead ds (trees_held ds.items h e) x p

@@ -247,7 +247,7 @@ unfolding distinct
 yields_distinct ds h = go (twice_below ds.items)
   where
     go : (o : Option Note) → Yields DocumentsIn (elim o as (λ _. Outcome Documents) [
-      | Some n ↦ Err (record { kind = kind.KeyTwice; place = n.place; detail = key_text (key_of n) })
+      | Some n ↦ Err (record { kind = kind.KeyTwice; place = Some n.place; detail = key_text (key_of n) })
       | None ↦ Ok ds
     ])
     go None x e = yields_ok DocumentsIn ds h x e

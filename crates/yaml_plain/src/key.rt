@@ -33,7 +33,7 @@ fn scalar_key(tree: Tree) -> Key
 fn typed_key(alloc: Global, text: &str) -> Result<Result<Key, FaultKind>, Memory>
     ensures { IfOk result (λ k. key_or_fault k ≡ plain text.now) }
 {
-    let nowhere = Place { file: 0, line: 0 };
+    let nowhere = Place { file: 1, line: 1 };
     match type_plain(alloc, &Text::of(alloc, text)?, nowhere) {
         Ok(tree) => Ok(Ok(scalar_key(tree))),
         Err(Stop::Fault(fault)) => Ok(Err(fault.kind)),

@@ -60,7 +60,7 @@ fn read_quoted_key<'a>(alloc: Global, text: &'a str) -> Result<Option<(Mark, &'a
 fn read_collection_key<'a>(alloc: Global, text: &'a str) -> Result<Option<(Mark, &'a str)>, Memory>
     ensures { IfOk result (λ o. option_map (λ k. (mark_of k.0, k.1.now)) o ≡ marked (collection_key text.now)) }
 {
-    let nowhere = Place { file: 0, line: 0 };
+    let nowhere = Place { file: 1, line: 1 };
     let cursor = Cursor {
         place: nowhere,
         text,

@@ -166,7 +166,7 @@ Read file bytes = Lines file bytes >>= (λ ls. let s = segments ls in implicit s
 unfoldable pub distinct : Documents → Outcome Documents
 distinct ds =
     elim (twice_below ds.items) [
-      | Some n ↦ Err (record { kind = kind.KeyTwice; place = n.place; detail = key_text (key_of n) })
+      | Some n ↦ Err (record { kind = kind.KeyTwice; place = Some n.place; detail = key_text (key_of n) })
       | None ↦ Ok ds
     ]
 

@@ -107,7 +107,7 @@ fn key_twice(alloc: Global, item: &NotedItem) -> Result<Fault, Memory>
     };
     Ok(Fault {
         kind: FaultKind::KeyTwice,
-        place: item.place,
+        place: Some(item.place),
         detail,
     })
 }

@@ -15,7 +15,7 @@ use std::alloc::Global;
 use template_compile::compile_flat;
 use template_tree::place_flat;
 use yaml_read::{NotedDocs, has_code, plain_trees, read_noted};
-use ytt_base::fault::{Fault, FaultKind, Place, Stop};
+use ytt_base::fault::{Fault, FaultKind, Stop};
 use ytt_base::text::Text;
 use ytt_base::tree::Trees;
 use ytt_outside::files::{Files, FilesStop, Got, PathKind};
@@ -49,14 +49,14 @@ fn is_template(name: &[u8]) -> bool
         && !(name.ends_with(b".lib.yml".as_slice()) || name.ends_with(b".lib.yaml".as_slice()))
 }
 
-/// The fault of a whole path, of no line.
+/// The fault of a whole path, of no place.
 fn path_fault(alloc: Global, kind: FaultKind, path: &str) -> RenderStop
     ensures { Refuses (path_fault kind path.now) result }
 {
     match Text::of(alloc, path) {
         Ok(detail) => RenderStop::Fault(Fault {
             kind,
-            place: Place { file: 0, line: 0 },
+            place: None,
             detail,
         }),
         Err(_) => RenderStop::Memory,
@@ -68,7 +68,7 @@ fn not_built(alloc: Global) -> RenderStop
 {
     RenderStop::Fault(Fault {
         kind: FaultKind::NotBuilt,
-        place: Place { file: 0, line: 0 },
+        place: None,
         detail: Text::new(alloc),
     })
 }

@@ -1,10 +1,10 @@
 -- What a request means: documents, or a fault.
-use Rattle.std.specs.Prelude.{◌≡◌, ℕ, nat_lt, nat_eq, ◌==◌, ◌||◌, ◌&&◌, not, Bool, List, [], ◌∷◌, length, codes, Ok, Err, if◌then◌else◌}
+use Rattle.std.specs.Prelude.{◌≡◌, ℕ, nat_lt, nat_eq, ◌==◌, ◌||◌, ◌&&◌, not, Bool, List, [], ◌∷◌, length, codes, None, Ok, Err, if◌then◌else◌}
 use Rattle.std.specs.List.{ends_with, list_any}
 use Rattle.ytt_base.specs.declared.fault.Fault.{Fault}
 use Rattle.ytt_base.specs.declared.fault.FaultKind.{FaultKind}
 use Rattle.ytt_base.specs.declared.fault.FaultKind.TheVariants as kind
-use Rattle.ytt_base.specs.Outcomes.{Outcome, ◌>>=◌, fault_at, place_at}
+use Rattle.ytt_base.specs.Outcomes.{Outcome, ◌>>=◌, fault_of}
 use Rattle.ytt_base.specs.Trees.{Trees}
 use Rattle.ytt_outside.specs.Standing.{Standing, nothing, file, folder}
 use Rattle.yaml_spec.specs.Noted.{Documents, has_code}
@@ -39,13 +39,13 @@ is_template name =
 abbrev pub largest_file : ℕ
 largest_file = 8388608
 
--- a fault of a whole path, of no line
+-- a fault of a whole path, of no place
 abbrev pub path_fault : FaultKind → List ℕ → Fault
-path_fault k path = record { kind = k; place = place_at 0 0; detail = path }
+path_fault k path = record { kind = k; place = None; detail = path }
 
--- a form that isn't built yet, of no line
+-- a form that isn't built yet, of no place
 abbrev pub not_built : Fault
-not_built = fault_at kind.NotBuilt (place_at 0 0)
+not_built = fault_of kind.NotBuilt
 
 -- ---- what a template means
 
