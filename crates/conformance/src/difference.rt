@@ -7,6 +7,7 @@ use std::alloc::{AllocError, Global};
 
 /// How many bytes of a text are shown before and behind the first that differs.
 const BEFORE: usize = 60;
+
 const BEHIND: usize = 140;
 
 /// The first place at which two texts differ.

@@ -81,7 +81,10 @@ fn run_archive(
 }
 
 /// Runs all archives, and says whether each row gives what is due.
-fn run_archives<R: Print + std::rt::Files + AllocGlobal + Clone + Drop>(rt: &R, outside: &mut impl Files) -> io::Result<bool> {
+fn run_archives<R: Print + std::rt::Files + AllocGlobal + Clone + Drop>(
+    rt: &R,
+    outside: &mut impl Files,
+) -> io::Result<bool> {
     let alloc = rt.alloc();
     let mut count = Count { rows: 0, differ: 0 };
     let mut is_right = true;

@@ -40,7 +40,11 @@ fn push_numbered(
 fn push_ruled(alloc: Global, all: &mut Vec<u8>, words: &[Vec<u8>]) -> Result<bool, AllocError> {
     let (name, count, text) = match words {
         [name, text] => (name.as_slice(), Some(1), text.as_slice()),
-        [name, count, text] => (name.as_slice(), number_of(count.as_slice()), text.as_slice()),
+        [name, count, text] => (
+            name.as_slice(),
+            number_of(count.as_slice()),
+            text.as_slice(),
+        ),
         _ => return Ok(false),
     };
     match (name, count, words.len()) {
