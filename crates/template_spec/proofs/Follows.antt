@@ -17,7 +17,8 @@ pub then_ext : {H A B : Type 0} (r : Ending H A) (f g : A → Computation H B) �
 then_ext (done a s) f g h = h a s
 then_ext (bad e s) f g h = refl
 
-paid_if_then : {H A B : Type 0} (b : Bool) (n : ℕ) (p : Place) (m : Computation H A) (f : A → Computation H B) (s : State H) → then_do (paid_if b n p m s) f ≡ paid_if b n p (m >>= f) s
+-- what follows, behind steps that are taken
+pub paid_if_then : {H A B : Type 0} (b : Bool) (n : ℕ) (p : Place) (m : Computation H A) (f : A → Computation H B) (s : State H) → then_do (paid_if b n p m s) f ≡ paid_if b n p (m >>= f) s
 paid_if_then true n p m f s = refl
 paid_if_then false n p m f s = refl
 
