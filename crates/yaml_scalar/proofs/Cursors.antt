@@ -33,21 +33,29 @@ cut-before t column some ascii =
       | inr past ↦ absurd (omega (arith, get_or_past t column 0 past))
     ]
 
-pub there : (lines : List held.Line) (at column : ℕ) → (let here = cursor_at (plain_lines lines) at column in BeginsAscii here.text) → at < length lines
-there lines at column h = some-line lines at column h.0
-
-pub cut-at : (lines : List held.Line) (at column : ℕ) → (let here = cursor_at (plain_lines lines) at column in BeginsAscii here.text) → IsCharBoundary (text_at (plain_lines lines) at) column
-cut-at lines at column h =
-    let byte = rw (text-drop (plain_lines lines) at column (rw (plain_lines-length lines) (there lines at column h))) at h in
+pub cut-at : (lines : List held.Line) (at column : ℕ) → at < length lines → (let here = cursor_at (plain_lines lines) at column in BeginsAscii here.text) → IsCharBoundary (text_at (plain_lines lines) at) column
+cut-at lines at column there h =
+    let byte = rw (text-drop (plain_lines lines) at column (rw (plain_lines-length lines) there)) at h in
     cut-before _ column byte.0 byte.1
 
-pub quote-ascii : (t : List ℕ) → starts_quote t ≡ true → BeginsAscii t
+-- a line stands there, and an ASCII character on it
+abbrev Opens : List held.Line → ℕ → ℕ → Type 0
+Opens lines at column = (at < length lines) × (let here = cursor_at (plain_lines lines) at column in BeginsAscii here.text)
+
+opens : (lines : List held.Line) (at column : ℕ) → (let here = cursor_at (plain_lines lines) at column in BeginsAscii here.text) → Opens lines at column
+opens lines at column h = (some-line lines at column h.0, h)
+
+quote-ascii : (t : List ℕ) → starts_quote t ≡ true → BeginsAscii t
 quote-ascii t h = (grind (arith, nat_tests), grind (arith, nat_tests))
 
-pub block-ascii : (t : List ℕ) → starts_block t ≡ true → BeginsAscii t
+pub quote-opens : (lines : List held.Line) (at column : ℕ) → (let here = cursor_at (plain_lines lines) at column in starts_quote here.text ≡ true) → Opens lines at column
+quote-opens lines at column h = let here : Cursor = cursor_at (plain_lines lines) at column in opens lines at column (quote-ascii here.text h)
+
+block-ascii : (t : List ℕ) → starts_block t ≡ true → BeginsAscii t
 block-ascii t h = (grind (arith, nat_tests), grind (arith, nat_tests))
 
-pub ruleset openers = (quote-ascii, block-ascii)
+pub block-opens : (lines : List held.Line) (at column : ℕ) → (let here = cursor_at (plain_lines lines) at column in starts_block here.text ≡ true) → Opens lines at column
+block-opens lines at column h = let here : Cursor = cursor_at (plain_lines lines) at column in opens lines at column (block-ascii here.text h)
 
 -- ---- a string that was read up to a place
 

@@ -30,7 +30,6 @@ use ytt_base::line::Lines;
 /// Another header is YamlForm at its line. Without a digit, a line of spaces alone that is longer
 /// than the content indent and stands before the first content is YamlForm there. Want of memory
 /// is `Stop::Memory`.
-#[tactic(auto, using(crate::proofs::Cursors::openers))]
 pub fn read_block(
     alloc: Global,
     lines: &Lines,

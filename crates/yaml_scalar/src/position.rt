@@ -23,7 +23,8 @@ pub struct Quoted {
 
 /// The place at a column of a line, by their indexes, where an ASCII character stands.
 pub fn cursor_at(lines: &[Line], at: usize, column: usize) -> Cursor<'_>
-    requires { let here = cursor_at (plain_lines lines.now) at column in BeginsAscii here.text }
+    requires there { at < length lines.now }
+    requires ascii { let here = cursor_at (plain_lines lines.now) at column in BeginsAscii here.text }
     ensures { cursor_of result ≡ cursor_at (plain_lines lines.now) at column }
 {
     let line = &lines[at];

@@ -22,7 +22,6 @@ use ytt_base::line::Lines;
 ///
 /// A wrong escape, one of a surrogate or past 10FFFF among them, is YamlForm at its line. A quote
 /// that nothing closes is YamlForm where it opens. Want of memory is `Stop::Memory`.
-#[tactic(auto, using(crate::proofs::Cursors::openers))]
 pub fn read_quoted(alloc: Global, lines: &Lines, line: u64, column: u64) -> Result<Quoted, Stop>
     requires { let here = cursor_at (plain_lines lines.now) line column in starts_quote here.text ≡ true }
     ensures { Gives quoted_of result (quoted_at (plain_lines lines.now) line column) }

@@ -10,9 +10,9 @@ pub returns-then-goes_on-clause-content : goal.returns-then-goes_on-clause-conte
 returns-then-goes_on-clause-content t c =
     gives_same opened_of c.open_blocks.result _ _
     (more_blocks (frames_of c.args.outer) (frames_of c.in_ok-frames.frames) c.args.left (c.args.left - 1) c.args.indent c.args.heads.now c.in-Some.head.now c.in-Some.behind.now c.index-behind-0.result c.args.row.now
-    (comments_of c.args.before) (comments_of c.new-none.result) (note_of c.bare_note.result)
+    (comments_of c.args.before) (comments_of c.new-none.result) (note_of c.bare_note-note.result)
     c.in-Some.ensures.cases.0 (omega arith) c.if-head.false (sym c.goes_on.ensures ∙ c.if-goes_on.true) (ap comments_of c.new-none.ensures)
-    (c.bare_note.ensures (row_of (comments_of c.args.before) c.args.row.now) refl refl) c.in_ok-frames.ensures)
+    (c.bare_note-note.ensures (row_of (comments_of c.args.before) c.args.row.now) refl refl) c.in_ok-frames.ensures)
     c.open_blocks.ensures.content
 
 pub returns-in_err-note-clause-content : goal.returns-in_err-note-clause-content
@@ -27,5 +27,5 @@ pub returns-clause-content : goal.returns-clause-content
 returns-clause-content t c =
     last_block (frames_of c.args.outer) c.args.left (c.args.left - 1) c.args.indent c.args.heads.now c.in-Some.head.now c.in-Some.behind.now c.args.row.now (comments_of c.args.before)
     c.in-Some.ensures.cases.0 (omega arith) c.requires.heads c.if-head.false (sym c.goes_on.ensures ∙ c.if-goes_on.false)
-    ∙ last_opened (frames_of c.args.outer) (frames_of c.in_ok-frames-2.frames) (c.args.left - 1) c.args.indent _ c.is_dash.result (begun_of c.in_ok-note.field-0)
-    c.in_ok-note.ensures.content (ap frames_of c.in_ok-note.ensures.frames) c.is_dash.ensures c.in_ok-frames-2.ensures
+    ∙ last_opened (frames_of c.args.outer) (frames_of c.in_ok-frames-2.frames) (c.args.left - 1) c.args.indent _ c.is_dash-is_list.result _ (begun_of c.in_ok-note.field-0)
+    c.in_ok-note.ensures.content (ap frames_of c.in_ok-note.ensures.frames) c.is_dash-is_list.ensures c.in_ok-frames-2.ensures
