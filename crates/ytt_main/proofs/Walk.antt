@@ -1,12 +1,12 @@
 -- How the options are read, one after another.
-use Rattle.std.proofs.Common.{◌≡◌, ◌≢◌, ℕ, ◌+◌, ◌<◌, Bool, true, false, ◌&&◌, ◌||◌, cond, eqb, List, [], ◌∷◌, ◌++◌, length, map, Option, Some, None, Result, Ok, Err, Bor, is_none, is_some, option_and_then, unwrap_or, refl, ap, sym, subst, ◌∙◌, arith, ⊎_elim, suc, append-nil}
+use Rattle.std.proofs.Common.{◌≡◌, ◌≢◌, ℕ, ◌+◌, ◌<◌, Bool, true, false, cond, eqb, List, [], ◌∷◌, ◌++◌, length, map, Option, Some, None, Result, Ok, Err, Bor, is_some, unwrap_or, refl, ap, sym, subst, ◌∙◌, arith, ⊎_elim, suc, append-nil}
 use Rattle.std.proofs.lemmas.Bool.Decides.{eqb_tells}
 use Rattle.std.specs.List.{after_first, before_first, position_or_len}
 use Rattle.ytt_spec.proofs.Options.{asked_next, begun_stands, named_holds, next, values_of-append}
 use Rattle.ytt_spec.proofs.WordsRead.{request_read}
 use Rattle.ytt_spec.proofs.WrongWords.{wrong_words}
-use Rattle.ytt_spec.specs.Words.{render, wrong, CommandOption, Given, Often, exactly_once, at_most_once, added, asked, asked_from, begun, command_options, default_steps, equals, file_option, first_of, is_steps, may_follow, may_have, name_in, named, number_of, path_given, steps_given, steps_option, value_in, values_of}
-use Rattle.ytt_main.specs.Asks.{Asks, AsksFor, HaveRead, one_or_none, text_in, value_behind}
+use Rattle.ytt_spec.specs.Words.{wrong, CommandOption, Given, Often, exactly_once, at_most_once, added, asked, asked_from, begun, command_options, equals, file_option, is_steps, may_follow, name_in, number_of, steps_option, value_in, values_of}
+use Rattle.ytt_main.specs.Asks.{Asks, AsksFor, HaveRead, value_behind}
 use Rattle.ytt_main.specs.declared.words.Request.{Request}
 use Rattle.ytt_main.specs.declared.words.Values.{Values}
 

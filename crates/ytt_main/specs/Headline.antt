@@ -1,5 +1,5 @@
 -- What the top call leaves where nothing failed.
-use Rattle.std.specs.Prelude.{◌≡◌, ◌≢◌, ℕ, List, [], Option, IfSome}
+use Rattle.std.specs.Prelude.{◌≡◌, ◌≢◌, ℕ, List, [], IfSome}
 use Rattle.ytt_outside.specs.Counts.{NoneRose}
 use Rattle.ytt_outside.specs.Sink.{Grows}
 use Rattle.ytt_spec.specs.Due.{Due, IsDue, done, fault, usage}

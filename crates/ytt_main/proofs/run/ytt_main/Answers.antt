@@ -10,24 +10,24 @@ use Rattle.ytt_main.proofs.run.ytt_main.Goals as goal
 pub returns-in-Ok-clause-headline : goal.returns-in-Ok-clause-headline
 returns-in-Ok-clause-headline g c =
     due_given status.Done (map string_bytes c.args.words.now) (seen_files g.F.Files.tree g.F.Files.faults c.args.files.now c.answer_words.new.files) (seen_sink g.O.Sink.held g.O.Sink.faults c.args.out.now c.print_to.new.out)
-        (seen_sink g.E.Sink.held g.E.Sink.faults c.args.err.now c.args.err.now) (done (Text (trees_of c.in-Documents.trees))) c.in-Documents.ensures.told (search rules)
+    (seen_sink g.E.Sink.held g.E.Sink.faults c.args.err.now c.args.err.now) (done (Text (trees_of c.in-Documents.trees))) c.in-Documents.ensures.told (search rules)
 
 pub returns-in-Ok-write_piece-clause-headline : goal.returns-in-Ok-write_piece-clause-headline
 returns-in-Ok-write_piece-clause-headline g c =
     due_given status.Fault (map string_bytes c.args.words.now) (seen_files g.F.Files.tree g.F.Files.faults c.args.files.now c.answer_words.new.files) (seen_sink g.O.Sink.held g.O.Sink.faults c.args.out.now c.args.out.now)
-        (seen_sink g.E.Sink.held g.E.Sink.faults c.args.err.now c.write_piece-in-Fault.new.self) (fault c.in-Fault.line) c.in-Fault.ensures.told (search rules)
+    (seen_sink g.E.Sink.held g.E.Sink.faults c.args.err.now c.write_piece-in-Fault.new.self) (fault c.in-Fault.line) c.in-Fault.ensures.told (search rules)
 
 pub returns-in-Ok-write_piece-2-clause-headline : goal.returns-in-Ok-write_piece-2-clause-headline
 returns-in-Ok-write_piece-2-clause-headline g c =
     due_given status.Usage (map string_bytes c.args.words.now) (seen_files g.F.Files.tree g.F.Files.faults c.args.files.now c.answer_words.new.files) (seen_sink g.O.Sink.held g.O.Sink.faults c.args.out.now c.args.out.now)
-        (seen_sink g.E.Sink.held g.E.Sink.faults c.args.err.now c.write_piece-in-Usage.new.self) (usage c.in-Usage.line) c.in-Usage.ensures.told (search rules)
+    (seen_sink g.E.Sink.held g.E.Sink.faults c.args.err.now c.write_piece-in-Usage.new.self) (usage c.in-Usage.line) c.in-Usage.ensures.told (search rules)
 
 pub returns-in-Usage-clause-ending : goal.returns-in-Usage-clause-ending
 returns-in-Usage-clause-ending g c =
     err_failed (map string_bytes c.args.words.now) (seen_files g.F.Files.tree g.F.Files.faults c.args.files.now c.answer_words.new.files) (seen_sink g.O.Sink.held g.O.Sink.faults c.args.out.now c.args.out.now)
-        (seen_sink g.E.Sink.held g.E.Sink.faults c.args.err.now c.write_piece-in-Usage.new.self) c.in-Usage.line (inr (inl c.in-Usage.ensures.found)) (search rules) (search rules)
+    (seen_sink g.E.Sink.held g.E.Sink.faults c.args.err.now c.write_piece-in-Usage.new.self) c.in-Usage.line (inr (inl c.in-Usage.ensures.found)) (search rules) (search rules)
 
 pub returns-in-ReadFailed-clause-ending : goal.returns-in-ReadFailed-clause-ending
 returns-in-ReadFailed-clause-ending g c =
     err_failed (map string_bytes c.args.words.now) (seen_files g.F.Files.tree g.F.Files.faults c.args.files.now c.answer_words.new.files) (seen_sink g.O.Sink.held g.O.Sink.faults c.args.out.now c.args.out.now)
-        (seen_sink g.E.Sink.held g.E.Sink.faults c.args.err.now c.write_piece-in-ReadFailed.new.self) c.in-ReadFailed.line (inr (inr c.in-ReadFailed.ensures.found)) (search rules) (search rules)
+    (seen_sink g.E.Sink.held g.E.Sink.faults c.args.err.now c.write_piece-in-ReadFailed.new.self) c.in-ReadFailed.line (inr (inr c.in-ReadFailed.ensures.found)) (search rules) (search rules)

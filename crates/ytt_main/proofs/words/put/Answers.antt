@@ -1,6 +1,5 @@
 use Rattle.std.proofs.Common.{sym, ◌∙◌}
 use Rattle.ytt_main.proofs.Walk.{file_read, steps_read}
-use Rattle.ytt_main.specs.Asks.{option_of}
 use Rattle.ytt_main.proofs.words.put.Goals as goal
 
 pub returns-else-not-is_path-clause-put : goal.returns-else-not-is_path-clause-put
