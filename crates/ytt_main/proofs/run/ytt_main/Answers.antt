@@ -1,6 +1,7 @@
 use Rattle.std.proofs.Common.{inl, inr, map, rules, string_bytes}
 use Rattle.ytt_base.specs.View.{trees_of}
 use Rattle.yaml_spec.specs.Text.{Text}
+use Rattle.ytt_spec.proofs.PrintedMeans.{printed_means}
 use Rattle.ytt_spec.specs.Due.{done, fault, usage}
 use Rattle.ytt_main.proofs.Lines.{due_given, err_failed}
 use Rattle.ytt_main.specs.Seen.{seen_files, seen_sink}
@@ -11,6 +12,11 @@ pub returns-in-Ok-clause-headline : goal.returns-in-Ok-clause-headline
 returns-in-Ok-clause-headline g c =
     due_given status.Done (map string_bytes c.args.words.now) (seen_files g.F.Files.tree g.F.Files.faults c.args.files.now c.answer_words.new.files) (seen_sink g.O.Sink.held g.O.Sink.faults c.args.out.now c.print_to.new.out)
     (seen_sink g.E.Sink.held g.E.Sink.faults c.args.err.now c.args.err.now) (done (Text (trees_of c.in-Documents.trees))) c.in-Documents.ensures.told (search rules)
+
+pub returns-in-Ok-clause-ending : goal.returns-in-Ok-clause-ending
+returns-in-Ok-clause-ending g c =
+    let f = c.in-Documents.ensures.found in
+    record { documents = trees_of c.in-Documents.trees; found = f.0; written = search rules; reads_back = search rules; renders_itself = printed_means _ f.1 f.2; silent = search rules }
 
 pub returns-in-Ok-write_piece-clause-headline : goal.returns-in-Ok-write_piece-clause-headline
 returns-in-Ok-write_piece-clause-headline g c =
