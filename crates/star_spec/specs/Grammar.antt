@@ -16,12 +16,14 @@ pub data Source : Type 0 where
 
 abbrev pub unary_kind : UnaryOperator → Kind
 unary_kind negation = kind.minus
+unary_kind _ = kind.plus
 
 abbrev pub binary_kind : BinaryOperator → Kind
 binary_kind addition = kind.plus
 binary_kind subtraction = kind.minus
 binary_kind multiplication = kind.star
 binary_kind floor_division = kind.double_slash
+binary_kind _ = kind.plus
 
 -- the tokens of a source, and then these
 abbrev pub spell : Source → List Token → List Token
@@ -65,6 +67,7 @@ binary_level addition = sum_level
 binary_level subtraction = sum_level
 binary_level multiplication = product_level
 binary_level floor_division = product_level
+binary_level _ = sum_level
 
 abbrev pub level : Source → ℕ
 level (int l z) = operand_level

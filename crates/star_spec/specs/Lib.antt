@@ -1,11 +1,14 @@
-pub mod Acts
 pub mod Binding
 pub mod Blocks
 pub mod Calls
 pub mod Code
 pub mod Eval
+pub mod Flow
 pub mod Grammar
+pub mod Keys
 pub mod Language
+pub mod Members
+pub mod Names
 pub mod Numbers
 pub mod Operators
 pub mod Outcomes
