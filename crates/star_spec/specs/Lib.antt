@@ -1,3 +1,4 @@
+pub mod Allowed
 pub mod Binding
 pub mod Blocks
 pub mod Calls
@@ -6,9 +7,11 @@ pub mod Eval
 pub mod Flow
 pub mod Grammar
 pub mod Keys
+pub mod Lambdas
 pub mod Language
 pub mod Members
 pub mod Names
+pub mod Numbering
 pub mod Numbers
 pub mod Operators
 pub mod Outcomes

@@ -4,8 +4,8 @@ use Rattle.ytt_base.specs.declared.fault.FaultKind.TheVariants as kind
 use Rattle.ytt_base.specs.declared.fault.Place.{Place}
 use Rattle.star_spec.specs.Code.{Name, Expr, name, list, tuple, Exprs, no_exprs, an_expr, Clauses, no_clauses, for_clause, if_clause, LoadedNames, no_loaded, a_loaded, Statement, assign, augment, load}
 use Rattle.star_spec.specs.Values.{Value, Env, of_box}
-use Rattle.star_spec.specs.Outcomes.{Computation, give, fail_with, acting, reads, new_object, ◌>>=◌}
-use Rattle.star_spec.specs.Store.{box_at, set_box}
+use Rattle.star_spec.specs.Outcomes.{done, Computation, give, fail_with, on_store, reads, new_object, ◌>>=◌}
+use Rattle.star_spec.specs.Store.{box_at, change, with_contents}
 
 -- ---- boxes
 
@@ -32,9 +32,13 @@ abbrev pub read_name : {H : Type 0} → Place → Name → Option ℕ → Comput
 read_name p x None = fail_with kind.NameUnknown p x
 read_name p x (Some r) = reads (box_at r) >>= value_or_unset p x
 
+-- a box gets a value, whatever its marks say
+abbrev pub fill_box : {H : Type 0} → ℕ → Value → Computation H (Unit {0})
+fill_box r v = λ s. done tt (on_store (change (with_contents (of_box (Some v))) r) s)
+
 abbrev pub write_name : {H : Type 0} → Place → Name → Value → Option ℕ → Computation H (Unit {0})
 write_name p x v None = fail_with kind.NameUnknown p x
-write_name p x v (Some r) = acting p (set_box r v)
+write_name p x v (Some r) = fill_box r v
 
 -- ---- the names that are bound, in text order
 

@@ -147,10 +147,6 @@ without_pair r ps (Some i) store = put_contents r (of_dict (remove ps i)) store
 abbrev pub dict_remove : ℕ → Value → Act (Unit {0})
 dict_remove r k = changing r (λ store. without_pair r (pairs_at r store) (place_of_key k (pairs_at r store)) store)
 
--- a box is written whatever its marks say
-abbrev pub set_box : ℕ → Value → Act (Unit {0})
-set_box r v = put_contents r (of_box (Some v))
-
 -- ---- marks and loops
 
 abbrev pub as_frozen : Object → Object

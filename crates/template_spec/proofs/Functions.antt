@@ -64,9 +64,9 @@ mutual
   item_same k (if_block p e body more) os =
       front (or_else (function_among k body) (branches_function k more)) _ (ops_function k os)
       (two (function_among k body) (branches_function k more) _ _ (sym (items_same k body no_ops ∙ or_none (lifted (function_among k body)))) (branches_same k more))
-  item_same k (for_block p x e body q) os =
+  item_same k (for_block p x e body) os =
       front (function_among k body) _ (ops_function k os) (sym (items_same k body no_ops ∙ or_none (lifted (function_among k body))))
-  item_same k (def_block p n x ps kind body q) os =
+  item_same k (def_block p n x ps kind body) os =
       front (or_else (only_if (nat_eq k n) (of_def ps (fragment_of kind body) body)) (function_among k body)) _ (ops_function k os)
       (two (only_if (nat_eq k n) (of_def ps (fragment_of kind body) body)) (function_among k body) _ _ (lifted_only (nat_eq k n) (of_def ps (fragment_of kind body) body)) (sym (items_same k body no_ops ∙ or_none (lifted (function_among k body)))))
 
@@ -79,8 +79,8 @@ mutual
       ∙ (λ j. or_else (sym (lifted_or (function_of k i) (function_among k is)) j) (ops_function k os))
 
   branches_same : (k : ℕ) (b : Branches) → lifted (branches_function k b) ≡ arms_function k (arms b)
-  branches_same k (no_branch q) = refl
-  branches_same k (else_branch p is q) = sym (items_same k is no_ops ∙ or_none (lifted (function_among k is)))
+  branches_same k no_branch = refl
+  branches_same k (else_branch p is) = sym (items_same k is no_ops ∙ or_none (lifted (function_among k is)))
   branches_same k (elif_branch p e is more) =
       two (function_among k is) (branches_function k more) _ _ (sym (items_same k is no_ops ∙ or_none (lifted (function_among k is)))) (branches_same k more)
 
@@ -117,8 +117,8 @@ mutual
   item_found k w (node p kind ns x c) h = content_found k c h
   item_found k w (code s) h = tt
   item_found k w (if_block p e body more) h = both_found (function_among k body) (branches_function k more) (items_found k w body h.0) (branches_found k w more h.1)
-  item_found k w (for_block p x e body q) h = items_found k (within_loop w) body h
-  item_found k w (def_block p n x ps kind body q) h =
+  item_found k w (for_block p x e body) h = items_found k (within_loop w) body h
+  item_found k w (def_block p n x ps kind body) h =
       both_found (only_if (nat_eq k n) (of_def ps (fragment_of kind body) body)) (function_among k body) (def_found (nat_eq k n) (fragment_of kind body) ps body h) (items_found k free body h)
 
   pub items_found : (k : ℕ) (w : Around) (t : Items) → Placed w t → IfFound (function_among k t)
@@ -126,8 +126,8 @@ mutual
   items_found k w (an_item i is) h = both_found (function_of k i) (function_among k is) (item_found k w i h.0) (items_found k w is h.1)
 
   branches_found : (k : ℕ) (w : Around) (b : Branches) → PlacedBranches w b → IfFound (branches_function k b)
-  branches_found k w (no_branch q) h = tt
-  branches_found k w (else_branch p is q) h = items_found k w is h
+  branches_found k w no_branch h = tt
+  branches_found k w (else_branch p is) h = items_found k w is h
   branches_found k w (elif_branch p e is more) h = both_found (function_among k is) (branches_function k more) (items_found k w is h.0) (branches_found k w more h.1)
 
   content_found : (k : ℕ) (c : Content) → PlacedContent c → IfFound (content_function k c)

@@ -119,15 +119,15 @@ module _ {H : Type 0} (language : Language H) where
     item_good call n w (code x) env h k s = plain_good w (execute language call x env) (λ s. execute_fits language call w x env s h) k s
     item_good call n w (if_block p e body more) env h k s =
         on_paid (Fits w) p _ s (λ s. any_then (Fits w) (test_of language call e env s) _ (λ v s. pick_good w v (builds language call n body env) (choose language call n more env) (items_good call n w body env h.0) (branches_good call n w more env h.1) k s))
-    item_good call n w (for_block p x e body q) env h k s = loop_good w language call p x e env (builds language call n body env) (items_good call n (within_loop w) body env h) k s
-    item_good call n w (def_block p m x ps j body q) env h k s = plain_good w (define language call p m x ps env) (define_fits language call w p m x ps env) k s
+    item_good call n w (for_block p x e body) env h k s = loop_good w language call p x e env (builds language call n body env) (items_good call n (within_loop w) body env h) k s
+    item_good call n w (def_block p m x ps j body) env h k s = plain_good w (define language call p m x ps env) (define_fits language call w p m x ps env) k s
 
     pub items_good : (call : Call H) (n : ℕ) (w : Around) (t : Items) (env : Env) → Placed w t → (k : Children) (s : State H) → OnDone (Fits w) (builds language call n t env k s)
     items_good call n w no_items env h k s = record { by = tt }
     items_good call n w (an_item i is) env h k s = on_then (Fits w) (Fits w) (build language call n i env k s) (go_on (builds language call n is env)) (item_good call n w i env h.0 k s) (go_fits w (builds language call n is env) (items_good call n w is env h.1))
 
     branches_good : (call : Call H) (n : ℕ) (w : Around) (b : Branches) (env : Env) → PlacedBranches w b → (k : Children) (s : State H) → OnDone (Fits w) (choose language call n b env k s)
-    branches_good call n w (no_branch q) env h k s = record { by = tt }
-    branches_good call n w (else_branch p is q) env h k s = items_good call n w is env h k s
+    branches_good call n w no_branch env h k s = record { by = tt }
+    branches_good call n w (else_branch p is) env h k s = items_good call n w is env h k s
     branches_good call n w (elif_branch p e is more) env h k s =
         any_then (Fits w) (test_of language call e env s) _ (λ v s. pick_good w v (builds language call n is env) (choose language call n more env) (items_good call n w is env h.0) (branches_good call n w more env h.1) k s)

@@ -25,9 +25,9 @@ mutual
   item_named (code s) os = refl
   item_named (if_block p e body more) os =
       λ j. ((items_named body no_ops ∙ append-nil (items_names body)) j ++ arms_named more j) ++ ops_names os
-  item_named (for_block p x e body q) os =
+  item_named (for_block p x e body) os =
       λ j. (target_names x ++ (items_named body no_ops ∙ append-nil (items_names body)) j) ++ ops_names os
-  item_named (def_block p n x ps k body q) os = refl
+  item_named (def_block p n x ps k body) os = refl
 
   items_named : (t : Items) (os : Ops) → ops_names (items_ops t os) ≡ items_names t ++ ops_names os
   items_named no_items os = refl
@@ -35,8 +35,8 @@ mutual
       item_named i (items_ops is os) ∙ ap (λ l. item_names i ++ l) (items_named is os) ∙ sym (append_assoc (item_names i) (items_names is) (ops_names os))
 
   arms_named : (b : Branches) → arms_names (arms b) ≡ branches_names b
-  arms_named (no_branch q) = refl
-  arms_named (else_branch p is q) = items_named is no_ops ∙ append-nil (items_names is)
+  arms_named no_branch = refl
+  arms_named (else_branch p is) = items_named is no_ops ∙ append-nil (items_names is)
   arms_named (elif_branch p e is more) = λ j. (items_named is no_ops ∙ append-nil (items_names is)) j ++ arms_named more j
 
   content_named : (p : Place) (c : Content) (os : Ops) → ops_names (content_ops p c os) ≡ content_names c ++ ops_names os

@@ -60,15 +60,15 @@ straight_node : (k : ItemKind) (i : Item) → StraightItem k i → is_node i ≡
 straight_node k (node p j ns x c) h = refl
 straight_node k (code s) h = absurd h
 straight_node k (if_block p e body more) h = absurd h
-straight_node k (for_block p x e body q) h = absurd h
-straight_node k (def_block p n x ps j body q) h = absurd h
+straight_node k (for_block p x e body) h = absurd h
+straight_node k (def_block p n x ps j body) h = absurd h
 
 straight_written : (k : ItemKind) (i : Item) → StraightItem k i → is_written i ≡ true
 straight_written k (node p j ns x c) h = refl
 straight_written k (code s) h = absurd h
 straight_written k (if_block p e body more) h = absurd h
-straight_written k (for_block p x e body q) h = absurd h
-straight_written k (def_block p n x ps j body q) h = absurd h
+straight_written k (for_block p x e body) h = absurd h
+straight_written k (def_block p n x ps j body) h = absurd h
 
 straight_not_void : (k : ItemKind) (t : Items) → Straight k t → is_void t ≡ false
 straight_not_void k no_items h = refl
@@ -111,8 +111,8 @@ module _ (w : Ways) (last : List Stage) where
         (key_here z p key _ (holds_of c) (stage_at z ∷ below) s.1 (content_here c z p (stage_at z) below os s.2 r)))))
     item_here (code c) z x below os s e r = absurd s
     item_here (if_block p e body more) z x below os s f r = absurd s
-    item_here (for_block p x e body q) z y below os s f r = absurd s
-    item_here (def_block p n x ps j body q) z y below os s e r = absurd s
+    item_here (for_block p x e body) z y below os s f r = absurd s
+    item_here (def_block p n x ps j body) z y below os s e r = absurd s
 
     items_here : (t : Items) (z : Spot) (x : Stage) (below : List Stage) (os : Ops) → Straight (kind_at z) t → past_key x ≡ stage_at z → ((y : Stage) → past_key y ≡ stage_at z → Nested w last os (y ∷ below)) → Nested w last (items_ops t os) (x ∷ below)
     items_here no_items z x below os s e r = r x e

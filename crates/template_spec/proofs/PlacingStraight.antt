@@ -102,8 +102,8 @@ mutual
   item_stands kind w (node p k ns key c) h = content_stands c h.2
   item_stands kind w (code s) h = absurd h
   item_stands kind w (if_block p e body more) h = absurd h
-  item_stands kind w (for_block p x e body q) h = absurd h
-  item_stands kind w (def_block p number x ps k body q) h = absurd h
+  item_stands kind w (for_block p x e body) h = absurd h
+  item_stands kind w (def_block p number x ps k body) h = absurd h
 
   content_stands : (c : Content) → StraightContent c → PlacedContent c
   content_stands (written_value x) h = tt

@@ -136,10 +136,10 @@ module _ {H : Type 0} (language : Language H) where
     item_runs call (if_block p e body more) os w env top below h k s =
         act_runs call os env top below (build language call top.level (if_block p e body more) env) (run language call (op_if p (arm e (items_ops body no_ops) (arms more))) env)
         (record { by = λ k s. paid_follows (onto top below) p _ _ s ((when_follows (onto top below) (test_of language call e env) (builds language call top.level body env) (choose language call top.level more env) (runs language call (items_ops body no_ops) env) (run_arms language call (arms more) env) (as_block call env top below (builds language call top.level body env) (runs language call (items_ops body no_ops) env) (items_runs call body no_ops w env top below h.0)) (arms_run call more w env top below h.1)).by k) }) k s
-    item_runs call (for_block p x e body q) os w env top below h k s =
-        act_runs call os env top below (build language call top.level (for_block p x e body q) env) (run language call (op_for p x e (items_ops body no_ops)) env)
+    item_runs call (for_block p x e body) os w env top below h k s =
+        act_runs call os env top below (build language call top.level (for_block p x e body) env) (run language call (op_for p x e (items_ops body no_ops)) env)
         (loop_follows (onto top below) language call p x e env (builds language call top.level body env) (runs language call (items_ops body no_ops) env) (as_block call env top below (builds language call top.level body env) (runs language call (items_ops body no_ops) env) (items_runs call body no_ops (within_loop w) env top below h))) k s
-    item_runs call (def_block p n x ps j body q) os w env top below h k s =
+    item_runs call (def_block p n x ps j body) os w env top below h k s =
         act_runs call os env top below (plain (define language call p n x ps env)) (plain (define language call p n x ps env)) (plain_follows (onto top below) (define language call p n x ps env)) k s
 
     pub items_runs : (call : Call H) (t : Items) (os : Ops) (w : Around) (env : Env) (top : Node) (below : List Node) → Placed w t → (k : Children) (s : State H) → runs language call (items_ops t os) env (onto top below k) s ≡ after call os env top below (builds language call top.level t env k s)
@@ -149,8 +149,8 @@ module _ {H : Type 0} (language : Language H) where
         ∙ two_parts call os env top below (build language call top.level i env k s) (builds language call top.level is env) (runs language call (items_ops is os) env) (items_runs call is os w env top below h.1)
 
     arms_run : (call : Call H) (b : Branches) (w : Around) (env : Env) (top : Node) (below : List Node) → PlacedBranches w b → Follows (onto top below) (choose language call top.level b env) (run_arms language call (arms b) env)
-    arms_run call (no_branch q) w env top below h = record { by = λ k s. refl }
-    arms_run call (else_branch p body q) w env top below h = as_block call env top below (builds language call top.level body env) (runs language call (items_ops body no_ops) env) (items_runs call body no_ops w env top below h)
+    arms_run call no_branch w env top below h = record { by = λ k s. refl }
+    arms_run call (else_branch p body) w env top below h = as_block call env top below (builds language call top.level body env) (runs language call (items_ops body no_ops) env) (items_runs call body no_ops w env top below h)
     arms_run call (elif_branch p e body more) w env top below h =
         when_follows (onto top below) (test_of language call e env) (builds language call top.level body env) (choose language call top.level more env) (runs language call (items_ops body no_ops) env) (run_arms language call (arms more) env) (as_block call env top below (builds language call top.level body env) (runs language call (items_ops body no_ops) env) (items_runs call body no_ops w env top below h.0)) (arms_run call more w env top below h.1)
 
