@@ -4,8 +4,10 @@ pub mod Functions
 pub mod Leaving
 pub mod NamesAgree
 pub mod Nested
+pub mod NestedWords
 pub mod Nesting
+pub mod Numbers
 pub mod PlacingExamples
-pub mod PlacingStraight
+pub mod PlacingPlaced
 pub mod Runs
 pub mod Theorem

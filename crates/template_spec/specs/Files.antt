@@ -161,3 +161,7 @@ loaded_now shelf meaning p path (not_begun f) = do
 
 abbrev pub loader_of : {H : Type 0} → Shelf H → (file_meaning : ℕ → Computation H FileResult) → Loader H
 loader_of shelf meaning p path = λ s. loaded_now shelf meaning p path (shelf.look p path s.host) s
+
+-- where there is nothing to load
+abbrev pub nothing_to_load : {H : Type 0} → Loader H
+nothing_to_load p path = fail_with kind.LoadMissing p path
