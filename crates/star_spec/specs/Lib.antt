@@ -6,6 +6,7 @@ pub mod Code
 pub mod Eval
 pub mod Flow
 pub mod Grammar
+pub mod Held
 pub mod Keys
 pub mod Lambdas
 pub mod Language
