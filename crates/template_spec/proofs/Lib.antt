@@ -1,3 +1,4 @@
+pub mod BuildKeeps
 pub mod Examples
 pub mod Follows
 pub mod Functions
@@ -10,4 +11,5 @@ pub mod Numbers
 pub mod PlacingExamples
 pub mod PlacingPlaced
 pub mod Runs
+pub mod TakeKeeps
 pub mod Theorem
