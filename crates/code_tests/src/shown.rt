@@ -39,8 +39,10 @@ pub fn read(alloc: Global, text: &str) -> Result<String, Fail> {
     match read_flat(alloc, &Text::of(alloc, text)?, place) {
         Ok(expr) => shown(alloc, &expr),
         Err(Stop::Fault(fault)) => {
-            let Place { file, line } = fault.place;
             let kind = fault.kind.name();
+            let Some(Place { file, line }) = fault.place else {
+                return Ok(String::from_str(alloc, kind)?);
+            };
             Ok(format!(in alloc; "{kind}{} at {file}:{line}", fault.detail.as_str())?)
         }
         Err(Stop::Memory) => Ok(String::from_str(alloc, "Memory")?),

@@ -9,7 +9,7 @@ use std::test::Fail;
 use template_tree::{TContent, TItem, TItems, TNode, TNote, Template};
 use ytt_base::fault::Place;
 use ytt_base::text::Text;
-use ytt_base::tree::{Key, Tree};
+use ytt_base::tree::Key;
 
 fn node(alloc: Global, line: u32, content: TContent) -> TNode {
     TNode {
@@ -39,7 +39,7 @@ fn word(alloc: Global, text: &str) -> Result<Key, Fail> {
 }
 
 fn number(n: i128) -> TContent {
-    TContent::Scalar(Tree::Int(n))
+    TContent::Scalar(Key::Int(n))
 }
 
 /// A map of two pairs under one key, the second one perhaps with a note.
@@ -66,7 +66,7 @@ fn template(alloc: Global, first: TNode, second: TNode) -> Result<Template, Fail
 }
 
 fn null() -> TContent {
-    TContent::Scalar(Tree::Null)
+    TContent::Scalar(Key::Null)
 }
 
 #[test]

@@ -116,8 +116,9 @@ fn shown_stop(alloc: Global, stop: &Stop) -> Result<String, Fail> {
         Stop::Memory => Ok(format!(in alloc; "out of memory")?),
         Stop::Fault(fault) => {
             let kind = fault.kind.name();
-            let file = fault.place.file;
-            let line = fault.place.line;
+            let Some(Place { file, line }) = fault.place else {
+                return Ok(String::from_str(alloc, kind)?);
+            };
             Ok(format!(in alloc; "{kind} at {file}:{line}{}", fault.detail.as_str())?)
         }
     }

@@ -1,13 +1,12 @@
-//! Renders Carvel ytt templates: `gingercrag [render] -f PATH [--steps N]`.
+//! Renders Carvel ytt templates: `gingercrag [render] -f PATH [--steps N]`, where the steps may also be
+//! written `--steps=N`.
 #![tactic(auto)]
 
-mod words;
-
-use crate::words::read_words;
 use std::process::ExitCode;
 use ytt_main::{Status, ytt_main};
 use ytt_outside::host_files::HostFiles;
 use ytt_outside::host_sink::HostSink;
+use ytt_outside::host_words::read_words;
 use ytt_outside::sink::Sink;
 
 fn main(rt: HostRuntime) -> ExitCode {
@@ -24,5 +23,5 @@ fn main(rt: HostRuntime) -> ExitCode {
             Status::Memory
         }
     };
-    ExitCode::from(status as u8)
+    ExitCode::from(status.code())
 }

@@ -4,7 +4,7 @@ use std::alloc::Global;
 use std::process::Abort;
 use std::test::Fail;
 use yaml_read::read_plain;
-use ytt_base::fault::Stop;
+use ytt_base::fault::{Place, Stop};
 use ytt_base::tree::{Key, Pairs, Tree, Trees};
 
 fn shown_key(alloc: Global, key: &Key) -> Result<String, Fail> {
@@ -68,7 +68,10 @@ fn shown_stop(alloc: Global, stop: &Stop) -> Result<String, Fail> {
     match stop {
         Stop::Memory => Ok(format!(in alloc; "out of memory")?),
         Stop::Fault(fault) => {
-            let file = if fault.place.file == 2 {
+            let Some(Place { file, line }) = fault.place else {
+                return Ok(String::from_str(alloc, fault.kind.name())?);
+            };
+            let file = if file == 2 {
                 ""
             } else {
                 " of another file"
@@ -79,9 +82,8 @@ fn shown_stop(alloc: Global, stop: &Stop) -> Result<String, Fail> {
                 ": "
             };
             Ok(format!(in alloc;
-                "{} at {}{file}{detail}{}",
+                "{} at {line}{file}{detail}{}",
                 fault.kind.name(),
-                fault.place.line,
                 fault.detail.as_str()
             )?)
         }

@@ -83,8 +83,9 @@ pub fn shown(alloc: Global, answer: Result<Quoted, Stop>) -> Result<String, Fail
         Err(Stop::Memory) => Ok(format!(in alloc; "out of memory")?),
         Err(Stop::Fault(fault)) => {
             let kind = fault.kind.name();
-            let file = fault.place.file;
-            let line = fault.place.line;
+            let Some(Place { file, line }) = fault.place else {
+                return Ok(String::from_str(alloc, kind)?);
+            };
             Ok(format!(in alloc; "{kind} at {file}:{line}{}", fault.detail.as_str())?)
         }
     }

@@ -4,7 +4,7 @@ use std::alloc::Global;
 use std::test::Fail;
 use yaml_noted::{Comments, Content, NotedDocs, NotedItem, NotedItems};
 use yaml_read::{read_noted, read_plain};
-use ytt_base::fault::Stop;
+use ytt_base::fault::{Place, Stop};
 use ytt_base::tree::{Key, Pairs, Tree, Trees};
 
 /// A text, and the documents that it is read as, or the fault.
@@ -156,12 +156,14 @@ fn shown_stop(alloc: Global, stop: &Stop) -> Result<String, Fail> {
         Stop::Memory => Ok(format!(in alloc; "out of memory")?),
         Stop::Fault(fault) => {
             let kind = fault.kind.name();
-            let file = if fault.place.file == 3 {
+            let Some(Place { file, line }) = fault.place else {
+                return Ok(String::from_str(alloc, kind)?);
+            };
+            let file = if file == 3 {
                 ""
             } else {
                 " in another file"
             };
-            let line = fault.place.line;
             let detail = fault.detail.as_str();
             let colon = if detail.is_empty() { "" } else { ": " };
             Ok(format!(in alloc; "{kind}{file} at {line}{colon}{detail}")?)

@@ -1,7 +1,8 @@
 // The texts of keys.
 
 use std::test::Fail;
-use yaml_scalar::{fits_plain, key_text};
+use yaml_scalar::key_text;
+use yaml_styles::fits_plain;
 use ytt_base::text::Text;
 use ytt_base::tree::Key;
 

@@ -1,6 +1,7 @@
 pub mod Copies
 pub mod Expressions
 pub mod Floor
+pub mod Known
 pub mod Meeting
 pub mod NodeEnds
 pub mod Noting

@@ -3,7 +3,7 @@ use Rattle.std.proofs.Common.{◌≡◌, ℕ, Result, Err, nat_le, Bool, true, f
 use Rattle.ytt_base.specs.declared.fault.Place.{Place}
 use Rattle.ytt_base.specs.declared.fault.Stop.{Stop}
 use Rattle.ytt_base.specs.declared.fault.Stop.TheVariants as stop
-use Rattle.star_spec.specs.Outcomes.{State, Ending, done, bad, then_do, Computation, give, paid_if, paid_by}
+use Rattle.star_spec.specs.Outcomes.{State, Ending, done, then_do, Computation, give, paid_if, paid_by}
 use Rattle.star_eval.specs.Meets.{with_steps, Meets}
 
 -- a refusal is the end of all that would follow
@@ -26,10 +26,6 @@ paid_if_first false n p m s = refl
 -- steps are taken first
 pub paid_first : {H A : Type 0} (n : ℕ) (p : Place) (m : Computation H A) (s : State H) → paid_by n p m s ≡ then_do (paid_by n p (give (tt {0})) s) (λ u. m)
 paid_first n p m s = paid_if_first (nat_le n s.steps) n p m s
-
-pub then_assoc : {H A B C : Type 0} (r : Ending H A) (f : A → Computation H B) (g : B → Computation H C) → then_do (then_do r f) g ≡ then_do r (λ a s. then_do (f a s) g)
-then_assoc (done a s) f g = refl
-then_assoc (bad e s) f g = refl
 
 -- a value, and what follows from it
 pub done_then : {A B : Type 0} (o : Ending (Unit {0}) A) (a : A) (s : State (Unit {0})) (k : A → Computation (Unit {0}) B) (x : Ending (Unit {0}) B) → o ≡ done a s → k a s ≡ x → then_do o k ≡ x

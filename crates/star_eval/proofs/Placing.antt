@@ -8,9 +8,9 @@ use Rattle.star_spec.specs.Values.{Child, Children, a_child}
 use Rattle.template_spec.specs.Adding.{add_child, in_place_if, keys_equal, overrides}
 use Rattle.star_eval.specs.declared.built.BuiltItem.{BuiltItem}
 use Rattle.star_eval.specs.declared.built.BuiltNote.{BuiltNote}
-use Rattle.star_eval.specs.Positions.{here_or, position_of}
-use Rattle.star_eval.specs.View.{built_notes_of, child_of, children_of, in_scalar_key}
-use Rattle.star_eval.proofs.ValuesInTurn.{dropped}
+use Rattle.star_eval.specs.Positions.{here_or, in_scalar_key, position_of}
+use Rattle.star_eval.specs.View.{built_notes_of, child_of, children_of}
+use Rattle.ytt_laws.proofs.Lists.{dropped}
 use Rattle.star_eval.proofs.Views.{child_of-item}
 
 -- ---- notes that override

@@ -25,7 +25,7 @@ use Rattle.star_eval.specs.Meets.{Meets, with_steps}
 use Rattle.star_eval.specs.Parts.{Shows, ops_of, part_in}
 use Rattle.star_eval.specs.View.{nodes_of}
 use Rattle.star_eval.proofs.Meeting.{meets_same, meets_stop}
-use Rattle.star_eval.proofs.ValuesInTurn.{dropped}
+use Rattle.ytt_laws.proofs.Lists.{dropped}
 
 -- ---- one part after another
 

@@ -1,6 +1,5 @@
 -- Arguments that are evaluated one after another.
-use Rattle.std.proofs.Common.{◌≡◌, ℕ, ◌+◌, ◌<◌, ◌≤◌, List, [], ◌∷◌, ◌++◌, length, drop, get_or, Result, Err, refl, sym, ap, ◌∙◌, add-one}
-use Rattle.std.proofs.Math.Seq.{drop-cons}
+use Rattle.std.proofs.Common.{◌≡◌, ℕ, ◌+◌, ◌<◌, ◌≤◌, List, [], ◌∷◌, ◌++◌, length, drop, get_or, Result, Err, refl, sym, ap, ◌∙◌}
 use Rattle.std.proofs.Math.ListN.{drop_of_length-le}
 use Rattle.ytt_base.specs.declared.fault.Stop.{Stop}
 use Rattle.star_spec.specs.Eval.{eval, eval_all}
@@ -14,11 +13,9 @@ use Rattle.star_eval.specs.declared.value.Value.{Value}
 use Rattle.star_eval.specs.Following.{and_values}
 use Rattle.star_eval.specs.Meets.{Meets, with_steps}
 use Rattle.star_eval.specs.View.{value_of, values_of}
-use Rattle.star_eval.proofs.Meeting.{meets_same, meets_stop, then_assoc}
-
--- the member at an index, and those behind it
-pub dropped : {T : Type 0} (xs : List T) (j : ℕ) (x : T) → j < length xs → x ≡ get_or xs j x → drop j xs ≡ x ∷ drop (j + 1) xs
-dropped xs j x lt e = drop-cons xs j x lt ∙ (λ i. sym e i ∷ drop (sym (add-one j) i) xs)
+use Rattle.template_spec.proofs.Follows.{then_assoc}
+use Rattle.ytt_laws.proofs.Lists.{dropped}
+use Rattle.star_eval.proofs.Meeting.{meets_same, meets_stop}
 
 and_last : (vs : List Value) (v : Value) (ws : plain.Values) → and_values (values_of (vs ++ v ∷ [])) ws ≡ and_values (values_of vs) (a_value (value_of v) ws)
 and_last [] v ws = refl

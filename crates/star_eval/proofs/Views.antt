@@ -7,7 +7,8 @@ use Rattle.star_tree.specs.View.{item_kind_of}
 use Rattle.star_eval.specs.declared.built.BuiltItem.{BuiltItem}
 use Rattle.star_eval.specs.declared.built.BuiltValue as held
 use Rattle.star_eval.specs.declared.built.BuiltValue.{the_lemmas}
-use Rattle.star_eval.specs.View.{body_of, built_notes_of, child_of, children_of, in_scalar_key}
+use Rattle.star_eval.specs.Positions.{in_scalar_key}
+use Rattle.star_eval.specs.View.{body_of, built_notes_of, child_of, children_of}
 
 pub body_of-One : (t : Tree) → body_of (held.One t) ≡ one (tree_of t)
 body_of-One t = search (rules, the_lemmas)

@@ -1,4 +1,4 @@
-pub mod Acts
+pub mod AfterStep
 pub mod Following
 pub mod Meets
 pub mod Parts

@@ -1,12 +1,11 @@
 -- The plain data that values, built items and open nodes stand for.
-use Rattle.std.specs.Prelude.{ℕ, suc, List, [], ◌∷◌, map as each, Option, Some, None}
-use Rattle.ytt_base.specs.declared.tree.Key.{Key}
-use Rattle.ytt_base.specs.Trees.{Scalar}
-use Rattle.ytt_base.specs.View.{key_of, tree_of}
+use Rattle.std.specs.Prelude.{ℕ, suc, List, [], ◌∷◌, map as each}
+use Rattle.ytt_base.specs.View.{tree_of}
 use Rattle.star_spec.specs.Values as plain
 use Rattle.star_spec.specs.Values.{int_value, text_value, no_values, a_value, no_fields, arguments, child, no_children, a_child, no_built, a_built, one, map_of, list_of, taken}
 use Rattle.star_tree.specs.View.{item_kind_of, holds_of}
 use Rattle.template_spec.specs.Run.{Node}
+use Rattle.star_eval.specs.Positions.{in_scalar_key}
 use Rattle.star_eval.specs.declared.value.Value.{Value}
 use Rattle.star_eval.specs.declared.value.Value.TheVariants as value
 use Rattle.star_eval.specs.declared.built.BuiltNote.{BuiltNote}
@@ -26,10 +25,6 @@ values_of (v ∷ vs) = a_value (value_of v) (values_of vs)
 abbrev pub built_notes_of : List BuiltNote → plain.BuiltNotes
 built_notes_of [] = no_built
 built_notes_of (n ∷ ns) = a_built n.name (arguments (values_of n.args) no_fields) (built_notes_of ns)
-
-abbrev pub in_scalar_key : Option Key → Option Scalar
-in_scalar_key None = None
-in_scalar_key (Some k) = Some (key_of k)
 
 abbrev pub in_children : List plain.Child → plain.Children
 in_children [] = no_children
@@ -68,7 +63,7 @@ node_at level n = record {
   notes = built_notes_of n.notes;
   key = in_scalar_key n.key;
   value = taken (one (tree_of n.value));
-  children = children_of n.children;
+  children = children_of n.children.items;
 }
 
 -- from the outermost one, at this level, on

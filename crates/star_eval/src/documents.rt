@@ -1,8 +1,7 @@
 // The trees of what was built.
-ghost use Rattle.std.specs.Prelude.{◌≡◌, IfOk, OnOk};
+ghost use Rattle.std.specs.Prelude.{◌≡◌, ◌∷◌, ◌++◌, [], IfOk, OnOk, if◌then◌else◌};
 ghost use Rattle.ytt_base.specs.Trees.{is_null};
 ghost use Rattle.ytt_base.specs.View.{pairs_of, tree_of, trees_of};
-ghost use Rattle.star_eval.specs.Following.{with_document};
 ghost use Rattle.star_eval.specs.View.{body_of, children_of};
 ghost use Rattle.template_spec.specs.Meaning.{documents};
 ghost use Rattle.template_spec.specs.Take.{body_tree, children_pairs, children_trees};
@@ -71,7 +70,7 @@ fn is_null_tree(tree: &Tree) -> bool
 
 /// Puts a document behind the others, unless it is null.
 fn put_document(trees: &mut Trees, tree: Tree) -> Result<(), Memory>
-    ensures { OnOk result (trees.new ≡ with_document (is_null (tree_of tree)) trees.old tree) }
+    ensures { OnOk result (trees.new ≡ (if is_null (tree_of tree) then trees.old else trees.old ++ tree ∷ [])) }
 {
     if is_null_tree(&tree) {
         return Ok(());

@@ -3,7 +3,8 @@ ghost use Rattle.std.specs.Prelude.{◌≡◌, ◌+◌, ◌∷◌, [], ℕ, List
 ghost use Rattle.ytt_base.specs.declared.fault.Place.{Place};
 ghost use Rattle.ytt_base.specs.View.{tree_of};
 ghost use Rattle.star_eval.specs.Meets.{Tells};
-ghost use Rattle.star_eval.specs.View.{body_of, built_notes_of, child_of, children_of, in_scalar_key, node_at};
+ghost use Rattle.star_eval.specs.Positions.{in_scalar_key};
+ghost use Rattle.star_eval.specs.View.{body_of, built_notes_of, child_of, children_of, node_at};
 ghost use Rattle.star_spec.specs.Acts.{on};
 ghost use Rattle.star_spec.specs.Eval.{starlark};
 ghost use Rattle.star_spec.specs.Language.{Call};
@@ -36,14 +37,14 @@ fn held(holds: Holds, value: Tree, children: Built) -> BuiltValue
 
 /// The item that a node is built into.
 fn closed(node: OpenNode) -> BuiltItem
-    ensures { (children : Children) → add_taken {H = Unit {0}} children node.place (item_kind_of node.kind) (built_notes_of node.notes) (in_scalar_key node.key) (closed_with (holds_of node.holds) (taken (one (tree_of node.value))) (children_of node.children)) ≡ add_child children (child_of result) }
+    ensures { (children : Children) → add_taken {H = Unit {0}} children node.place (item_kind_of node.kind) (built_notes_of node.notes) (in_scalar_key node.key) (closed_with (holds_of node.holds) (taken (one (tree_of node.value))) (children_of node.children.items)) ≡ add_child children (child_of result) }
 {
     BuiltItem {
         place: node.place,
         kind: node.kind,
         notes: node.notes,
         key: node.key,
-        value: held(node.holds, node.value, node.children),
+        value: held(node.holds, node.value, node.children.items),
     }
 }
 
@@ -51,6 +52,6 @@ fn closed(node: OpenNode) -> BuiltItem
 pub(crate) fn ended(alloc: Global, node: OpenNode, mut under: OpenNode) -> Result<OpenNode, Stop>
     ensures { (call : Call (Unit {0})) (place : Place) (level : ℕ) (below : List Node) → Tells (λ u. on (node_at level u ∷ below)) result (node_part starlark call (node_end place) [] (node_at (level + 1) node ∷ node_at level under ∷ below)) }
 {
-    add_item(alloc, &mut under.children, closed(node))?;
+    under.children = add_item(alloc, under.children, closed(node))?;
     Ok(under)
 }

@@ -1,5 +1,5 @@
 // Expressions.
-ghost use Rattle.star_eval.specs.Acts.{acts, place_in};
+ghost use Rattle.star_eval.specs.AfterStep.{after_step, place_in};
 ghost use Rattle.star_eval.specs.Meets.{Meets, with_steps};
 ghost use Rattle.star_eval.specs.View.{value_of};
 ghost use Rattle.std.specs.Prelude.{[], ◌≡◌};
@@ -43,7 +43,7 @@ fn place_of(file: u32, expr: &Expr) -> Place
 
 #[cycle(eval)]
 fn act(alloc: Global, file: u32, expr: &Expr, steps: &mut u64) -> Result<Value, Stop>
-    ensures { (call : Call (Unit {0})) → Meets value_of result steps.new (acts call (expr_of file expr.now) [] (with_steps steps.old)) }
+    ensures { (call : Call (Unit {0})) → Meets value_of result steps.new (after_step call (expr_of file expr.now) [] (with_steps steps.old)) }
 {
     match expr {
         Expr::Int(_, n) => Ok(Value::Int(*n)),

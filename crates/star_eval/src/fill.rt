@@ -1,7 +1,7 @@
 // What fills an open node.
 ghost use Rattle.std.specs.Prelude.{◌≡◌, ◌∷◌, [], IfOk, ℕ, List};
 ghost use Rattle.ytt_base.specs.declared.fault.Place.{Place};
-ghost use Rattle.ytt_base.specs.Trees.{scalar};
+ghost use Rattle.ytt_base.specs.Trees as trees;
 ghost use Rattle.ytt_base.specs.View.{key_of, tree_of};
 ghost use Rattle.star_eval.specs.Meets.{Meets, Tells, with_steps};
 ghost use Rattle.star_eval.specs.View.{node_at, value_of};
@@ -10,7 +10,7 @@ ghost use Rattle.star_spec.specs.Eval.{starlark};
 ghost use Rattle.star_spec.specs.Language.{Call};
 ghost use Rattle.star_spec.specs.Program.{ItemKind, node_key, node_note, node_value, node_value_from};
 ghost use Rattle.star_spec.specs.Values.{one, taken};
-ghost use Rattle.star_tree.specs.View.{expr_of, exprs_of, scalar_of};
+ghost use Rattle.star_tree.specs.View.{expr_of, exprs_of};
 ghost use Rattle.template_spec.specs.Run.{Node, node_part};
 ghost use Rattle.template_spec.specs.Take.{take_over};
 
@@ -53,25 +53,23 @@ pub(crate) fn keyed(mut node: OpenNode, key: &Key) -> Result<OpenNode, Stop>
     Ok(node)
 }
 
-/// The scalar that a tree is. A list or a map counts as null.
-fn as_scalar(tree: &Tree) -> Result<Tree, Memory>
-    ensures { IfOk result (λ t. tree_of t ≡ scalar (scalar_of tree.now)) }
+/// The tree that a written scalar is.
+fn scalar_tree(scalar: &Key) -> Result<Tree, Memory>
+    ensures { IfOk result (λ t. tree_of t ≡ trees.scalar (key_of scalar.now)) }
 {
-    match tree {
-        Tree::Null => Ok(Tree::Null),
-        Tree::Bool(b) => Ok(Tree::Bool(*b)),
-        Tree::Int(n) => Ok(Tree::Int(*n)),
-        Tree::Str(s) => Ok(Tree::Str(s.copy()?)),
-        Tree::List(_) => Ok(Tree::Null),
-        Tree::Map(_) => Ok(Tree::Null),
+    match scalar {
+        Key::Null => Ok(Tree::Null),
+        Key::Bool(b) => Ok(Tree::Bool(*b)),
+        Key::Int(n) => Ok(Tree::Int(*n)),
+        Key::Str(text) => Ok(Tree::Str(text.copy()?)),
     }
 }
 
 /// The node with this written value.
-pub(crate) fn valued(mut node: OpenNode, tree: &Tree) -> Result<OpenNode, Stop>
-    ensures { (call : Call (Unit {0})) (place : Place) (level : ℕ) (below : List Node) → Tells (λ n. on (node_at level n ∷ below)) result (node_part starlark call (node_value place (scalar_of tree.now)) [] (node_at level node ∷ below)) }
+pub(crate) fn valued(mut node: OpenNode, value: &Key) -> Result<OpenNode, Stop>
+    ensures { (call : Call (Unit {0})) (place : Place) (level : ℕ) (below : List Node) → Tells (λ n. on (node_at level n ∷ below)) result (node_part starlark call (node_value place (key_of value.now)) [] (node_at level node ∷ below)) }
 {
-    node.value = as_scalar(tree)?;
+    node.value = scalar_tree(value)?;
     Ok(node)
 }
 

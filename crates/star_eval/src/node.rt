@@ -1,6 +1,7 @@
 // Open nodes.
 
-use crate::built::{Built, BuiltNotes};
+use crate::built::BuiltNotes;
+use crate::members::Members;
 use sqlite_items::Items;
 use star_tree::{Holds, ItemKind};
 use std::alloc::Global;
@@ -16,7 +17,7 @@ pub(crate) struct OpenNode {
     pub notes: BuiltNotes,
     pub key: Option<Key>,
     pub value: Tree,
-    pub children: Built,
+    pub children: Members,
 }
 
 /// Open nodes, the innermost one last.
@@ -39,7 +40,7 @@ impl OpenNode {
             notes: Items::new(alloc),
             key: None,
             value: Tree::Null,
-            children: Items::new(alloc),
+            children: Members::new(alloc),
         }
     }
 }

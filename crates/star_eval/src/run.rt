@@ -36,10 +36,10 @@ fn at_start(alloc: Global) -> Result<Stack, Memory>
     ensures { IfOk result (λ st. nodes_of st ≡ bottom 0 ∷ []) }
 {
     let mut stack = Items::new(alloc);
-    let nowhere = Place { file: 0, line: 0 };
+    let start = Place { file: 1, line: 1 };
     push(
         &mut stack,
-        OpenNode::new(alloc, nowhere, ItemKind::Document, Holds::List),
+        OpenNode::new(alloc, start, ItemKind::Document, Holds::List),
     )?;
     Ok(stack)
 }
@@ -75,7 +75,7 @@ fn documents_in(alloc: Global, mut stack: Stack) -> Result<Trees, Memory>
 {
     match stack.pop() {
         None => Ok(Items::new(alloc)),
-        Some(node) => documents_of(alloc, &node.children),
+        Some(node) => documents_of(alloc, &node.children.items),
     }
 }
 

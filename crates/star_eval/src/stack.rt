@@ -3,13 +3,13 @@ ghost use Rattle.std.specs.Prelude.{◌≡◌, ◌∷◌, [], ℕ, List, length}
 ghost use Rattle.ytt_base.specs.declared.fault.FaultKind.TheVariants as kind;
 ghost use Rattle.ytt_base.specs.declared.fault.Place.{Place};
 ghost use Rattle.ytt_base.specs.declared.fault.Stop.TheVariants as stop;
-ghost use Rattle.ytt_base.specs.Outcomes.{fault_at};
+ghost use Rattle.ytt_base.specs.Outcomes.{fault_of};
 ghost use Rattle.star_eval.specs.Meets.{Meets, with_steps};
 ghost use Rattle.star_eval.specs.View.{node_at, nodes_of};
 ghost use Rattle.star_spec.specs.Acts.{Flow, on};
 ghost use Rattle.star_spec.specs.Eval.{starlark};
 ghost use Rattle.star_spec.specs.Language.{Call};
-ghost use Rattle.star_spec.specs.Outcomes.{Ending, no_place};
+ghost use Rattle.star_spec.specs.Outcomes.{Ending};
 ghost use Rattle.star_spec.specs.Program.{node_end, node_start, node_value_from};
 ghost use Rattle.star_tree.specs.View.{expr_of, holds_of, item_kind_of, part_of};
 ghost use Rattle.template_spec.specs.Run.{Node, node_part};
@@ -18,16 +18,21 @@ use crate::end::ended;
 use crate::fill::{computed, keyed, noted, valued};
 use crate::list::push;
 use crate::node::{OpenNode, Stack};
-use crate::steps::{pay, refusal};
+use crate::steps::pay;
 use star_tree::{Expr, Holds, ItemKind, NodeOp};
 use std::alloc::Global;
-use ytt_base::fault::{FaultKind, Place, Stop};
+use ytt_base::fault::{Fault, FaultKind, Place, Stop};
+use ytt_base::text::Text;
 
-/// The refusal of a program in no proper form.
+/// The refusal of a program in no proper form, of no place.
 fn ill_formed(alloc: Global) -> Stop
-    ensures { result ≡ stop.Fault (fault_at kind.CodeForm no_place) }
+    ensures { result ≡ stop.Fault (fault_of kind.CodeForm) }
 {
-    refusal(alloc, FaultKind::CodeForm, Place { file: 0, line: 0 })
+    Stop::Fault(Fault {
+        kind: FaultKind::CodeForm,
+        place: None,
+        detail: Text::new(alloc),
+    })
 }
 
 /// Puts the node that a call gave on the stack.
@@ -117,7 +122,7 @@ fn step_at(
             put_back(stack, noted(alloc, file, node, *place, name, args, steps))
         }
         NodeOp::Key(_, key) => put_back(stack, keyed(node, key)),
-        NodeOp::Value(_, tree) => put_back(stack, valued(node, tree)),
+        NodeOp::Value(_, value) => put_back(stack, valued(node, value)),
         NodeOp::ValueFrom(_, expr) => value_from(alloc, file, stack, node, expr, steps),
         NodeOp::End(_) => end(alloc, stack, node),
     }

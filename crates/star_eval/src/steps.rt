@@ -9,13 +9,13 @@ use std::alloc::Global;
 use ytt_base::fault::{Fault, FaultKind, Place, Stop};
 use ytt_base::text::Text;
 
-/// The refusal of this kind, without a detail.
+/// The refusal of this kind at a place, without a detail.
 pub(crate) fn refusal(alloc: Global, kind: FaultKind, place: Place) -> Stop
     ensures { result ≡ stop.Fault (fault_at kind place) }
 {
     Stop::Fault(Fault {
         kind,
-        place,
+        place: Some(place),
         detail: Text::new(alloc),
     })
 }

@@ -25,7 +25,7 @@ impl Halt {
             Halt::Memory => Stop::Memory,
             Halt::CodeForm(_) | Halt::TooDeep(_) => Stop::Fault(Fault {
                 kind: FaultKind::NotBuilt,
-                place,
+                place: Some(place),
                 detail: Text::new(alloc),
             }),
         }

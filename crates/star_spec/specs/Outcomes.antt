@@ -5,7 +5,7 @@ use Rattle.ytt_base.specs.declared.fault.Fault.{Fault}
 use Rattle.ytt_base.specs.declared.fault.FaultKind.{FaultKind}
 use Rattle.ytt_base.specs.declared.fault.FaultKind.TheVariants as kind
 use Rattle.ytt_base.specs.declared.fault.Place.{Place}
-use Rattle.ytt_base.specs.Outcomes.{place_at}
+use Rattle.ytt_base.specs.Outcomes.{fault_of}
 use Rattle.star_spec.specs.Values.{Store, Contents}
 use Rattle.star_spec.specs.Store.{Refusal, frozen, iterating, index_range, key_missing, Answer, did, refused, Act, with_object}
 
@@ -36,7 +36,7 @@ abbrev pub give : {H A : Type 0} → A → Computation H A
 give a = λ s. done a s
 
 abbrev pub fail_with : {H A : Type 0} → FaultKind → Place → (detail : List ℕ) → Computation H A
-fail_with k p d = λ s. bad (record { kind = k; place = p; detail = d }) s
+fail_with k p d = λ s. bad (record { kind = k; place = Some p; detail = d }) s
 
 abbrev pub fail : {H A : Type 0} → FaultKind → Place → Computation H A
 fail k p = fail_with k p []
@@ -54,12 +54,9 @@ need k p false = fail k p
 abbrev pub not_built : {H A : Type 0} → Place → Computation H A
 not_built p = fail kind.NotBuilt p
 
-abbrev pub no_place : Place
-no_place = place_at 0 0
-
--- what only a program in no proper form meets
+-- what only a program in no proper form meets, a fault of no place
 abbrev pub ill_formed : {H A : Type 0} → Computation H A
-ill_formed = fail kind.CodeForm no_place
+ill_formed = λ s. bad (fault_of kind.CodeForm) s
 
 abbrev pub or_ill_formed : {H A : Type 0} → Option A → Computation H A
 or_ill_formed None = ill_formed

@@ -1,10 +1,7 @@
 -- The plain data that a syntax tree of a file stands for.
 use Rattle.std.specs.Prelude.{ℕ, List, [], ◌∷◌, map as each}
-use Rattle.ytt_base.specs.declared.tree.Tree.{Tree}
 use Rattle.ytt_base.specs.Outcomes.{place_at}
-use Rattle.ytt_base.specs.Trees as trees
-use Rattle.ytt_base.specs.Trees.{Scalar, null}
-use Rattle.ytt_base.specs.View.{key_of, tree_of}
+use Rattle.ytt_base.specs.View.{key_of}
 use Rattle.star_spec.specs.Code as plain
 use Rattle.star_spec.specs.Code.{Exprs, no_exprs, an_expr, UnaryOperator, negation, BinaryOperator, addition, subtraction, multiplication, floor_division}
 use Rattle.star_spec.specs.Program as program
@@ -49,14 +46,6 @@ abbrev pub exprs_of : (file : ℕ) → List Expr → Exprs
 exprs_of file [] = no_exprs
 exprs_of file (e ∷ es) = an_expr (expr_of file e) (exprs_of file es)
 
--- the scalar that a tree is; a list or a map, which stands nowhere where a scalar must, counts as null
-abbrev pub in_scalar : trees.Tree → Scalar
-in_scalar (trees.scalar s) = s
-in_scalar _ = null
-
-abbrev pub scalar_of : Tree → Scalar
-scalar_of t = in_scalar (tree_of t)
-
 -- ---- programs
 
 abbrev pub item_kind_of : ItemKind → program.ItemKind
@@ -75,7 +64,7 @@ abbrev pub part_of : (file : ℕ) → NodeOp → NodePart
 part_of file (node_op.Start p kind h) = node_start p (item_kind_of kind) (holds_of h)
 part_of file (node_op.Note p x es) = node_note p x (exprs_of file es)
 part_of file (node_op.Key p k) = node_key p (key_of k)
-part_of file (node_op.Value p t) = node_value p (scalar_of t)
+part_of file (node_op.Value p k) = node_value p (key_of k)
 part_of file (node_op.ValueFrom p e) = node_value_from p (expr_of file e)
 part_of file (node_op.End p) = node_end p
 

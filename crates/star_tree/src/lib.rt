@@ -1,4 +1,6 @@
 //! Syntax trees of Starlark code, and programs.
+//!
+//! `Expr::copy` and `copy_args` give an equal value; `specs/View` leads to the plain data that definitions speak of.
 #![tactic(auto)]
 
 mod expr;

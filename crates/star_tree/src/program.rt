@@ -4,7 +4,7 @@ use crate::expr::{Args, Expr};
 use sqlite_items::Items;
 use ytt_base::fault::Place;
 use ytt_base::text::Text;
-use ytt_base::tree::{Key, Tree};
+use ytt_base::tree::Key;
 
 /// What an item is.
 #[derive(Clone, Copy, Debug, PartialEq, Eq)]
@@ -25,13 +25,13 @@ pub enum Holds {
 }
 
 /// A part of a node, with its place: its start, a note with its name and arguments, a pair's key, its
-/// value as it is written or from an expression, its end.
+/// value as a written scalar, which is exactly what a key may be, or from an expression, its end.
 #[derive(Drop)]
 pub enum NodeOp {
     Start(Place, ItemKind, Holds),
     Note(Place, Text, Args),
     Key(Place, Key),
-    Value(Place, Tree),
+    Value(Place, Key),
     ValueFrom(Place, Expr),
     End(Place),
 }

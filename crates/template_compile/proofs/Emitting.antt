@@ -1,7 +1,7 @@
 -- Instructions that are put behind others.
-use Rattle.std.proofs.Common.{◌≡◌, ℕ, ◌+◌, ◌<◌, List, [], ◌∷◌, ◌++◌, length, drop, get_or, refl, sym, ap, ◌∙◌, add-one, append_assoc, append-nil, Result, Ok, Err, OnOk}
+use Rattle.std.proofs.Common.{◌≡◌, ℕ, ◌+◌, ◌<◌, List, [], ◌∷◌, ◌++◌, length, drop, get_or, refl, sym, ap, ◌∙◌, append_assoc, append-nil, Result, Ok, Err, OnOk}
 use Rattle.ytt_base.specs.declared.text.Memory.{Memory}
-use Rattle.std.proofs.Math.Seq.{drop-cons}
+use Rattle.ytt_laws.proofs.Lists.{dropped}
 use Rattle.star_spec.specs.Program.{Instruction, part}
 use Rattle.star_tree.specs.declared.program.Instr.{Instr}
 use Rattle.star_tree.specs.declared.program.Instr.TheVariants as instr
@@ -27,10 +27,6 @@ emits_then file a b c f g h k is = k is ∙ h (g is)
 -- the same instructions
 pub emits_same : (file : ℕ) (a b : List Instr) (f g : List Instruction → List Instruction) → Emits file a b f → g ≡ f → Emits file a b g
 emits_same file a b f g h e is = h is ∙ ap (λ k. instructions_of file a ++ k is) (sym e)
-
--- the member at an index, and those behind it
-pub dropped : {T : Type 0} (xs : List T) (j : ℕ) (x : T) → j < length xs → x ≡ get_or xs j x → drop j xs ≡ x ∷ drop (j + 1) xs
-dropped xs j x lt e = drop-cons xs j x lt ∙ (λ i. sym e i ∷ drop (sym (add-one j) i) xs)
 
 -- one more member of a loop, whose instructions in front of the rest are those of all that are left
 pub emits_next : {T : Type 0} (file : ℕ) (a b c : List Instr) (xs : List T) (j : ℕ) (x : T) (rest : List T → List Instruction → List Instruction) (all one : List Instruction → List Instruction) →

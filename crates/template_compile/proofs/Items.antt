@@ -3,14 +3,15 @@ use Rattle.std.proofs.Common.{◌≡◌, ℕ, List, [], ◌∷◌, Option, None,
 use Rattle.star_spec.specs.Program.{ItemKind, pair_item, element_item, holds_map, holds_list, holds_void}
 use Rattle.star_tree.specs.declared.expr.Expr.{Expr}
 use Rattle.template_spec.specs.Template.{Content, is_node, is_written, has_nodes, has_written, is_void}
-use Rattle.template_spec.specs.Compiled.{holds_of}
+use Rattle.template_spec.specs.Compiled.{holds_of, item_code}
 use Rattle.template_tree.specs.declared.tree.TContent as content
 use Rattle.template_tree.specs.declared.tree.TContent.{TContent}
+use Rattle.template_tree.specs.declared.tree.TItem as held
 use Rattle.template_tree.specs.declared.tree.TItem.{TItem, fold_out-TItem, out-TItem, map-TItem}
 use Rattle.template_tree.specs.declared.tree.TContent.TheOpen.{TItem-F}
 use Rattle.template_tree.specs.declared.tree.TNode.{TNode}
 use Rattle.template_tree.specs.View.{Standing, content_of, content_step, in_content, item_of, item_step, items_as, node_of, node_step}
-use Rattle.template_tree.proofs.Views.{node_of-node, content_of-Map, content_of-List}
+use Rattle.template_tree.proofs.Views.{item_of-Node, node_of-node, content_of-Map, content_of-List}
 
 node_layer : (file : ℕ) (kind : ItemKind) (x : TItem-F TContent TItem TNode) → is_node (item_step (map-TItem TContent TItem TNode Content Standing Standing (content_of file) (item_of file) (node_of file) x) kind) ≡ true
 node_layer file kind (TItem-F.Node n) = ap is_node (node_of-node file n kind)
@@ -29,6 +30,10 @@ pub not_void : (kind : ItemKind) (file : ℕ) (is : List TItem) → is_void (ite
 not_void kind file [] = refl
 not_void kind file (i ∷ is) =
     λ j. (written_here file i kind j || has_written (items_as kind file is)) && not (node_here file i kind j || has_nodes (items_as kind file is))
+
+-- the instructions of an item are those of the node that it is
+pub code_here : (file : ℕ) (kind : ItemKind) (i : TItem) (n : TNode) → i ≡ held.Node n → item_code (item_of file i kind) ≡ item_code (node_of file n kind)
+code_here file kind i n e = ap (λ (j : TItem). item_code (item_of file j kind)) e ∙ ap item_code (item_of-Node file n kind)
 
 -- ---- contents
 

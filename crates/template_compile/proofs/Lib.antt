@@ -1,4 +1,3 @@
 pub mod Emitting
 pub mod Items
 pub mod PlacedItems
-pub mod Scalars

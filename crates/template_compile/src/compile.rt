@@ -1,13 +1,11 @@
 // Items as instructions.
-ghost use Rattle.std.specs.Prelude.{◌≡◌, IfOk, OnOk, true};
+ghost use Rattle.std.specs.Prelude.{◌≡◌, IfOk, OnOk};
 ghost use Rattle.star_spec.specs.Program.{document_item};
 ghost use Rattle.star_tree.specs.View.{item_kind_of, program_of};
 ghost use Rattle.template_compile.specs.Emits.{Emits};
-ghost use Rattle.template_compile.specs.Scalars.{values_are_scalars};
 ghost use Rattle.template_spec.specs.Compiled.{compiled, content_code, item_code, items_code};
 ghost use Rattle.template_spec.specs.Meaning.{RunsAsBuilt};
 ghost use Rattle.template_spec.specs.WellNested.{Straight, WellNested};
-ghost use Rattle.template_tree.specs.Scalars.{content_has_scalars, have_scalars};
 ghost use Rattle.template_tree.specs.View.{content_of, in_content, items_as, items_of, node_of};
 
 use crate::parts::{holds, put, put_key, put_notes};
@@ -20,14 +18,12 @@ use ytt_base::text::Memory;
 
 /// The program of a template, in the file of the template's number: a part of a node for each start, note,
 /// key, value and end, in the order of the text. It runs as the template is built. Where pairs alone have
-/// keys, it is well nested. Where each value that is written in the template is a scalar, so is each in the
-/// program. `Memory` comes where there was no room.
+/// keys, it is well nested. `Memory` comes where there was no room.
 pub fn compile_flat(alloc: Global, template: &Template) -> Result<Program, Memory>
     ensures code { IfOk result (λ p. program_of p ≡ compiled (items_of template.now.file template.now.items)) }
     ensures file { IfOk result (λ p. p.file ≡ template.now.file) }
     ensures meaning { IfOk result (λ p. RunsAsBuilt (program_of p) (items_of template.now.file template.now.items)) }
     ensures well_nested { IfOk result (λ p. Straight document_item (items_of template.now.file template.now.items) → WellNested (program_of p)) }
-    ensures scalars { IfOk result (λ p. have_scalars template.now.items ≡ true → values_are_scalars p.code ≡ true) }
 {
     let mut code = Items::new(alloc);
     put_items(
@@ -51,8 +47,7 @@ fn put_items(
     items: &TItems,
     code: &mut Instrs,
 ) -> Result<(), Memory>
-    ensures code { OnOk result (Emits file code.old code.new (items_code (items_as (item_kind_of kind) file items.now))) }
-    ensures scalars { have_scalars items.now ≡ true → OnOk result (values_are_scalars code.new ≡ values_are_scalars code.old) }
+    ensures { OnOk result (Emits file code.old code.new (items_code (items_as (item_kind_of kind) file items.now))) }
 {
     for item in items.as_slice() {
         match item {
@@ -70,8 +65,7 @@ fn put_node(
     node: &TNode,
     code: &mut Instrs,
 ) -> Result<(), Memory>
-    ensures code { OnOk result (Emits file code.old code.new (item_code (node_of file node.now (item_kind_of kind)))) }
-    ensures scalars { content_has_scalars node.now.content ≡ true → OnOk result (values_are_scalars code.new ≡ values_are_scalars code.old) }
+    ensures { OnOk result (Emits file code.old code.new (item_code (node_of file node.now (item_kind_of kind)))) }
 {
     put(code, NodeOp::Start(node.place, kind, holds(node)))?;
     put_notes(alloc, file, &node.notes, code)?;
@@ -83,8 +77,7 @@ fn put_node(
 
 #[cycle(compile)]
 fn put_content(alloc: Global, file: u32, node: &TNode, code: &mut Instrs) -> Result<(), Memory>
-    ensures code { OnOk result (Emits file code.old code.new (content_code node.now.place (in_content file node.now.value (content_of file node.now.content)))) }
-    ensures scalars { content_has_scalars node.now.content ≡ true → OnOk result (values_are_scalars code.new ≡ values_are_scalars code.old) }
+    ensures { OnOk result (Emits file code.old code.new (content_code node.now.place (in_content file node.now.value (content_of file node.now.content)))) }
 {
     match &node.value {
         Some(expr) => put(code, NodeOp::ValueFrom(node.place, expr.copy(alloc)?)),
@@ -100,11 +93,10 @@ fn put_written(
     content: &TContent,
     code: &mut Instrs,
 ) -> Result<(), Memory>
-    ensures code { OnOk result (Emits file code.old code.new (content_code place (content_of file content.now))) }
-    ensures scalars { content_has_scalars content.now ≡ true → OnOk result (values_are_scalars code.new ≡ values_are_scalars code.old) }
+    ensures { OnOk result (Emits file code.old code.new (content_code place (content_of file content.now))) }
 {
     match content {
-        TContent::Scalar(tree) => put(code, NodeOp::Value(place, tree.copy(alloc)?)),
+        TContent::Scalar(scalar) => put(code, NodeOp::Value(place, scalar.copy()?)),
         TContent::Map(pairs) => put_items(alloc, file, ItemKind::Pair, pairs, code),
         TContent::List(elements) => put_items(alloc, file, ItemKind::Element, elements, code),
     }

@@ -1,9 +1,8 @@
 // The parts of a node as instructions.
-ghost use Rattle.std.specs.Prelude.{◌≡◌, ◌∷◌, OnOk, true, ℕ};
+ghost use Rattle.std.specs.Prelude.{◌≡◌, ◌∷◌, OnOk, ℕ};
 ghost use Rattle.star_spec.specs.Program.{part};
 ghost use Rattle.star_tree.specs.View.{holds_of as plain_holds, part_of};
 ghost use Rattle.template_compile.specs.Emits.{Emits};
-ghost use Rattle.template_compile.specs.Scalars.{part_has_scalar, values_are_scalars};
 ghost use Rattle.template_spec.specs.Compiled.{holds_of, key_code, notes_code};
 ghost use Rattle.template_tree.specs.View.{content_of, in_content, in_key, notes_of};
 
@@ -15,10 +14,8 @@ use ytt_base::text::Memory;
 use ytt_base::tree::Key;
 
 /// Puts a part of a node behind the instructions.
-#[tactic(auto, using(crate::proofs::Scalars::put_scalar))]
 pub(crate) fn put(code: &mut Instrs, op: NodeOp) -> Result<(), Memory>
-    ensures code { (file : ℕ) → OnOk result (Emits file code.old code.new (λ is. part (part_of file op) ∷ is)) }
-    ensures scalars { part_has_scalar op ≡ true → OnOk result (values_are_scalars code.new ≡ values_are_scalars code.old) }
+    ensures { (file : ℕ) → OnOk result (Emits file code.old code.new (λ is. part (part_of file op) ∷ is)) }
 {
     code.push(Instr::Node(op))?;
     Ok(())
@@ -45,8 +42,7 @@ pub(crate) fn put_notes(
     notes: &TNotes,
     code: &mut Instrs,
 ) -> Result<(), Memory>
-    ensures code { OnOk result (Emits file code.old code.new (notes_code (notes_of file notes.now))) }
-    ensures scalars { OnOk result (values_are_scalars code.new ≡ values_are_scalars code.old) }
+    ensures { OnOk result (Emits file code.old code.new (notes_code (notes_of file notes.now))) }
 {
     for note in notes.as_slice() {
         let place = Place {
@@ -63,8 +59,7 @@ pub(crate) fn put_notes(
 
 /// Puts the key of a pair behind the instructions, where the node has one.
 pub(crate) fn put_key(place: Place, key: &Option<Key>, code: &mut Instrs) -> Result<(), Memory>
-    ensures code { (file : ℕ) → OnOk result (Emits file code.old code.new (key_code place (in_key key.now))) }
-    ensures scalars { OnOk result (values_are_scalars code.new ≡ values_are_scalars code.old) }
+    ensures { (file : ℕ) → OnOk result (Emits file code.old code.new (key_code place (in_key key.now))) }
 {
     if let Some(key) = key {
         put(code, NodeOp::Key(place, key.copy()?))?;

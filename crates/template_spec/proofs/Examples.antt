@@ -1,5 +1,5 @@
 -- What the definitions give for some templates, by computing: first as they are built, and then as their programs run.
-use Rattle.std.proofs.Common.{◌≡◌, ℕ, ◌-◌, ◌^◌, ℤ, pos, negsuc, List, [], refl, codes}
+use Rattle.std.proofs.Common.{◌≡◌, ℕ, ◌-◌, ◌^◌, ℤ, pos, negsuc, List, [], Some, refl, codes}
 use Rattle.std.specs.Str.{chars}
 use Rattle.ytt_base.specs.declared.fault.Fault.{Fault}
 use Rattle.ytt_base.specs.declared.fault.FaultKind.TheVariants as kind
@@ -133,7 +133,7 @@ refuses_large_product = refl
 text_steps : built_with 100 (one_pair (product (words (codes "0123456789abcdef")) (number (pos 1)))) ≡ gives (a_is (string (codes "0123456789abcdef"))) 92
 text_steps = refl
 
-refuses_second_key : built_with 100 (document (pairs (pair_at 2 (codes "a") (written_value null) (pair_at 3 (codes "a") (written_value null) no_items))) no_items) ≡ faults (record { kind = kind.KeyTwice; place = place_at 1 3; detail = codes "a" })
+refuses_second_key : built_with 100 (document (pairs (pair_at 2 (codes "a") (written_value null) (pair_at 3 (codes "a") (written_value null) no_items))) no_items) ≡ faults (record { kind = kind.KeyTwice; place = Some (place_at 1 3); detail = codes "a" })
 unfolding form fits_plain chars
 refuses_second_key = refl
 

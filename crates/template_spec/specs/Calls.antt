@@ -1,6 +1,6 @@
 -- The functions of templates and of programs: what their blocks do when they are called, and where their code is found.
 use Rattle.std.specs.Prelude.{ℕ, List, [], ◌∷◌, Option, Some, None, nat_eq}
-use Rattle.ytt_base.specs.Outcomes.{place_at}
+use Rattle.ytt_base.specs.Outcomes.{first_place}
 use Rattle.star_spec.specs.Program.{ItemKind, document_item, pair_item, element_item, holds_list, NodePart, node_start, node_note, node_key, node_key_from, node_value, node_value_from, node_end, Instruction}
 use Rattle.star_spec.specs.Values.{Value, none_value, fragment_value, Children, no_children}
 use Rattle.star_spec.specs.Outcomes.{give, ◌>>=◌}
@@ -34,9 +34,9 @@ level_of (Some element_item) = 1
 abbrev pub enter_items : {H : Type 0} → Language H → Enter H Items
 enter_items language call fragment t env = builds language call (level_of fragment) t env no_children >>= λ f. give (result_of fragment f)
 
--- the open place under all nodes, which is at no line
+-- the open place under all nodes
 abbrev pub bottom : ℕ → Node
-bottom n = opened (place_at 0 0) document_item holds_list n
+bottom n = opened first_place document_item holds_list n
 
 abbrev pub bottom_children : List Node → Children
 bottom_children [] = no_children

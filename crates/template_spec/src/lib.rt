@@ -1,4 +1,9 @@
 //! The definitions of templates and of their two meanings, and the laws between them. They stand in `specs/`.
+//!
+//! A program that is a template compiled runs as the template is built, for every language, every host and every state of it,
+//! where in the template and in those of the other files no `break`, `continue` or `return` leaves a node (`WordsStand`): in a
+//! scope (`scopes`), for a whole file (`files`) and for files that load one another (`loads`) of `compiled_runs_as_built`. It is
+//! well nested where the template is placed, and where it is well nested the words stand (`compiled_is_well_nested`).
 #![tactic(auto)]
 
 ghost use Rattle.std.specs.Prelude.{◌≡◌, List};

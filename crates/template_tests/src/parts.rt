@@ -31,14 +31,23 @@ pub fn shown_scalar(alloc: Global, tree: &Tree) -> Result<String, Fail> {
     }
 }
 
+pub fn shown_word(alloc: Global, key: &Key) -> Result<String, Fail> {
+    match key {
+        Key::Null => Ok(format!(in alloc; "null")?),
+        Key::Bool(true) => Ok(format!(in alloc; "true")?),
+        Key::Bool(false) => Ok(format!(in alloc; "false")?),
+        Key::Int(n) => Ok(format!(in alloc; "{n}")?),
+        Key::Str(text) => Ok(format!(in alloc; "'{}'", text.as_str())?),
+    }
+}
+
 /// The key with `=` behind it, or nothing.
 pub fn shown_key(alloc: Global, key: &Option<Key>) -> Result<String, Fail> {
     match key {
         None => Ok(String::new(alloc)),
-        Some(Key::Null) => Ok(format!(in alloc; "null=")?),
-        Some(Key::Bool(true)) => Ok(format!(in alloc; "true=")?),
-        Some(Key::Bool(false)) => Ok(format!(in alloc; "false=")?),
-        Some(Key::Int(n)) => Ok(format!(in alloc; "{n}=")?),
-        Some(Key::Str(text)) => Ok(format!(in alloc; "'{}'=", text.as_str())?),
+        Some(key) => {
+            let word = shown_word(alloc, key)?;
+            Ok(format!(in alloc; "{word}=")?)
+        }
     }
 }

@@ -1,7 +1,7 @@
 // Templates as texts.
 ghost use Rattle.std.specs.Prelude.{◌<◌, ◌^◌, length};
 
-use crate::parts::{shown_key, shown_scalar, shown_stop};
+use crate::parts::{shown_key, shown_stop, shown_word};
 use star_tree::{BinOp, Expr, UnOp};
 use std::alloc::Global;
 use std::test::Fail;
@@ -47,7 +47,7 @@ fn shown_node(alloc: Global, node: &TNode) -> Result<String, Fail> {
 #[cycle(placed)]
 fn shown_written(alloc: Global, content: &TContent) -> Result<String, Fail> {
     match content {
-        TContent::Scalar(tree) => shown_scalar(alloc, tree),
+        TContent::Scalar(scalar) => shown_word(alloc, scalar),
         TContent::List(items) => {
             let inside = shown_nodes(alloc, items)?;
             Ok(format!(in alloc; "[{inside}]")?)

@@ -1,5 +1,4 @@
 pub mod Codes
 pub mod Pairs
 pub mod Placing
-pub mod Scalars
 pub mod Views

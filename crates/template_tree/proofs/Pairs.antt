@@ -3,10 +3,8 @@ use Rattle.std.specs.Option.{is_some}
 use Rattle.std.proofs.Common.{◌≡◌, ℕ, List, [], Option, Some, None, option_map, Ok, refl, ◌∙◌, true, false}
 use Rattle.ytt_base.specs.declared.fault.Place.{Place}
 use Rattle.ytt_base.specs.declared.tree.Key.{Key}
-use Rattle.ytt_base.specs.declared.tree.Tree as held_tree
-use Rattle.ytt_base.specs.Trees.{Scalar, Tree, scalar, list, map}
+use Rattle.ytt_base.specs.Trees.{Scalar}
 use Rattle.ytt_base.specs.View.{key_of}
-use Rattle.yaml_spec.specs.Noted.{noted_scalar}
 use Rattle.yaml_noted.specs.declared.noted.NotedItem.{NotedItem}
 use Rattle.yaml_noted.specs.View as held
 use Rattle.yaml_noted.specs.View.{comment_of, note_of}
@@ -14,7 +12,6 @@ use Rattle.yaml_noted.specs.declared.noted.RawComment.{RawComment}
 use Rattle.star_spec.specs.Program.{document_item, pair_item}
 use Rattle.star_spec.specs.Reading.{Reader}
 use Rattle.star_tree.specs.declared.expr.Expr.{Expr}
-use Rattle.star_tree.specs.View.{in_scalar, scalar_of}
 use Rattle.template_spec.specs.Placing.{content_beside, map_in, own_place, placed_document, placed_pair, placed_pairs, scalar_in}
 use Rattle.template_spec.specs.Template.{Content, Items, no_key, no_notes, node, pairs, written_key, written_value}
 use Rattle.template_spec.specs.WellNested.{Straight, StraightContent, StraightItem}
@@ -22,33 +19,22 @@ use Rattle.template_tree.specs.declared.tree.TContent as content
 use Rattle.template_tree.specs.declared.tree.TItem as item
 use Rattle.template_tree.specs.declared.tree.TItem.{TItem}
 use Rattle.template_tree.specs.declared.tree.TNode.{TNode}
-use Rattle.template_tree.specs.Parts.{content_with, document_of, is_scalar, pair_of, pairs_of}
+use Rattle.template_tree.specs.Parts.{content_with, document_of, pair_of, pairs_of}
 use Rattle.template_tree.specs.View.{content_of, in_content, in_key, notes_of}
 use Rattle.template_tree.proofs.Views.{content_of-Map, content_of-Scalar, item_of-Node, node_of-node}
 
--- a scalar is a scalar's content
-pub scalar_in-scalar : (t : Tree) → is_scalar t ≡ true → scalar_in (noted_scalar t) ≡ Some (in_scalar t)
-scalar_in-scalar (scalar s) h = refl
-scalar_in-scalar (list ts) h = cc
-scalar_in-scalar (map ps) h = cc
-
-pub scalar_in-collection : (t : Tree) → is_scalar t ≡ false → scalar_in (noted_scalar t) ≡ None
-scalar_in-collection (scalar s) h = cc
-scalar_in-collection (list ts) h = refl
-scalar_in-collection (map ps) h = refl
-
-pub placed_as : (r : Reader) (file : ℕ) (i : NotedItem) (place : Place) (t : held_tree.Tree) (k : Key) (value : Option Expr) → own_place file (note_of i) ≡ Ok place → place.file ≡ file
-    → Some (scalar_of t) ≡ scalar_in (held.content_of i.content) → ((written : Content) → content_beside r (note_of i).trailing place written ≡ Ok (content_with place.file written value)) → i.key ≡ Some k
-    → placed_pair r file (note_of i) (held.content_of i.content) ≡ Ok (node place pair_item no_notes (written_key (key_of k)) (in_content file value (written_value (scalar_of t))))
-placed_as r file i place t k value here same holds beside key =
-    rw (here, ← holds, beside (written_value (scalar_of t)), key, same) refl
+pub placed_as : (r : Reader) (file : ℕ) (i : NotedItem) (place : Place) (s k : Key) (value : Option Expr) → own_place file (note_of i) ≡ Ok place → place.file ≡ file
+    → Some (key_of s) ≡ scalar_in (held.content_of i.content) → ((written : Content) → content_beside r (note_of i).trailing place written ≡ Ok (content_with place.file written value)) → i.key ≡ Some k
+    → placed_pair r file (note_of i) (held.content_of i.content) ≡ Ok (node place pair_item no_notes (written_key (key_of k)) (in_content file value (written_value (key_of s))))
+placed_as r file i place s k value here same holds beside key =
+    rw (here, ← holds, beside (written_value (key_of s)), key, same) refl
 
 pub pair_of-Node : (file : ℕ) (n : TNode) → pair_of file (item.Node n) ≡ node n.place pair_item (notes_of file n.notes) (in_key n.key) (in_content file n.value (content_of file n.content))
 pair_of-Node file n = item_of-Node file n pair_item ∙ node_of-node file n pair_item
 
-pub pair_is : (file : ℕ) (n : TNode) (place : Place) (k : Key) (value : Option Expr) (t : held_tree.Tree) → n.place ≡ place → n.key ≡ Some k → n.notes ≡ [] → n.value ≡ value → n.content ≡ content.Scalar t
-    → pair_of file (item.Node n) ≡ node place pair_item no_notes (written_key (key_of k)) (in_content file value (written_value (scalar_of t)))
-pair_is file n place k value t here key bare says holds = rw (pair_of-Node file n, here, key, bare, says, holds, content_of-Scalar file t) refl
+pub pair_is : (file : ℕ) (n : TNode) (place : Place) (k : Key) (value : Option Expr) (s : Key) → n.place ≡ place → n.key ≡ Some k → n.notes ≡ [] → n.value ≡ value → n.content ≡ content.Scalar s
+    → pair_of file (item.Node n) ≡ node place pair_item no_notes (written_key (key_of k)) (in_content file value (written_value (key_of s)))
+pair_is file n place k value s here key bare says holds = rw (pair_of-Node file n, here, key, bare, says, holds, content_of-Scalar file s) refl
 
 value_straight : (file : ℕ) (value : Option Expr) (s : Scalar) → StraightContent (in_content file value (written_value s))
 value_straight file None s = tt

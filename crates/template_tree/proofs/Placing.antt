@@ -1,5 +1,5 @@
 -- What is kept while items are placed one after another.
-use Rattle.std.proofs.Common.{◌≡◌, ℕ, true, List, [], ◌∷◌, ◌++◌, reverse, Ok, Err, refl, ap, sym, ◌∙◌}
+use Rattle.std.proofs.Common.{◌≡◌, ℕ, List, [], ◌∷◌, ◌++◌, reverse, Ok, Err, refl, ap, sym, ◌∙◌}
 use Rattle.std.proofs.lemmas.List.{reverse-append, reverse-reverse}
 use Rattle.ytt_base.specs.declared.fault.Stop.{Stop}
 use Rattle.ytt_base.specs.declared.fault.Stop.TheVariants as stop
@@ -16,9 +16,7 @@ use Rattle.template_spec.specs.Placing.{before_items, placed_each}
 use Rattle.template_spec.specs.Template.{Item, Items, no_items, an_item}
 use Rattle.template_spec.specs.WellNested.{Straight, StraightItem}
 use Rattle.template_tree.specs.declared.tree.TItem.{TItem}
-use Rattle.template_tree.specs.Scalars.{have_scalars, item_has_scalars}
 use Rattle.template_tree.specs.View.{item_of, items_as}
-use Rattle.template_tree.proofs.Scalars.{have-snoc}
 
 -- the items behind those of another list
 abbrev pub joined : Items → Items → Items
@@ -36,7 +34,6 @@ Places = Reader → Note → noted.Content → Outcome Item
 pub record IsPlacing (place : Places) (kind : ItemKind) (file : ℕ) (all : List NotedItem) (done : List TItem) (left : List NotedItem) : Type 0 where
   pub gives : (r : Reader) → IsReader r → (placed_each (place r) (held.items_of (reverse left)) >>= joins (items_as kind file done)) ≡ placed_each (place r) (held.items_of all)
   pub straight : Straight kind (items_as kind file done)
-  pub scalars : have_scalars done ≡ true
 
 -- ---- items one behind another
 
@@ -69,7 +66,7 @@ next left rest i e = rw (e, reverse-append) (ap (λ (p : held.Noted). noted.item
 -- ---- one item
 
 pub start : (place : Places) (kind : ItemKind) (file : ℕ) (all left : List NotedItem) → left ≡ reverse all → IsPlacing place kind file all [] left
-start place kind file all left e = record { gives = λ r reads. rw (e, reverse-reverse) (nothing-joins (placed_each (place r) (held.items_of all))); straight = tt; scalars = refl }
+start place kind file all left e = record { gives = λ r reads. rw (e, reverse-reverse) (nothing-joins (placed_each (place r) (held.items_of all))); straight = tt }
 
 pub refused : (place : Places) (kind : ItemKind) (file : ℕ) (all : List NotedItem) (done : List TItem) (left rest : List NotedItem) (i : NotedItem) (s : Stop) → IsPlacing place kind file all done left
     → left ≡ rest ++ i ∷ [] → ((r : Reader) → IsReader r → Gives (λ t. item_of file t kind) (Err s) (place r (note_of i) (held.content_of i.content)))
@@ -79,14 +76,13 @@ refused place kind file all done left rest i stop.Memory p e h r reads = tt
 
 pub taken : (place : Places) (kind : ItemKind) (file : ℕ) (all : List NotedItem) (done : List TItem) (left rest : List NotedItem) (i : NotedItem) (t : TItem) (more : List TItem) → IsPlacing place kind file all done left
     → left ≡ rest ++ i ∷ [] → ((r : Reader) → IsReader r → place r (note_of i) (held.content_of i.content) ≡ Ok (item_of file t kind)) → StraightItem kind (item_of file t kind)
-    → item_has_scalars t ≡ true → more ≡ done ++ t ∷ [] → IsPlacing place kind file all more rest
-taken place kind file all done left rest i t more p e h g k m = rw m record {
+    → more ≡ done ++ t ∷ [] → IsPlacing place kind file all more rest
+taken place kind file all done left rest i t more p e h g m = rw m record {
   gives = λ r reads.
       let whole : (placed_each (place r) (held.items_of (reverse rest)) >>= before_items (item_of file t kind) >>= joins (items_as kind file done)) ≡ placed_each (place r) (held.items_of all)
       = rw (next left rest i e, h r reads) at (p.gives r reads) in
       sym (before-joins kind file done t _) ∙ whole;
   straight = straight-snoc kind file done t p.straight g;
-  scalars = have-snoc done t p.scalars k;
 }
 
 pub ended : (place : Places) (kind : ItemKind) (file : ℕ) (all : List NotedItem) (done : List TItem) (left : List NotedItem) → IsPlacing place kind file all done left → left ≡ []

@@ -1,8 +1,8 @@
 -- The plain items of each form of item, node and content.
 use Rattle.std.proofs.Common.{◌≡◌, ℕ, List, rules}
-use Rattle.ytt_base.specs.declared.tree.Tree.{Tree}
+use Rattle.ytt_base.specs.declared.tree.Key.{Key}
+use Rattle.ytt_base.specs.View.{key_of}
 use Rattle.star_spec.specs.Program.{ItemKind, pair_item, element_item}
-use Rattle.star_tree.specs.View.{scalar_of}
 use Rattle.template_spec.specs.Template.{node, written_value, pairs, elements}
 use Rattle.template_tree.specs.declared.tree.TContent as content
 use Rattle.template_tree.specs.declared.tree.TContent.{the_lemmas}
@@ -17,8 +17,8 @@ item_of-Node file n kind = search (rules, the_lemmas)
 pub node_of-node : (file : ℕ) (n : TNode) (kind : ItemKind) → node_of file n kind ≡ node n.place kind (notes_of file n.notes) (in_key n.key) (in_content file n.value (content_of file n.content))
 node_of-node file n kind = search (rules, the_lemmas)
 
-pub content_of-Scalar : (file : ℕ) (t : Tree) → content_of file (content.Scalar t) ≡ written_value (scalar_of t)
-content_of-Scalar file t = search (rules, the_lemmas)
+pub content_of-Scalar : (file : ℕ) (k : Key) → content_of file (content.Scalar k) ≡ written_value (key_of k)
+content_of-Scalar file k = search (rules, the_lemmas)
 
 pub content_of-Map : (file : ℕ) (is : List TItem) → content_of file (content.Map is) ≡ pairs (items_as pair_item file is)
 content_of-Map file is = search (rules, the_lemmas)

@@ -1,7 +1,6 @@
 -- Parts of a template, as plain data, while it is placed.
-use Rattle.std.specs.Prelude.{ℕ, Bool, true, false, List, Option}
+use Rattle.std.specs.Prelude.{ℕ, List, Option}
 use Rattle.ytt_base.specs.declared.fault.Place.{Place}
-use Rattle.ytt_base.specs.Trees.{Tree, scalar}
 use Rattle.star_spec.specs.Program.{document_item, pair_item}
 use Rattle.star_tree.specs.declared.expr.Expr.{Expr}
 use Rattle.star_tree.specs.View.{expr_of}
@@ -28,7 +27,3 @@ document_of file i = item_of file i document_item
 
 abbrev pub same_place : Place → Place
 same_place p = p
-
-abbrev pub is_scalar : Tree → Bool
-is_scalar (scalar s) = true
-is_scalar _ = false

@@ -5,7 +5,7 @@ use Rattle.ytt_base.specs.Outcomes.{place_at}
 use Rattle.ytt_base.specs.View.{key_of}
 use Rattle.star_spec.specs.Program.{ItemKind, document_item, pair_item, element_item}
 use Rattle.star_tree.specs.declared.expr.Expr.{Expr}
-use Rattle.star_tree.specs.View.{expr_of, exprs_of, scalar_of}
+use Rattle.star_tree.specs.View.{expr_of, exprs_of}
 use Rattle.template_spec.specs.Template as plain
 use Rattle.template_spec.specs.Template.{Notes, no_notes, note, no_key, written_key, node, written_value, value_from, pairs, elements, Items, no_items, an_item}
 use Rattle.template_tree.specs.declared.tree.TNote.{TNote}
@@ -39,7 +39,7 @@ in_content file (Some e) written = value_from (expr_of file e)
 -- ---- one level, where each item and each content inside is seen already
 
 abbrev pub content_step : TContent-F plain.Content Standing Standing → plain.Content
-content_step (TContent-F.Scalar t) = written_value (scalar_of t)
+content_step (TContent-F.Scalar k) = written_value (key_of k)
 content_step (TContent-F.Map is) = pairs (in_items pair_item is)
 content_step (TContent-F.List is) = elements (in_items element_item is)
 

@@ -22,7 +22,7 @@ pub fn not_built(alloc: Global, place: Place) -> Stop
 {
     Stop::Fault(Fault {
         kind: FaultKind::NotBuilt,
-        place,
+        place: Some(place),
         detail: Text::new(alloc),
     })
 }

@@ -1,5 +1,5 @@
 // Placing documents.
-ghost use Rattle.std.specs.Prelude.{◌≡◌, IfOk, option_map, true};
+ghost use Rattle.std.specs.Prelude.{◌≡◌, IfOk, option_map};
 ghost use Rattle.ytt_base.specs.Outcomes.{Gives};
 ghost use Rattle.yaml_noted.specs.View as held;
 ghost use Rattle.yaml_noted.specs.View.{documents_of, note_of};
@@ -9,7 +9,6 @@ ghost use Rattle.template_spec.specs.Placed.{Placed, free};
 ghost use Rattle.template_spec.specs.Placing.{map_in, placed, placed_document, placed_documents};
 ghost use Rattle.template_spec.specs.WellNested.{Straight, StraightItem};
 ghost use Rattle.template_tree.specs.Parts.{document_of};
-ghost use Rattle.template_tree.specs.Scalars.{have_scalars, item_has_scalars};
 ghost use Rattle.template_tree.specs.View.{items_of, template_of};
 
 use crate::code::not_built;
@@ -36,7 +35,6 @@ fn map_in(content: Content) -> Option<NotedItems>
 fn place_document(alloc: Global, item: NotedItem, file: u32) -> Result<TItem, Stop>
     ensures template { (r : Reader) → IsReader r → Gives (document_of file) result (placed_document r file (note_of item) (held.content_of item.content)) }
     ensures straight { IfOk result (λ i. StraightItem document_item (document_of file i)) }
-    ensures scalars { IfOk result (λ i. item_has_scalars i ≡ true) }
 {
     let place = place_of(alloc, &item, file)?;
     if item.key.is_some() || item.trailing.is_some() {
@@ -59,7 +57,6 @@ fn place_document(alloc: Global, item: NotedItem, file: u32) -> Result<TItem, St
 fn place_documents(alloc: Global, items: NotedItems, file: u32) -> Result<TItems, Stop>
     ensures template { (r : Reader) → IsReader r → Gives (items_of file) result (placed_documents r file (held.items_of items)) }
     ensures straight { IfOk result (λ is. Straight document_item (items_of file is)) }
-    ensures scalars { IfOk result (λ is. have_scalars is ≡ true) }
 {
     let mut left = turned(alloc, items)?;
     let mut documents: TItems = Items::new(alloc);
@@ -82,14 +79,12 @@ fn place_documents(alloc: Global, items: NotedItems, file: u32) -> Result<TItems
 /// other item at its own line. The first one in the order of the text decides. Want of memory is
 /// `Stop::Memory`.
 ///
-/// Items of the template are documents that hold pairs alone, each pair has a key, and what is
-/// written in a pair is a scalar.
+/// Items of the template are documents that hold pairs alone, and each pair has a key.
 #[tactic(auto, using(template_spec::proofs::PlacingStraight::straight_placed))]
 pub fn place_flat(alloc: Global, docs: NotedDocs, file: u32) -> Result<Template, Stop>
     ensures template { (r : Reader) → IsReader r → Gives template_of result (placed r file (documents_of docs)) }
     ensures straight { IfOk result (λ t. Straight document_item (template_of t)) }
     ensures stands { IfOk result (λ t. Placed free (template_of t)) }
-    ensures scalars { IfOk result (λ t. have_scalars t.items ≡ true) }
     ensures file { IfOk result (λ t. t.file ≡ file) }
 {
     let items = place_documents(alloc, docs.items, file)?;

@@ -1,4 +1,6 @@
 //! Templates: the annotated items of a file.
+//!
+//! `place_flat` gives exactly the definition's template of noted documents, or exactly its first fault (`template`).
 #![tactic(auto)]
 
 mod code;

@@ -1,17 +1,16 @@
 // Placing the pairs of a map.
-ghost use Rattle.std.specs.Prelude.{◌≡◌, [], ◌∷◌, ◌++◌, IfOk, IfSome, OnOk, option_map, reverse, true};
+ghost use Rattle.std.specs.Prelude.{◌≡◌, [], ◌∷◌, ◌++◌, IfOk, OnOk, option_map, reverse};
 ghost use Rattle.ytt_base.specs.Outcomes.{Gives};
-ghost use Rattle.ytt_base.specs.View.{tree_of};
+ghost use Rattle.yaml_spec.specs.Noted.{noted_scalar};
+ghost use Rattle.ytt_base.specs.View.{key_of, tree_of};
 ghost use Rattle.yaml_noted.specs.View as held;
 ghost use Rattle.yaml_noted.specs.View.{comment_of, note_of};
 ghost use Rattle.star_spec.specs.Program.{pair_item};
 ghost use Rattle.star_spec.specs.Reading.{IsReader, Reader};
-ghost use Rattle.star_tree.specs.View.{scalar_of};
 ghost use Rattle.template_spec.specs.Placing.{content_beside, own_place, placed_pair, placed_pairs, scalar_in};
 ghost use Rattle.template_spec.specs.Template as plain;
 ghost use Rattle.template_spec.specs.WellNested.{Straight, StraightItem};
-ghost use Rattle.template_tree.specs.Parts.{content_with, is_scalar, pair_of, pairs_of, same_place};
-ghost use Rattle.template_tree.specs.Scalars.{have_scalars, item_has_scalars};
+ghost use Rattle.template_tree.specs.Parts.{content_with, pair_of, pairs_of, same_place};
 
 use crate::code::{not_built, read_value};
 use crate::tree::{TContent, TItem, TItems, TNode};
@@ -21,7 +20,7 @@ use std::alloc::Global;
 use yaml_noted::{Content, NotedItem, NotedItems, RawComment};
 use ytt_base::fault::{Place, Stop};
 use ytt_base::text::Memory;
-use ytt_base::tree::Tree;
+use ytt_base::tree::{Key, Tree};
 
 /// The items in the opposite order.
 pub fn turned(alloc: Global, items: NotedItems) -> Result<NotedItems, Memory>
@@ -59,22 +58,27 @@ pub fn place_of(alloc: Global, item: &NotedItem, file: u32) -> Result<Place, Sto
     Ok(Place { file, line })
 }
 
-fn is_scalar(tree: &Tree) -> bool
-    ensures { result ≡ is_scalar (tree_of tree.now) }
+/// The scalar that a tree is, or `None` for a list or a map.
+#[tactic(auto, using(ytt_base::proofs::Views::views))]
+fn scalar_of(tree: Tree) -> Option<Key>
+    ensures { option_map key_of result ≡ scalar_in (noted_scalar (tree_of tree)) }
 {
     match tree {
-        Tree::Null | Tree::Bool(_) | Tree::Int(_) | Tree::Str(_) => true,
-        Tree::List(_) | Tree::Map(_) => false,
+        Tree::Null => Some(Key::Null),
+        Tree::Bool(b) => Some(Key::Bool(b)),
+        Tree::Int(n) => Some(Key::Int(n)),
+        Tree::Str(text) => Some(Key::Str(text)),
+        Tree::List(_) | Tree::Map(_) => None,
     }
 }
 
 /// The scalar that an item holds, or `None` for a list or a map.
-fn scalar_in(content: Content) -> Option<Tree>
-    ensures scalar { option_map scalar_of result ≡ scalar_in (held.content_of content) }
-    ensures only { IfSome result (λ t. is_scalar (tree_of t) ≡ true) }
+#[tactic(auto, using(yaml_noted::proofs::Views::views))]
+fn scalar_in(content: Content) -> Option<Key>
+    ensures { option_map key_of result ≡ scalar_in (held.content_of content) }
 {
     match content {
-        Content::Scalar(tree) => { if is_scalar(&tree) { Some(tree) } else { None } }
+        Content::Scalar(tree) => scalar_of(tree),
         Content::Map(_) | Content::List(_) => None,
     }
 }
@@ -98,7 +102,6 @@ fn read_trailing(
 fn place_pair(alloc: Global, item: NotedItem, file: u32) -> Result<TItem, Stop>
     ensures template { (r : Reader) → IsReader r → Gives (pair_of file) result (placed_pair r file (note_of item) (held.content_of item.content)) }
     ensures straight { IfOk result (λ i. StraightItem pair_item (pair_of file i)) }
-    ensures scalars { IfOk result (λ i. item_has_scalars i ≡ true) }
 {
     let place = place_of(alloc, &item, file)?;
     let NotedItem {
@@ -107,7 +110,7 @@ fn place_pair(alloc: Global, item: NotedItem, file: u32) -> Result<TItem, Stop>
         content,
         ..
     } = item;
-    let Some(tree) = scalar_in(content) else {
+    let Some(scalar) = scalar_in(content) else {
         return Err(not_built(alloc, place));
     };
     let value = read_trailing(alloc, &trailing, place)?;
@@ -119,7 +122,7 @@ fn place_pair(alloc: Global, item: NotedItem, file: u32) -> Result<TItem, Stop>
         key: Some(key),
         notes: Items::new(alloc),
         value,
-        content: TContent::Scalar(tree),
+        content: TContent::Scalar(scalar),
     }))
 }
 
@@ -127,7 +130,6 @@ fn place_pair(alloc: Global, item: NotedItem, file: u32) -> Result<TItem, Stop>
 pub fn place_pairs(alloc: Global, items: NotedItems, file: u32) -> Result<TItems, Stop>
     ensures template { (r : Reader) → IsReader r → Gives (pairs_of file) result (placed_pairs r file (held.items_of items)) }
     ensures straight { IfOk result (λ is. Straight pair_item (pairs_of file is)) }
-    ensures scalars { IfOk result (λ is. have_scalars is ≡ true) }
 {
     let mut left = turned(alloc, items)?;
     let mut pairs: TItems = Items::new(alloc);

@@ -4,7 +4,7 @@ use sqlite_items::Items;
 use star_tree::{Args, Expr};
 use ytt_base::fault::Place;
 use ytt_base::text::Text;
-use ytt_base::tree::{Key, Tree};
+use ytt_base::tree::Key;
 
 /// A note of an item: its name without the `@`, its arguments, and its line.
 #[derive(Drop)]
@@ -46,8 +46,8 @@ pub struct TNode {
 #[cycle(template)]
 #[derive(Drop)]
 pub enum TContent {
-    /// A scalar, which is no list and no map.
-    Scalar(Tree),
+    /// A scalar, which is exactly what a key may be.
+    Scalar(Key),
     /// The pairs of a map.
     Map(TItems),
     /// The elements of a list.

@@ -9,7 +9,7 @@ ghost use Rattle.yaml_text.specs.View.{cursor_of};
 
 use std::alloc::Global;
 use yaml_plain::{read_plain_key, split_plain, start_fault};
-use yaml_scalar::quote_on_line;
+use yaml_quotes::quote_on_line;
 use yaml_text::{Cursor, refusal, starts_collection, starts_quote};
 use ytt_base::fault::{FaultKind, Stop};
 use ytt_base::tree::Key;

@@ -11,7 +11,7 @@ ghost use Rattle.yaml_text.specs.View.{cursor_of};
 use std::alloc::Global;
 use yaml_noted::{Comments, Content};
 use yaml_plain::read_plain_scalar;
-use yaml_scalar::read_quote;
+use yaml_quotes::read_quote;
 use yaml_text::{Cursor, starts_quote};
 use ytt_base::fault::{Place, Stop};
 use ytt_base::tree::Tree;

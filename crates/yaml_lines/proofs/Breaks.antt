@@ -1,5 +1,6 @@
 -- Where the first line of a text ends.
 use Rattle.std.proofs.Common.{◌≡◌, ◌≢◌, ℕ, suc, zero, ◌+◌, ◌-◌, ◌<◌, Bool, true, false, ◌&&◌, ◌==◌, List, [], ◌∷◌, ◌++◌, length, get_or, take, drop, refl, ap, ◌∙◌, arith, eq-eqb, ne_eqb, add-one, eqb, ⊎_elim}
+use Rattle.std.proofs.lemmas.Bool.{and_right}
 use Rattle.std.proofs.lemmas.Bool.Decides.{eqb_tells}
 use Rattle.std.proofs.lemmas.List.{take_rest}
 use Rattle.yaml_spec.specs.Bytes.{first}
@@ -8,10 +9,6 @@ use Rattle.yaml_lines.specs.Ends.{without_return}
 
 abbrev NoBreak : List ℕ → ℕ → Type 0
 NoBreak text i = (k : ℕ) → k < i → get_or text k 0 ≡ 10 → ⊥
-
-and-false : (a b : Bool) → b ≡ false → (a && b) ≡ false
-and-false true b h = h
-and-false false b h = refl
 
 abbrev step : Bool → Bool → ℕ → List (List ℕ) → List (List ℕ)
 step is_feed is_return b more = elim is_feed [ true ↦ [] ∷ more | false ↦ elim is_return [ true ↦ more | false ↦ start_line b more ] ]
@@ -47,7 +44,7 @@ lines-cut (b ∷ bs) zero lt none at = at_break b bs at
 lines-cut (b ∷ []) (suc i) lt none at = absurd (omega arith)
 lines-cut (b ∷ c ∷ bs) (suc zero) lt none at = before_break b c bs (none 0 (omega arith)) at
 lines-cut (b ∷ c ∷ bs) (suc (suc i)) lt none at =
-    past b (c ∷ bs) (none 0 (omega arith)) (and-false (b == 13) _ (ne_eqb c 10 (none 1 (omega arith))))
+    past b (c ∷ bs) (none 0 (omega arith)) (and_right (b == 13) _ (ne_eqb c 10 (none 1 (omega arith))))
     ∙ ap (start_line b) (lines-cut (c ∷ bs) (suc i) (omega arith) (λ k h. none (suc k) (omega arith)) at)
 
 pub cut-empty : (text : List ℕ) → length text ≡ 0 → cut text ≡ []
@@ -57,9 +54,9 @@ cut-empty (b ∷ bs) h = absurd (omega arith)
 
 pub lines-whole : (text : List ℕ) → 0 < length text → NoBreak text (length text) → cut text ≡ text ∷ []
 lines-whole [] lt none = absurd (omega arith)
-lines-whole (b ∷ []) lt none = past b [] (none 0 (omega arith)) (and-false (b == 13) _ refl) ∙ ap (start_line b) (cut-empty [] refl)
+lines-whole (b ∷ []) lt none = past b [] (none 0 (omega arith)) (and_right (b == 13) _ refl) ∙ ap (start_line b) (cut-empty [] refl)
 lines-whole (b ∷ c ∷ bs) lt none =
-    past b (c ∷ bs) (none 0 (omega arith)) (and-false (b == 13) _ (ne_eqb c 10 (none 1 (omega arith))))
+    past b (c ∷ bs) (none 0 (omega arith)) (and_right (b == 13) _ (ne_eqb c 10 (none 1 (omega arith))))
     ∙ ap (start_line b) (lines-whole (c ∷ bs) (omega arith) (λ k h. none (suc k) (omega arith)))
 
 -- the same as the code writes what stands behind the break

@@ -49,9 +49,6 @@ plain_lines-snoc (k ∷ ls) l = ap (λ ms. plain_line k ∷ ms) (plain_lines-sno
 abbrev or_failing : Bool → Line → Option Place → Option Place
 or_failing passes l rest = elim passes [ true ↦ rest | false ↦ Some l.place ]
 
-first_failing-cons : (test : List ℕ → Bool) (l : Line) (ls : List Line) → first_failing test (l ∷ ls) ≡ or_failing (test l.text) l (first_failing test ls)
-first_failing-cons test l ls = refl
-
 passing : (b : Bool) (l : Line) (o p q : Option Place) → or_failing b l o ≡ None → (o ≡ None → p ≡ q) → or_failing b l p ≡ q
 passing true l o p q h e = e h
 passing false l o p q h e = cc

@@ -1,3 +1,2 @@
 pub mod Breaks
-pub mod CharTests
 pub mod Cutting

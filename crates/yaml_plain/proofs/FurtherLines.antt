@@ -18,8 +18,8 @@ use Rattle.ytt_base.specs.declared.fault.FaultKind.{FaultKind}
 use Rattle.yaml_plain.specs.Trees.{as_tree}
 use Rattle.yaml_spec.specs.Quotes.{Cursor}
 use Rattle.yaml_spec.specs.Refusals.{refused}
-use Rattle.yaml_scalar.specs.declared.folding.Folded.{Folded}
-use Rattle.yaml_scalar.specs.Joining.{with_parts}
+use Rattle.yaml_quotes.specs.declared.folding.Folded.{Folded}
+use Rattle.yaml_quotes.specs.Joining.{with_parts}
 use Rattle.yaml_text.proofs.Whites.{skip_white-length}
 use Rattle.yaml_plain.specs.Lines.{Further, empty, ends, wrong, goes_on, further_line, further_from, text_from, typed_text, typed_from}
 

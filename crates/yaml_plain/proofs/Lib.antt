@@ -1,3 +1,2 @@
 pub mod FurtherLines
-pub mod Keys
 pub mod Spans

@@ -1,5 +1,5 @@
 // Where plain scalars end on a line.
-ghost use Rattle.std.specs.Prelude.{◌≡◌, ◌+◌, ◌<◌, ◌≤◌, ◌&&◌, drop, length, slice_index, take, true};
+ghost use Rattle.std.specs.Prelude.{◌≡◌, ◌+◌, ◌<◌, ◌&&◌, drop, length, slice_index, take, true};
 ghost use Rattle.std.specs.Str.{IsCharBoundary};
 ghost use Rattle.yaml_spec.specs.Bytes.{first, is_white};
 ghost use Rattle.yaml_spec.specs.Plain.{behind, ends_before, ends_with_colon, part, span};

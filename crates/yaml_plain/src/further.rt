@@ -1,7 +1,7 @@
 // The lines below a plain scalar.
-ghost use Rattle.std.specs.Prelude.{◌≡◌, ◌&&◌, ◌||◌, ◌==◌, not, nat_lt};
+ghost use Rattle.std.specs.Prelude.{◌≡◌, ◌&&◌, ◌||◌, ◌==◌};
 ghost use Rattle.yaml_spec.specs.Bytes.{colon, first, indent, is_white, skip_white};
-ghost use Rattle.yaml_spec.specs.Plain.{ends_in_flow, ends_scalar, ends_with_colon};
+ghost use Rattle.yaml_spec.specs.Plain.{ends_scalar, ends_with_colon};
 ghost use Rattle.yaml_plain.specs.Lines.{further_line, further_of};
 
 use crate::ends::{hangs, split_plain};

@@ -1,9 +1,8 @@
 -- Characters in double quotes, one behind another, and digits.
-use Rattle.std.proofs.Common.{◌≡◌, ℕ, ◌+◌, ◌/◌, ◌<◌, Bool, true, false, cond, codes, List, [], ◌∷◌, ◌++◌, length, get_or, take, drop, encode_utf8, ap, sym, ◌∙◌, append_assoc, append-nil, refl, arith}
-use Rattle.std.proofs.lemmas.List.{take-append-drop, take_more}
+use Rattle.std.proofs.Common.{◌≡◌, ℕ, ◌/◌, ◌<◌, Bool, true, false, cond, codes, List, [], ◌∷◌, ◌++◌, encode_utf8, ap, sym, ◌∙◌, append_assoc, append-nil, refl, arith}
 use Rattle.std.proofs.lemmas.Str.{encode_ascii}
 use Rattle.std.proofs.lemmas.Bool.Decides.{nat_tests}
-use Rattle.yaml_scalar.specs.Numbered.{is_long_escaped, is_short_escaped, numbered_char}
+use Rattle.yaml_styles.specs.Numbered.{is_long_escaped, is_short_escaped, numbered_char}
 use Rattle.yaml_spec.specs.Text.{hex2, hex_digit, quoted_char, quoted_chars}
 
 hex_digit-ascii : (n : ℕ) → n < 16 → hex_digit n < 128
@@ -31,11 +30,3 @@ quoted_chars-append (x ∷ xs) ys = ap (λ t. quoted_char x ++ t) (quoted_chars-
 -- one more character
 pub quoted_chars-next : (xs : List ℕ) (c : ℕ) → quoted_chars (xs ++ c ∷ []) ≡ quoted_chars xs ++ quoted_char c
 quoted_chars-next xs c = quoted_chars-append xs (c ∷ []) ∙ ap (λ t. quoted_chars xs ++ t) (append-nil (quoted_char c))
-
--- the characters before one, that one, and those behind it
-pub quoted_chars-split : (cs xs : List ℕ) (c : ℕ) → xs ≡ take (length xs) cs → (length xs < length cs) × (c ≡ get_or cs (length xs) c)
-    → quoted_chars cs ≡ (quoted_chars xs ++ quoted_char c) ++ quoted_chars (drop (length xs + 1) cs)
-quoted_chars-split cs xs c e h =
-    let m : take (length xs + 1) cs ≡ xs ++ c ∷ [] = take_more cs (length xs) c h.0 ∙ ap (λ t. t ++ get_or cs (length xs) c ∷ []) (sym e) ∙ ap (λ x. xs ++ x ∷ []) (sym h.1) in
-    ap quoted_chars (sym (take-append-drop (length xs + 1) cs)) ∙ quoted_chars-append (take (length xs + 1) cs) (drop (length xs + 1) cs)
-    ∙ ap (λ t. quoted_chars t ++ quoted_chars (drop (length xs + 1) cs)) m ∙ ap (λ t. t ++ quoted_chars (drop (length xs + 1) cs)) (quoted_chars-next xs c)

@@ -1,9 +1,8 @@
-pub mod Collections
 pub mod Chars
+pub mod Collections
 pub mod Documents
 pub mod Indents
-pub mod Members
-pub mod Putting
-pub mod Shifting
-pub mod Pieces
 pub mod Literals
+pub mod Pieces
+pub mod Printers
+pub mod Putting

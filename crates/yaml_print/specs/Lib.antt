@@ -1,7 +1,5 @@
-pub mod Documents
 pub mod Indent
 pub mod LineText
-pub mod Pending
+pub mod Printer
 pub mod Puts
-pub mod Waiting
-pub mod Growing
+pub mod Start

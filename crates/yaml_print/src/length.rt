@@ -1,25 +1,23 @@
 // The length of a text that isn't written.
-ghost use Rattle.std.specs.Prelude.{◌≡◌, ◌-◌, ◌^◌, None, length, min};
+ghost use Rattle.std.specs.Prelude.{◌≡◌, ◌-◌, ◌^◌, length, min};
 ghost use Rattle.ytt_base.specs.View.{trees_of};
-ghost use Rattle.ytt_outside.specs.Sink.{SinkCounts, Writes};
 ghost use Rattle.yaml_spec.specs.Text.{Text};
 
-use crate::pending::Pending;
 use crate::print::write_documents;
+use crate::put::Put;
 use ytt_base::tree::Trees;
-use ytt_outside::sink::{Sink, SinkFailed};
 
-/// A sink that keeps nothing of what it takes, and never fails.
+/// Counts the bytes that are put, up to `u64::MAX`.
 #[derive(Drop)]
-struct Nowhere;
+struct Length {
+    bytes: u64,
+}
 
-impl Sink for Nowhere {
-    ghost held = { λ _. None };
+impl Put for Length {
+    ghost has = { λ _ l s. l.bytes ≡ min (length s) (2 ^ 64 - 1) };
 
-    ghost faults = { λ _. 0 };
-
-    fn write_piece(&mut self, _piece: &[u8]) -> Result<(), SinkFailed> {
-        Ok(())
+    fn put(&mut self, piece: &str) {
+        self.bytes = self.bytes.saturating_add(piece.len() as u64);
     }
 }
 
@@ -28,10 +26,7 @@ impl Sink for Nowhere {
 pub fn text_length(trees: &Trees) -> u64
     ensures { result ≡ min (length (Text (trees_of trees.now))) (2 ^ 64 - 1) }
 {
-    let mut buffer = [0u8; 64];
-    let mut waiting = Pending::new(&mut buffer);
-    match write_documents(trees.as_slice(), &mut Nowhere, &mut waiting) {
-        Ok(()) => waiting.count(),
-        Err(_) => unreachable!(),
-    }
+    let mut length = Length { bytes: 0 };
+    write_documents(trees.as_slice(), &mut length);
+    length.bytes
 }

@@ -1,7 +1,7 @@
 -- Blocks that close, the innermost first.
-use Rattle.std.proofs.Common.{◌≡◌, ℕ, suc, ◌≤◌, ◌<◌, ◌+◌, List, [], ◌∷◌, ◌++◌, true, false, length, take, drop, None, refl, sym, ◌∙◌, ap, arith, rules, length-append}
+use Rattle.std.proofs.Common.{◌≡◌, ℕ, ◌≤◌, ◌<◌, ◌+◌, List, [], ◌∷◌, ◌++◌, true, false, length, take, drop, None, refl, sym, ◌∙◌, ap, arith, length-append}
 use Rattle.std.proofs.lemmas.List.{map-append, drop-append-le, take-append-le, drop_all, take_all, drop-map}
-use Rattle.yaml_laws.specs.Machine.{Frame, Hole, filled, wrap, with_items, finish}
+use Rattle.yaml_pass.specs.Machine.{Frame, Hole, filled, wrap, with_items, finish}
 use Rattle.yaml_noted.specs.declared.noted.Content.TheVariants as held
 use Rattle.yaml_noted.specs.declared.noted.NotedItem.{NotedItem}
 use Rattle.yaml_noted.specs.View.{Noted, content_of, in_items}

@@ -1,10 +1,10 @@
 -- What stands behind the last head of a row.
-use Rattle.std.proofs.Common.{◌≡◌, ℕ, ◌+◌, ◌-◌, ◌≤◌, ◌<◌, Bool, true, false, List, [], ◌∷◌, length, Option, Some, None, Result, Ok, Err, refl, sym, ◌∙◌, ap, arith, if◌then◌else◌}
+use Rattle.std.proofs.Common.{◌≡◌, ℕ, ◌+◌, ◌-◌, ◌≤◌, ◌<◌, true, false, List, [], ◌∷◌, length, Option, Result, Ok, Err, refl, sym, ◌∙◌, ap, arith, if◌then◌else◌}
 use Rattle.ytt_base.specs.declared.fault.Stop.{Stop}
 use Rattle.ytt_base.specs.Outcomes.{Gives, Outcome, ◌>>=◌}
 use Rattle.ytt_base.specs.Trees.{max_depth}
-use Rattle.yaml_laws.specs.Machine.{Hole, wanting, filled, begin_content}
-use Rattle.yaml_laws.proofs.Depth.{grows_row}
+use Rattle.yaml_pass.specs.Machine.{Hole, wanting, filled, begin_content}
+use Rattle.yaml_pass.proofs.Depth.{grows_row}
 use Rattle.yaml_spec.specs.Bytes.{is_empty}
 use Rattle.yaml_spec.specs.Entries.{row_comment}
 use Rattle.yaml_spec.specs.Noted.{Comment}
@@ -13,7 +13,7 @@ use Rattle.yaml_spec.specs.Values.{Value}
 use Rattle.yaml_rows.specs.declared.row.Head as held
 use Rattle.yaml_rows.specs.declared.row.Row as held_row
 use Rattle.yaml_rows.specs.View.{heads_of, row_of}
-use Rattle.yaml_read.proofs.Gives.{gives-first, gives-same, when_true, when_false}
+use Rattle.ytt_laws.proofs.Chains.{gives_first, gives_same, when_false, when_true}
 
 pub no_passing : (hs : List held.Head) (before : List Comment) → 0 < length hs → (if is_empty (heads_of hs) then before else []) ≡ []
 no_passing [] before h = absurd (omega arith)
@@ -31,7 +31,7 @@ content-some left r v e h = when_true (has_value r) (row_value left r >>= filled
 pub content-stop : {X Z : Type 0} (v : X → Value) (w : Z → Option Comment × Hole) (left : ℕ) (r : Row) (q : Result Z Stop) (s : Stop) → q ≡ Err s → has_value r ≡ true →
     Gives v (Err s) (row_value left r) → Gives w q (begin_content left r)
 content-stop v w left r q s e t h =
-    gives-same w q _ _ (when_true (has_value r) (row_value left r >>= filled_by) _ t) (gives-first v w q s (row_value left r) filled_by e h)
+    gives_same w q _ _ (when_true (has_value r) (row_value left r >>= filled_by) _ t) (gives_first v w q s (row_value left r) filled_by e h)
 
 abbrev extent_by : ℕ → Value → Outcome (ℕ × List Comment)
 extent_by line v = Ok (v.last - line, v.loose)

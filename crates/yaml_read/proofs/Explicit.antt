@@ -7,8 +7,8 @@ use Rattle.yaml_spec.specs.Values.{Value}
 use Rattle.yaml_spec.specs.Rows.{Head, Row, has_value, row_value, rows, taken}
 use Rattle.yaml_spec.specs.Entries.{Doc, Found, content_of, over, row_comment}
 use Rattle.yaml_spec.specs.Read.{Segment, document_content, document_note, explicit, marker_row, rows_behind}
-use Rattle.yaml_laws.specs.Machine.{Passed, filled, pass, run, wanting}
-use Rattle.yaml_laws.proofs.Pass.{pass-content_of, pass-from, with_comments}
+use Rattle.yaml_pass.specs.Machine.{Passed, filled, pass, run, wanting}
+use Rattle.yaml_pass.proofs.Pass.{pass-content_of, pass-from, with_comments}
 use Rattle.yaml_read.specs.Documents.{Part, explicit_part, passed_behind}
 
 -- what is left of a document behind its value

@@ -3,7 +3,6 @@ pub mod Contents
 pub mod EndedBehind
 pub mod Explicit
 pub mod Fitting
-pub mod Gives
 pub mod InParts
 pub mod MarkerBytes
 pub mod Openings

@@ -1,20 +1,17 @@
 -- How the heads of a row open blocks, one after another.
-use Rattle.std.proofs.Common.{◌≡◌, ℕ, zero, suc, ◌≤◌, ◌<◌, Bool, true, false, not, ◌&&◌, ◌||◌, ◌==◌, List, [], ◌∷◌, ◌++◌, length, Option, Some, None, Result, Ok, Err, refl, sym, ◌∙◌, ap, arith, append_assoc, eq-eqb, get_or, if◌then◌else◌}
-use Rattle.ytt_base.specs.declared.fault.FaultKind.{FaultKind}
-use Rattle.ytt_base.specs.declared.fault.FaultKind.TheVariants as kind
+use Rattle.std.proofs.Common.{◌≡◌, ℕ, suc, ◌<◌, Bool, true, false, not, ◌&&◌, ◌||◌, ◌==◌, List, [], ◌∷◌, ◌++◌, length, Option, Some, None, Ok, Err, refl, sym, ◌∙◌, ap, arith, append_assoc, eq-eqb, get_or}
 use Rattle.ytt_base.specs.Outcomes.{Outcome, ◌>>=◌}
 use Rattle.ytt_base.specs.Trees.{Scalar}
-use Rattle.yaml_laws.specs.Machine.{Begun, Frame, Hole, Opened, begin_at, begin_content, begin_entry, opens}
-use Rattle.yaml_spec.specs.Entries.{behind_head, is_dash_mark, misplaced, note_of, stray}
-use Rattle.yaml_spec.specs.Noted.{Comment, Content, Note}
+use Rattle.yaml_pass.specs.Machine.{Begun, Frame, Hole, Opened, begin_content, begin_entry, opens}
+use Rattle.yaml_spec.specs.Entries.{behind_head, is_dash_mark, note_of}
+use Rattle.yaml_spec.specs.Noted.{Comment, Note}
 use Rattle.yaml_spec.specs.Plain.{typed}
-use Rattle.yaml_spec.specs.Refusals.{refused}
 use Rattle.yaml_spec.specs.Rows.{Head, Mark, Row, dash_mark, key_mark}
 use Rattle.yaml_rows.specs.declared.row.Head as held
 use Rattle.yaml_rows.specs.declared.row.Row as held_row
 use Rattle.yaml_rows.specs.View.{head_of, heads_of, mark_of, row_of}
-use Rattle.yaml_read.specs.Heads.{begin_last, goes_on, onto, opens_in, row_from}
-use Rattle.yaml_read.proofs.Gives.{when_true, when_false}
+use Rattle.yaml_read.specs.Heads.{begin_last, goes_on, new_frame, onto, opens_in, row_from}
+use Rattle.ytt_laws.proofs.Chains.{when_true}
 
 -- the row from these heads on
 abbrev pub at_heads : ℕ → List Head → Row → Row
@@ -57,7 +54,7 @@ last_from left n r x xs e h hs m = rw e refl
 -- ---- blocks
 
 abbrev framed : ℕ → ℕ → Bool → Begun → Outcome Opened
-framed left n is_list b = Ok (record { left = left; indent = n; is_list = is_list; done = []; note = b.0 }, b.1, b.2)
+framed left n is_list b = Ok (new_frame left n is_list b.0, b.1, b.2)
 
 opens-here : (left n : ℕ) (h : Head) (hs : List Head) (r : Row) → h.has_tab ≡ false →
     opens (suc left) n (at_heads n (h ∷ hs) r) ≡ begin_entry left (opens left) (at_heads n (h ∷ hs) r) h.mark hs >>= framed left n (is_dash_mark h.mark)
@@ -65,12 +62,9 @@ opens-here left n h hs r e =
     ap (λ (o : Outcome Begun). o >>= framed left n (is_dash_mark h.mark))
     (when_true (not h.has_tab && n == n && ((is_dash_mark h.mark && is_dash_mark h.mark) || (not (is_dash_mark h.mark) && not (is_dash_mark h.mark)))) _ _ (test_true h.has_tab n (is_dash_mark h.mark) e))
 
-abbrev pub frame_at : ℕ → ℕ → Bool → Begun → Frame
-frame_at left n is_list b = record { left = left; indent = n; is_list = is_list; done = []; note = b.0 }
-
 -- the last block that a row opens
 abbrev pub last_in : List Frame → ℕ → ℕ → Bool → Begun → Outcome (List Frame × Hole)
-last_in outer left n is_list b = Ok (outer ++ frame_at left n is_list b ∷ b.1, b.2)
+last_in outer left n is_list b = Ok (outer ++ new_frame left n is_list b.0 ∷ b.1, b.2)
 
 bind_framed : (outer : List Frame) (left n : ℕ) (is_list : Bool) (o : Outcome Begun) → (o >>= framed left n is_list) >>= onto outer ≡ o >>= last_in outer left n is_list
 bind_framed outer left n is_list (Ok b) = refl
@@ -89,8 +83,8 @@ opened_as note p = Ok (note, p.0 ∷ p.1, p.2)
 
 more_by : (outer : List Frame) (left n : ℕ) (r : Row) (o : Outcome Opened) →
     ((o >>= opened_as (note_of r None None)) >>= framed left n true) >>= onto outer
-    ≡ o >>= onto (outer ++ record { left = left; indent = n; is_list = true; done = []; note = note_of r None None } ∷ [])
-more_by outer left n r (Ok p) = ap (λ (fs : List Frame). Ok (fs, p.2)) (sym (append_assoc outer (record { left = left; indent = n; is_list = true; done = []; note = note_of r None None } ∷ []) (p.0 ∷ p.1)))
+    ≡ o >>= onto (outer ++ new_frame left n true (note_of r None None) ∷ [])
+more_by outer left n r (Ok p) = ap (λ (fs : List Frame). Ok (fs, p.2)) (sym (append_assoc outer (new_frame left n true (note_of r None None) ∷ []) (p.0 ∷ p.1)))
 more_by outer left n r (Err e) = refl
 
 dash_by : (m : Mark) (i : Head) (is : List Head) → goes_on m (i ∷ is) ≡ true → m ≡ dash_mark
@@ -99,7 +93,7 @@ dash_by (key_mark k) i is e = cc
 
 opens-more : (outer : List Frame) (left n : ℕ) (h i : Head) (is : List Head) (r : Row) → h.has_tab ≡ false → goes_on h.mark (i ∷ is) ≡ true →
     opens_in outer (suc left) n (at_heads n (h ∷ i ∷ is) r)
-    ≡ opens_in (outer ++ record { left = left; indent = n; is_list = true; done = []; note = note_of r None None } ∷ []) left i.column (at_heads i.column (i ∷ is) (record r { before = [] }))
+    ≡ opens_in (outer ++ new_frame left n true (note_of r None None) ∷ []) left i.column (at_heads i.column (i ∷ is) (record r { before = [] }))
 opens-more outer left n h i is r t g =
     ap (λ (o : Outcome Opened). o >>= onto outer) (opens-here left n h (i ∷ is) r t)
     ∙ rw (dash_by h.mark i is g) (more_by outer left n r (opens left i.column (behind_head i.column (i ∷ is) r)))
@@ -113,7 +107,7 @@ some_head (x ∷ xs) h = (head_of x, heads_of xs, refl)
 more_held : (outer : List Frame) (left n : ℕ) (h : held.Head) (behind : List held.Head) (i : held.Head) (row : held_row.Row) (bs : List Comment) →
     h.has_tab ≡ false → goes_on (mark_of h.mark) (heads_of behind) ≡ true →
     opens_in outer (suc left) n (row_from bs n (h ∷ behind) row)
-    ≡ opens_in (outer ++ record { left = left; indent = n; is_list = true; done = []; note = note_of (row_of bs row) None None } ∷ []) left (get_or behind 0 i).column (row_from [] (get_or behind 0 i).column behind row)
+    ≡ opens_in (outer ++ new_frame left n true (note_of (row_of bs row) None None) ∷ []) left (get_or behind 0 i).column (row_from [] (get_or behind 0 i).column behind row)
 more_held outer left n h [] i row bs t g = let w : goes_on (mark_of h.mark) [] ≡ false = none (mark_of h.mark) in cc
   where
     none : (m : Mark) → goes_on m [] ≡ false
@@ -121,12 +115,12 @@ more_held outer left n h [] i row bs t g = let w : goes_on (mark_of h.mark) [] �
     none (key_mark k) = refl
 more_held outer left n h (j ∷ js) i row bs t g = (opens-more outer left n (head_of h) (head_of j) (heads_of js) (row_of bs row) t g)
 
-pub more_blocks : (outer fs : List Frame) (left l n : ℕ) (heads : List held.Head) (h : held.Head) (behind : List held.Head) (i : held.Head) (row : held_row.Row) (bs cs : List Comment) (done : List (Note × Content)) (note : Note) →
-    heads ≡ h ∷ behind → left ≡ suc l → h.has_tab ≡ false → goes_on (mark_of h.mark) (heads_of behind) ≡ true → cs ≡ [] → done ≡ [] →
-    note ≡ note_of (row_of bs row) None None → fs ≡ outer ++ record { left = l; indent = n; is_list = true; done = done; note = note } ∷ [] →
+pub more_blocks : (outer fs : List Frame) (left l n : ℕ) (heads : List held.Head) (h : held.Head) (behind : List held.Head) (i : held.Head) (row : held_row.Row) (bs cs : List Comment) (note : Note) →
+    heads ≡ h ∷ behind → left ≡ suc l → h.has_tab ≡ false → goes_on (mark_of h.mark) (heads_of behind) ≡ true → cs ≡ [] →
+    note ≡ note_of (row_of bs row) None None → fs ≡ outer ++ new_frame l n true note ∷ [] →
     opens_in outer left n (row_from bs n heads row) ≡ opens_in fs l (get_or behind 0 i).column (row_from cs (get_or behind 0 i).column behind row)
-more_blocks outer fs left l n heads h behind i row bs cs done note he le t g ce de ne fe =
-    rw (he, le, fe, ce, de, ne) (more_held outer l n h behind i row bs t g)
+more_blocks outer fs left l n heads h behind i row bs cs note he le t g ce ne fe =
+    rw (he, le, fe, ce, ne) (more_held outer l n h behind i row bs t g)
 
 pub last_block : (outer : List Frame) (left l n : ℕ) (heads : List held.Head) (h : held.Head) (behind : List held.Head) (row : held_row.Row) (bs : List Comment) →
     heads ≡ h ∷ behind → left ≡ suc l → 0 < length row.heads → h.has_tab ≡ false → goes_on (mark_of h.mark) (heads_of behind) ≡ false →
@@ -135,10 +129,10 @@ last_block outer left l n heads h behind row bs he le some t g =
     let x = some_head row.heads some in
     rw (he, le) (opens-last outer l n (head_of h) (heads_of behind) (row_of bs row) x.0 x.1 x.2 t g)
 
-pub last_opened : (outer fs : List Frame) (left n : ℕ) (is_list d : Bool) (done : List (Note × Content)) (o : Outcome Begun) (b : Begun) →
-    o ≡ Ok b → b.1 ≡ [] → d ≡ is_list → done ≡ [] → fs ≡ outer ++ record { left = left; indent = n; is_list = d; done = done; note = b.0 } ∷ [] →
+pub last_opened : (outer fs : List Frame) (left n : ℕ) (is_list d : Bool) (o : Outcome Begun) (b : Begun) →
+    o ≡ Ok b → b.1 ≡ [] → d ≡ is_list → fs ≡ outer ++ new_frame left n d b.0 ∷ [] →
     o >>= last_in outer left n is_list ≡ Ok (fs, b.2)
-last_opened outer fs left n is_list d done o b e none de ne fe = rw (e, fe, de, ne, none) refl
+last_opened outer fs left n is_list d o b e none de fe = rw (e, fe, de, none) refl
 
 begun_by : (note : Note) (o : Outcome Opened) (x : List Frame × Hole) → o >>= onto [] ≡ Ok x → o >>= opened_as note ≡ Ok (note, x.0, x.1)
 begun_by note (Ok o) x e = let h : ◌≡◌ {A = List Frame × Hole} (o.0 ∷ o.1, o.2) x = cc in ap (λ (y : List Frame × Hole). Ok (note, y.0, y.1)) h

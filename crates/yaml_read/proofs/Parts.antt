@@ -9,8 +9,8 @@ use Rattle.yaml_spec.specs.Entries.{Found}
 use Rattle.yaml_spec.specs.Read.{Segment, comments_of, document_content, document_note, ended, first_content, is_start}
 use Rattle.yaml_spec.specs.Refusals.{refused}
 use Rattle.yaml_spec.specs.Rows.{rows}
-use Rattle.yaml_laws.specs.Machine.{Passed, pass, wanting}
-use Rattle.yaml_laws.proofs.Pass.{pass-content_of, with_comments}
+use Rattle.yaml_pass.specs.Machine.{Passed, pass, wanting}
+use Rattle.yaml_pass.proofs.Pass.{pass-content_of, with_comments}
 use Rattle.yaml_read.specs.Between.{ended_behind}
 use Rattle.yaml_read.specs.Documents.{Part, explicit_part, front_part, segment_part}
 

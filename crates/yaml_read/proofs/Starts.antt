@@ -1,13 +1,12 @@
 -- A line that begins a row.
-use Rattle.std.proofs.Common.{◌≡◌, ℕ, zero, suc, ◌+◌, ◌<◌, ◌≤◌, ◌^◌, Bool, true, false, not, ◌||◌, ◌==◌, List, [], ◌∷◌, ◌++◌, length, drop, Option, Some, None, Result, refl, sym, ◌∙◌, ap, arith}
+use Rattle.std.proofs.Common.{◌≡◌, ℕ, zero, suc, ◌+◌, ◌<◌, ◌≤◌, ◌^◌, Bool, true, false, not, ◌||◌, ◌==◌, List, [], ◌∷◌, ◌++◌, length, drop, Some, None, Result, refl, sym, ◌∙◌, ap}
 use Rattle.std.proofs.lemmas.List.{length-map}
 use Rattle.ytt_base.specs.declared.fault.FaultKind.{FaultKind}
 use Rattle.ytt_base.specs.declared.fault.Stop.{Stop}
 use Rattle.ytt_base.specs.declared.line.Line as held_line
 use Rattle.ytt_base.specs.Outcomes.{Outcome}
 use Rattle.ytt_base.specs.Trees.{Scalar}
-use Rattle.yaml_laws.specs.Machine.{Frame, Hole, Passed, own_comment, pass}
-use Rattle.yaml_noted.specs.View.{comments_of}
+use Rattle.yaml_pass.specs.Machine.{Frame, Hole, own_comment, pass}
 use Rattle.yaml_rows.specs.declared.row.Row as held
 use Rattle.yaml_rows.specs.View.{heads_of, row_of}
 use Rattle.yaml_spec.specs.Bytes.{first, hash, is_blank, is_empty, passed, skip_white}
@@ -18,7 +17,7 @@ use Rattle.yaml_spec.specs.Rows as plain
 use Rattle.yaml_spec.specs.Rows.{Head, Key_text, Row, dash_mark, has_tab_before, has_value, is_dash, key_at, key_mark, row_at}
 use Rattle.yaml_read.specs.Heads.{FitsRow}
 use Rattle.yaml_read.specs.Passing.{Leads, pass_behind}
-use Rattle.yaml_read.proofs.Gives.{when_false}
+use Rattle.ytt_laws.proofs.Chains.{when_false}
 
 pub leads-same : {S A : Type 0} (next : S → Outcome A) (r : Result S Stop) (o p : Outcome A) → p ≡ o → Leads next r o → Leads next r p
 leads-same next r o p e h = rw e h

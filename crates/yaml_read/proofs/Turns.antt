@@ -1,18 +1,17 @@
 -- One row, where blocks are open.
-use Rattle.std.proofs.Common.{◌≡◌, ℕ, zero, suc, ◌+◌, ◌-◌, ◌≤◌, ◌<◌, Bool, true, false, not, List, [], ◌∷◌, ◌++◌, length, take, drop, get_or, Some, Ok, Err, refl, sym, ◌∙◌, ap, append_assoc, arith, cond}
+use Rattle.std.proofs.Common.{◌≡◌, ℕ, zero, suc, ◌+◌, ◌-◌, ◌≤◌, ◌<◌, Bool, true, false, not, List, [], ◌∷◌, ◌++◌, length, take, drop, get_or, Some, Ok, Err, refl, ◌∙◌, ap, append_assoc, arith, cond}
 use Rattle.std.specs.List.{prefix_len, slice_get}
 use Rattle.std.proofs.lemmas.List.{map-append, take-map, take_more}
 use Rattle.std.proofs.lemmas.Option.{get_or_from_slice_get}
-use Rattle.ytt_base.specs.declared.fault.FaultKind.TheVariants as kind
 use Rattle.ytt_base.specs.Outcomes.{Outcome, ◌>>=◌}
-use Rattle.yaml_laws.specs.Machine.{Begun, Frame, Hole, begin_at, finish, opens, step}
-use Rattle.yaml_spec.specs.Entries.{Found, misplaced}
-use Rattle.yaml_spec.specs.Noted.{Comment, Content, Note}
+use Rattle.yaml_pass.specs.Machine.{Begun, Frame, Hole, begin_at, finish, opens, step}
+use Rattle.yaml_spec.specs.Entries.{Found}
+use Rattle.yaml_spec.specs.Noted.{Comment}
 use Rattle.yaml_spec.specs.Refusals.{refused}
 use Rattle.yaml_spec.specs.Rows.{Row}
 use Rattle.yaml_rows.specs.declared.row.Head as held_head
 use Rattle.yaml_rows.specs.declared.row.Row as held_row
-use Rattle.yaml_rows.specs.View.{heads_of, row_of}
+use Rattle.yaml_rows.specs.View.{row_of}
 use Rattle.yaml_read.specs.Steps.{begins, entry_in, last_left, misfit, root_in, with_next}
 use Rattle.yaml_read.specs.View.{frame_of, frames_of}
 use Rattle.yaml_read.specs.declared.frames.Frame as held

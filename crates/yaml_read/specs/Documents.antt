@@ -8,7 +8,7 @@ use Rattle.yaml_spec.specs.Noted.{Comment, Note, Content, Items, no_items, item,
 use Rattle.yaml_spec.specs.Read.{Segment, comments_of, document_content, document_note, documents, ended, explicit, first_content, is_start, rows_behind}
 use Rattle.yaml_spec.specs.Refusals.{refused}
 use Rattle.yaml_spec.specs.Rows.{Row, rows}
-use Rattle.yaml_laws.specs.Machine.{Passed}
+use Rattle.yaml_pass.specs.Machine.{Passed}
 
 -- items behind others
 abbrev pub and_items : Items → Items → Items

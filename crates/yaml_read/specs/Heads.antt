@@ -3,9 +3,9 @@ use Rattle.std.specs.Prelude.{ℕ, ◌+◌, ◌<◌, ◌≤◌, ◌^◌, Bool, t
 use Rattle.ytt_base.specs.declared.fault.Place.{Place}
 use Rattle.ytt_base.specs.Outcomes.{Outcome, ◌>>=◌}
 use Rattle.ytt_base.specs.Trees.{Scalar}
-use Rattle.yaml_laws.specs.Machine.{Begun, Frame, Hole, Opened, begin_content, opens}
+use Rattle.yaml_pass.specs.Machine.{Begun, Frame, Hole, Opened, begin_content, opens}
 use Rattle.yaml_spec.specs.Entries.{is_dash_mark, note_of}
-use Rattle.yaml_spec.specs.Noted.{Comment}
+use Rattle.yaml_spec.specs.Noted.{Comment, Note}
 use Rattle.yaml_spec.specs.Plain.{typed}
 use Rattle.yaml_spec.specs.Rows as plain
 use Rattle.yaml_spec.specs.Rows.{Head, Mark, dash_mark, key_mark}
@@ -42,6 +42,10 @@ key_in p (key_mark k) = typed p k >>= (λ s. Ok (Some s))
 -- an entry at the last head of a row
 abbrev pub begin_last : ℕ → plain.Row → Mark → Outcome Begun
 begin_last left r m = key_in r.place m >>= (λ k. begin_content left r >>= (λ b. Ok (note_of r k b.0, [], b.1)))
+
+-- a block that begins at this indent, with what its first entry has so far
+abbrev pub new_frame : ℕ → ℕ → Bool → Note → Frame
+new_frame left n is_list note = record { left = left; indent = n; is_list = is_list; done = []; note = note }
 
 -- the blocks that begin with a row, inside those around them
 abbrev pub onto : List Frame → Opened → Outcome (List Frame × Hole)

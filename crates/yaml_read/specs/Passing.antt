@@ -3,7 +3,7 @@ use Rattle.std.specs.Prelude.{◌≡◌, ℕ, false, List, Result, Ok, Err}
 use Rattle.ytt_base.specs.declared.fault.Stop.{Stop}
 use Rattle.ytt_base.specs.declared.fault.Stop.TheVariants as stop
 use Rattle.ytt_base.specs.Outcomes.{Outcome, ◌>>=◌}
-use Rattle.yaml_laws.specs.Machine.{Frame, Hole, Passed, pass, step}
+use Rattle.yaml_pass.specs.Machine.{Frame, Hole, Passed, pass, step}
 use Rattle.yaml_noted.specs.View.{comments_of}
 use Rattle.ytt_base.specs.Trees.{max_depth}
 use Rattle.yaml_spec.specs.Lines.{Line}

@@ -1,9 +1,9 @@
 -- One row, where blocks are open.
-use Rattle.std.specs.Prelude.{◌≡◌, ℕ, suc, Bool, true, false, not, ◌&&◌, ◌||◌, ◌==◌, List, [], ◌∷◌, ◌++◌, Option, Some, None, Ok, if◌then◌else◌}
+use Rattle.std.specs.Prelude.{ℕ, Bool, not, ◌&&◌, ◌||◌, ◌==◌, List, [], ◌∷◌, ◌++◌, Ok, if◌then◌else◌}
 use Rattle.ytt_base.specs.declared.fault.FaultKind.{FaultKind}
 use Rattle.ytt_base.specs.declared.fault.FaultKind.TheVariants as kind
 use Rattle.ytt_base.specs.Outcomes.{Outcome, ◌>>=◌}
-use Rattle.yaml_laws.specs.Machine.{Frame, Hole, begin_at, finish, opens, step}
+use Rattle.yaml_pass.specs.Machine.{Frame, Hole, begin_at, finish, opens, step}
 use Rattle.yaml_spec.specs.Entries.{begins_entry, is_dash_mark, stray}
 use Rattle.yaml_spec.specs.Noted.{Content, Note}
 use Rattle.yaml_spec.specs.Rows.{Head, Row}

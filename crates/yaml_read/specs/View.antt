@@ -1,8 +1,8 @@
 -- What is read of a document, seen as plain data.
 use Rattle.std.specs.Prelude.{ℕ, List, map as each, Option, Some, None, option_map, false}
 use Rattle.ytt_base.specs.View.{key_of}
-use Rattle.yaml_laws.specs.Machine as machine
-use Rattle.yaml_laws.specs.Machine.{Hole, wanting, filled}
+use Rattle.yaml_pass.specs.Machine as machine
+use Rattle.yaml_pass.specs.Machine.{Hole, wanting, filled}
 use Rattle.yaml_noted.specs.View.{content_of, comment_of, comments_of, noted_of, Noted}
 use Rattle.yaml_noted.specs.declared.noted.NotedItem.{NotedItem}
 use Rattle.yaml_noted.specs.declared.noted.RawComment.{RawComment}

@@ -2,10 +2,10 @@
 ghost use Rattle.std.specs.Prelude.{◌≡◌, ◌||◌, ◌==◌, ◌∷◌, [], ◌++◌, IfOk, OnOk, not, true, option_map};
 ghost use Rattle.ytt_base.specs.Outcomes.{Gives};
 ghost use Rattle.ytt_base.specs.declared.fault.Stop.TheVariants as stop;
-ghost use Rattle.yaml_noted.specs.View.{comment_of, comments_of as comments_told};
+ghost use Rattle.yaml_noted.specs.View.{comments_of as comments_told};
 ghost use Rattle.yaml_spec.specs.Bytes.{first, hash, is_blank, skip_white};
 ghost use Rattle.yaml_spec.specs.Held.{plain_line, plain_lines};
-ghost use Rattle.yaml_spec.specs.Noted.{Comment, is_note};
+ghost use Rattle.yaml_spec.specs.Noted.{is_note};
 ghost use Rattle.yaml_spec.specs.Read.{comments_of, first_content, is_stop};
 ghost use Rattle.yaml_read.specs.Between.{ended_behind, only_comments, outside_fault};
 ghost use Rattle.yaml_read.specs.Segments.{segment_of};

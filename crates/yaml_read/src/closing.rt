@@ -1,6 +1,6 @@
 // How open blocks close.
 ghost use Rattle.std.specs.Prelude.{◌≡◌, ◌≤◌, [], ◌∷◌, ◌++◌, IfOk, drop, length, take};
-ghost use Rattle.yaml_laws.specs.Machine.{finish, with_items, wrap};
+ghost use Rattle.yaml_pass.specs.Machine.{finish, with_items, wrap};
 ghost use Rattle.yaml_noted.specs.View.{content_of, noted_of};
 ghost use Rattle.yaml_spec.specs.Noted.{item, no_items};
 ghost use Rattle.yaml_read.specs.View.{done_of, found_of, frames_of, hole_of, note_of};

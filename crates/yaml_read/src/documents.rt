@@ -1,12 +1,10 @@
 // Documents, one after another.
-ghost use Rattle.std.specs.Prelude.{◌≡◌, ◌≤◌, ◌^◌, [], List, Ok, option_map, IfOk, OnOk, true, false};
+ghost use Rattle.std.specs.Prelude.{◌≡◌, ◌≤◌, ◌^◌, [], Ok, option_map, OnOk, true, false};
 ghost use Rattle.ytt_base.specs.Outcomes.{Gives};
-ghost use Rattle.yaml_laws.specs.Machine.{wanting};
 ghost use Rattle.yaml_noted.specs.View.{comment_of, comments_of, content_of, documents_of, items_of, noted_of};
 ghost use Rattle.yaml_rows.specs.View.{row_of};
 ghost use Rattle.yaml_spec.specs.Held.{plain_line, plain_lines};
-ghost use Rattle.yaml_spec.specs.Noted.{Comment};
-ghost use Rattle.yaml_spec.specs.Read.{document_note, implicit, is_start, is_stop, marker_row, segments};
+ghost use Rattle.yaml_spec.specs.Read.{document_note, implicit, is_start, marker_row, segments};
 ghost use Rattle.yaml_spec.specs.Rows.{has_value};
 ghost use Rattle.yaml_read.specs.Documents.{and_items, documents_behind, explicit_part, front_part, items_in, passed_behind, segment_part};
 ghost use Rattle.yaml_read.specs.Lines.{FitLines};

@@ -2,7 +2,7 @@
 ghost use Rattle.std.specs.Prelude.{◌≡◌, ◌-◌, ◌<◌, ◌≤◌, [], IfOk, List, Ok, length, option_map};
 ghost use Rattle.ytt_base.specs.Outcomes.{Gives};
 ghost use Rattle.ytt_base.specs.View.{key_of};
-ghost use Rattle.yaml_laws.specs.Machine.{begin_content, filled};
+ghost use Rattle.yaml_pass.specs.Machine.{begin_content, filled};
 ghost use Rattle.yaml_noted.specs.View.{comment_of, comments_of};
 ghost use Rattle.yaml_read.specs.Heads.{FitsRow, begin_last, key_in};
 ghost use Rattle.yaml_read.specs.View.{begun_of, extent_of, found_of, started_of};

@@ -3,11 +3,11 @@ ghost use Rattle.std.specs.Prelude.{◌≡◌, ◌<◌, ◌≤◌, [], ◌∷◌
 ghost use Rattle.ytt_base.specs.declared.fault.FaultKind.TheVariants as kind;
 ghost use Rattle.ytt_base.specs.declared.fault.Stop.TheVariants as stop;
 ghost use Rattle.ytt_base.specs.Outcomes.{Gives, fault_at};
-ghost use Rattle.yaml_laws.specs.Machine.{begin_entry, opens};
+ghost use Rattle.yaml_pass.specs.Machine.{begin_entry, opens};
 ghost use Rattle.yaml_noted.specs.View.{comments_of};
-ghost use Rattle.yaml_read.specs.Heads.{FitsRow, first_dash, first_tab, goes_on, opens_in, row_from};
-ghost use Rattle.yaml_read.specs.View.{begun_of, extent_of, frame_of, frames_of, note_of, opened_of};
-ghost use Rattle.yaml_rows.specs.View.{head_of, heads_of, mark_of, row_of};
+ghost use Rattle.yaml_read.specs.Heads.{FitsRow, first_dash, first_tab, goes_on, new_frame, opens_in, row_from};
+ghost use Rattle.yaml_read.specs.View.{begun_of, extent_of, frames_of, note_of, opened_of};
+ghost use Rattle.yaml_rows.specs.View.{heads_of, mark_of, row_of};
 ghost use Rattle.yaml_spec.specs.Entries as plain;
 ghost use Rattle.yaml_spec.specs.Entries.{is_dash_mark};
 ghost use Rattle.yaml_spec.specs.Noted.{Comment};
@@ -84,11 +84,26 @@ fn bare_note(place: Place, before: Comments) -> Note
     }
 }
 
-fn with_frame(outer: Frames, frame: Frame) -> Result<Frames, Memory>
-    ensures { IfOk result (λ fs. frames_of fs ≡ frames_of outer ++ frame_of frame ∷ []) }
+/// These blocks, and inside them one that begins at this indent, with what its first entry has so far.
+fn with_block(
+    alloc: Global,
+    outer: Frames,
+    left: u32,
+    indent: usize,
+    is_list: bool,
+    note: Note,
+) -> Result<Frames, Memory>
+    requires { left ≤ 100 }
+    ensures { IfOk result (λ fs. frames_of fs ≡ frames_of outer ++ new_frame left indent is_list (note_of note) ∷ []) }
 {
     let mut frames = outer;
-    frames.push(frame)?;
+    frames.push(Frame {
+        left,
+        indent,
+        is_list,
+        done: Items::new(alloc),
+        note,
+    })?;
     Ok(frames)
 }
 
@@ -119,38 +134,15 @@ pub fn open_blocks(
     }
     let inside = left - 1;
     if goes_on(&head.mark, behind) {
-        let frames = with_frame(
-            outer,
-            Frame {
-                left: inside,
-                indent,
-                is_list: true,
-                done: Items::new(alloc),
-                note: bare_note(row.place, before),
-            },
-        )?;
+        let note = bare_note(row.place, before);
+        let frames = with_block(alloc, outer, inside, indent, true, note)?;
         let column = behind[0].column;
-        return open_blocks(
-            alloc,
-            inside,
-            row,
-            column,
-            behind,
-            Items::new(alloc),
-            frames,
-        );
+        let none = Items::new(alloc);
+        return open_blocks(alloc, inside, row, column, behind, none, frames);
     }
     let Begun { note, inner } = begin_last(alloc, inside, row, &head.mark, before)?;
-    let frames = with_frame(
-        outer,
-        Frame {
-            left: inside,
-            indent,
-            is_list: is_dash(&head.mark),
-            done: Items::new(alloc),
-            note,
-        },
-    )?;
+    let is_list = is_dash(&head.mark);
+    let frames = with_block(alloc, outer, inside, indent, is_list, note)?;
     Ok(Opened {
         frames,
         hole: inner.hole,

@@ -1,7 +1,7 @@
 // The lines of a document, gone over once with a stack of open blocks.
 ghost use Rattle.std.specs.Prelude.{◌≡◌, ◌==◌, ◌+◌, ◌<◌, ◌≤◌, ◌^◌, [], ◌∷◌, IfOk, List, ℕ, false, true, length};
 ghost use Rattle.ytt_base.specs.Outcomes.{Gives};
-ghost use Rattle.yaml_laws.specs.Machine.{own_comment, pass};
+ghost use Rattle.yaml_pass.specs.Machine.{own_comment, pass};
 ghost use Rattle.yaml_noted.specs.View.{comment_of, comments_of};
 ghost use Rattle.yaml_spec.specs.Bytes.{first, hash, is_blank, skip_white};
 ghost use Rattle.yaml_spec.specs.Held.{plain_line, plain_lines};

@@ -2,7 +2,7 @@
 ghost use Rattle.std.specs.Prelude.{◌≡◌, ◌+◌, ◌<◌, ◌≤◌, [], ◌∷◌, ◌++◌, IfOk, List, Ok, drop, length, not, slice_get, take, true, Some};
 ghost use Rattle.std.specs.List.{prefix_len};
 ghost use Rattle.ytt_base.specs.Outcomes.{Gives};
-ghost use Rattle.yaml_laws.specs.Machine.{begin_at, opens, step};
+ghost use Rattle.yaml_pass.specs.Machine.{begin_at, opens, step};
 ghost use Rattle.yaml_noted.specs.View.{comments_of, content_of};
 ghost use Rattle.yaml_read.specs.Heads.{FitsRow};
 ghost use Rattle.yaml_read.specs.Steps.{begins, entry_in, fits_at, last_left, misfit, root_in, with_next};

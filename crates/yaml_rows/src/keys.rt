@@ -12,7 +12,7 @@ use sqlite_items::Items;
 use std::alloc::Global;
 use yaml_flow::read_flow;
 use yaml_plain::{read_plain_key, split_plain, start_fault};
-use yaml_scalar::quote_on_line;
+use yaml_quotes::quote_on_line;
 use yaml_text::{Cursor, behind, first, is_gap, skip_white, starts_collection, starts_quote};
 use ytt_base::fault::{FaultKind, Place, Stop};
 use ytt_base::text::Memory;
@@ -60,7 +60,7 @@ fn read_quoted_key<'a>(alloc: Global, text: &'a str) -> Result<Option<(Mark, &'a
 fn read_collection_key<'a>(alloc: Global, text: &'a str) -> Result<Option<(Mark, &'a str)>, Memory>
     ensures { IfOk result (λ o. option_map (λ k. (mark_of k.0, k.1.now)) o ≡ marked (collection_key text.now)) }
 {
-    let nowhere = Place { file: 0, line: 0 };
+    let nowhere = Place { file: 1, line: 1 };
     let cursor = Cursor {
         place: nowhere,
         text,

@@ -1,4 +1,8 @@
 //! Logical lines: what begins an entry on a line, and the value behind it.
+//!
+//! `row_at` gives exactly the definition's logical line that begins with a line (`row`), whatever comments stand before it;
+//! `row_value` exactly the definition's value of it, with its comments and the last line that it takes, or exactly its fault.
+//! `has_value` says whether it has one.
 #![tactic(auto)]
 
 mod heads;

@@ -1,6 +1,5 @@
 // The row that begins with a line, and its value.
 ghost use Rattle.std.specs.Prelude.{◌≡◌, ◌+◌, ◌<◌, ◌≤◌, ◌^◌, IfOk, List, length};
-ghost use Rattle.std.specs.List.{All};
 ghost use Rattle.ytt_base.specs.Outcomes.{Gives};
 ghost use Rattle.yaml_spec.specs.Held.{plain_line, plain_lines};
 ghost use Rattle.yaml_spec.specs.Noted.{Comment};

@@ -11,10 +11,11 @@ ghost use Rattle.yaml_rows.specs.View.{value_of};
 ghost use Rattle.yaml_text.specs.View.{cursor_of};
 
 use std::alloc::Global;
+use yaml_blocks::{ends_header, header_rest, read_block_at};
 use yaml_flow::read_flow;
 use yaml_noted::{Comments, Content, RawComment};
 use yaml_plain::read_plain_scalar;
-use yaml_scalar::{ends_header, header_rest, read_block_at, read_quote};
+use yaml_quotes::read_quote;
 use yaml_text::{
     Cursor, first, is_note, refusal, skip_white, starts_block, starts_collection, starts_quote,
 };

@@ -1,14 +1,1 @@
-pub mod BlockIndents
-pub mod BlockTexts
-pub mod BlocksRead
-pub mod ByteTests
 pub mod Cursors
-pub mod Escaping
-pub mod Foldings
-pub mod FormTests
-pub mod Integers
-pub mod Pieces
-pub mod PlainValues
-pub mod QuotedChars
-pub mod QuotedLines
-pub mod StyleTests

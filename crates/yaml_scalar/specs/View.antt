@@ -1,24 +1,12 @@
--- What the program read, as plain data.
+-- A string that was read by its position, as plain data.
+use Rattle.std.specs.Prelude.{ℕ, ◌<◌, List}
+use Rattle.yaml_spec.specs.Bytes.{first}
 use Rattle.yaml_spec.specs.Positions.{Quoted}
-use Rattle.yaml_spec.specs.Quotes.{Scan, open_end, closed, wrong}
-use Rattle.std.specs.Prelude.{string_bytes}
 use Rattle.yaml_scalar.specs.declared.position.Quoted as held
-use Rattle.yaml_scalar.specs.declared.scan.Scan as found
-use Rattle.yaml_scalar.specs.declared.scan.Scan.TheVariants as scan
-use Rattle.yaml_scalar.specs.declared.escapes.Turn as seen
-use Rattle.yaml_scalar.specs.declared.escapes.Turn.TheVariants as turn
-use Rattle.yaml_scalar.specs.Turns.{Turn, ends, closes, gives, fails}
 
 abbrev pub quoted_of : held.Quoted → Quoted
 quoted_of q = record { text = q.text; line = q.line; column = q.column }
 
-abbrev pub scan_of : found.Scan → Scan
-scan_of (scan.Open text joined) = open_end (record { text = string_bytes text; joined = joined })
-scan_of (scan.Closed text behind) = closed (string_bytes text) behind.now
-scan_of scan.Wrong = wrong
-
-abbrev pub turn_of : seen.Turn → Turn
-turn_of (turn.LineEnd joined) = ends joined
-turn_of (turn.Closed behind) = closes behind.now
-turn_of (turn.Char c behind) = gives c behind.now
-turn_of turn.Wrong = fails
+-- an ASCII character begins the text
+abbrev pub BeginsAscii : List ℕ → Type 0
+BeginsAscii t = (0 < first t) × (first t < 128)

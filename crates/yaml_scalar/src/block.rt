@@ -6,10 +6,9 @@ ghost use Rattle.yaml_spec.specs.Openers.{starts_block};
 ghost use Rattle.yaml_spec.specs.Positions.{block_at, cursor_at};
 ghost use Rattle.yaml_scalar.specs.View.{quoted_of};
 
-use crate::blocks::read_lines;
-use crate::indent::least_under;
 use crate::position::{Quoted, cursor_at, read_up_to};
 use std::alloc::Global;
+use yaml_blocks::{least_under, read_lines};
 use ytt_base::fault::Stop;
 use ytt_base::line::Lines;
 

@@ -1,11 +1,10 @@
 // Positions in lines.
-ghost use Rattle.std.specs.Prelude.{◌≡◌, ◌<◌, ◌==◌, drop, length};
-ghost use Rattle.std.specs.Str.{IsCharBoundary};
+ghost use Rattle.std.specs.Prelude.{◌≡◌, ◌<◌, length};
 ghost use Rattle.ytt_base.specs.declared.fault.Place.{Place};
 ghost use Rattle.yaml_spec.specs.Held.{plain_lines};
-ghost use Rattle.yaml_spec.specs.Positions.{cursor_at, read_up_to, text_at};
+ghost use Rattle.yaml_spec.specs.Positions.{cursor_at, read_up_to};
 ghost use Rattle.yaml_text.specs.View.{cursor_of};
-ghost use Rattle.yaml_scalar.specs.View.{quoted_of};
+ghost use Rattle.yaml_scalar.specs.View.{BeginsAscii, quoted_of};
 
 use yaml_text::Cursor;
 use ytt_base::line::Line;
@@ -22,10 +21,10 @@ pub struct Quoted {
     pub column: u64,
 }
 
-/// The place at a column of a line, by their indexes.
+/// The place at a column of a line, by their indexes, where an ASCII character stands.
 pub fn cursor_at(lines: &[Line], at: usize, column: usize) -> Cursor<'_>
     requires there { at < length lines.now }
-    requires cut { IsCharBoundary (text_at (plain_lines lines.now) at) column }
+    requires ascii { let here = cursor_at (plain_lines lines.now) at column in BeginsAscii here.text }
     ensures { cursor_of result ≡ cursor_at (plain_lines lines.now) at column }
 {
     let line = &lines[at];

@@ -7,8 +7,8 @@ ghost use Rattle.yaml_spec.specs.Quotes.{starts_quote};
 ghost use Rattle.yaml_scalar.specs.View.{quoted_of};
 
 use crate::position::{Quoted, cursor_at, read_up_to};
-use crate::quote::read_quote;
 use std::alloc::Global;
+use yaml_quotes::read_quote;
 use ytt_base::fault::Stop;
 use ytt_base::line::Lines;
 

@@ -2,6 +2,7 @@
 use Rattle.std.proofs.Common.{◌≡◌, ℕ, zero, suc, ◌+◌, ◌<◌, true, List, [], ◌∷◌, length, get_or, drop, ◌⊎◌, refl, ap, arith, get_or-drop, add-zero}
 use Rattle.std.proofs.lemmas.Bool.Decides.{nat_tests}
 use Rattle.ytt_base.specs.declared.line.Line as held
+use Rattle.yaml_spec.specs.Bytes.{first}
 use Rattle.yaml_spec.specs.Held.{plain_lines}
 use Rattle.yaml_spec.specs.Openers.{starts_block}
 use Rattle.yaml_spec.specs.Positions.{cursor_at, text_at}
@@ -35,22 +36,11 @@ plain_lines-length (l ∷ lines) = ap (λ n. suc n) (plain_lines-length lines)
 
 -- ---- where a quote or a block scalar opens
 
--- where one opens there is a line
-pub opens-line : (lines : List held.Line) (at column : ℕ) → (let here = cursor_at (plain_lines lines) at column in starts_quote here.text ≡ true) → at < length lines
-opens-line [] at column h = cc
-opens-line (l ∷ lines) zero column h = omega arith
-opens-line (l ∷ lines) (suc at) column h = omega (arith, opens-line lines at column h)
-
-pub opens-text : (lines : List held.Line) (at column : ℕ) (l : held.Line) → l ≡ get_or lines at l → (let here = cursor_at (plain_lines lines) at column in starts_quote here.text ≡ true) → starts_quote (drop column l.text) ≡ true
-opens-text lines at column l i h = rw (cursor_at-index lines at column l (opens-line lines at column h) i) at h
-
-pub block-line : (lines : List held.Line) (at column : ℕ) → (let here = cursor_at (plain_lines lines) at column in starts_block here.text ≡ true) → at < length lines
-block-line [] at column h = cc
-block-line (l ∷ lines) zero column h = omega arith
-block-line (l ∷ lines) (suc at) column h = omega (arith, block-line lines at column h)
-
-pub block-opens : (lines : List held.Line) (at column : ℕ) (l : held.Line) → l ≡ get_or lines at l → (let here = cursor_at (plain_lines lines) at column in starts_block here.text ≡ true) → starts_block (drop column l.text) ≡ true
-block-opens lines at column l i h = rw (cursor_at-index lines at column l (block-line lines at column h) i) at h
+-- where a byte stands there is a line
+pub some-line : (lines : List held.Line) (at column : ℕ) → (let here = cursor_at (plain_lines lines) at column in 0 < first here.text) → at < length lines
+some-line [] at column h = absurd (omega arith)
+some-line (l ∷ lines) zero column h = omega arith
+some-line (l ∷ lines) (suc at) column h = omega (arith, some-line lines at column h)
 
 -- an opening byte of a line's text is one
 pub quote-opens : (lines : List held.Line) (at column : ℕ) (l : held.Line) → at < length lines → l ≡ get_or lines at l → (get_or l.text column 0 ≡ 34) ⊎ (get_or l.text column 0 ≡ 39)

@@ -1,10 +1,11 @@
 -- An integer, as it is printed, is typed as itself.
-use Rattle.std.proofs.Common.{◌≡◌, ℕ, zero, suc, ◌+◌, ◌/◌, ◌%◌, ◌^◌, ◌<◌, ◌≤◌, pos, negsuc, Bool, true, false, not, ◌&&◌, ◌==◌, List, [], ◌∷◌, ◌++◌, Ok, refl, sym, ◌∙◌, ap, subst, arith, true≢false}
-use Rattle.std.proofs.lemmas.Bool.{cond_both, ne_eqb, eqb-true, eqb-false, le-leb, lt-ltb, leb-true}
+use Rattle.std.proofs.Common.{◌≡◌, ℕ, zero, suc, ◌+◌, ◌/◌, ◌%◌, ◌^◌, ◌<◌, ◌≤◌, pos, negsuc, Bool, true, false, not, ◌&&◌, ◌==◌, List, [], ◌∷◌, Ok, refl, sym, ◌∙◌, ap, subst, arith, true≢false}
+use Rattle.std.specs.List.{list_all}
+use Rattle.std.proofs.lemmas.Bool.{cond_both, ne_eqb, eqb-true, eqb-false, le-leb, lt-ltb, leb-true, and_parts, not-true}
 use Rattle.std.specs.Prelude.{nat_le, decimal, bytes_eq}
 use Rattle.std.proofs.Math.Nat.{pow-suc}
 use Rattle.std.specs.Fmt.{digits, digits_onto, digit_glyph, signed_decimal}
-use Rattle.yaml_spec.specs.Bytes.{first, is_empty, all_bytes, is_digit, digit_value, is_word, null_words, true_words, false_words}
+use Rattle.yaml_spec.specs.Bytes.{first, is_empty, is_digit, digit_value, is_word, null_words, true_words, false_words}
 use Rattle.ytt_base.specs.Trees.{integer}
 use Rattle.yaml_spec.specs.Scalars.{integer_form, form, plain, digits_value, unsigned, some_of, has_leading_zero, is_negative}
 
@@ -37,11 +38,11 @@ onto-value (suc k) n acc l =
     ∙ ap (λ m. digits_value 10 m acc) (rw (digit_glyph-value (n % 10) (omega arith)) (omega arith)))
 
 -- and are digits
-onto-digits : (k n : ℕ) (acc : List ℕ) → all_bytes is_digit acc ≡ true → all_bytes is_digit (digits_onto k 10 false n acc) ≡ true
+onto-digits : (k n : ℕ) (acc : List ℕ) → list_all is_digit acc ≡ true → list_all is_digit (digits_onto k 10 false n acc) ≡ true
 onto-digits zero n acc h = h
 onto-digits (suc k) n acc h =
-    let p : all_bytes is_digit (digit_glyph false (n % 10) ∷ acc) ≡ true = rw (is_digit-glyph (n % 10) (omega arith)) h in
-    cond_both (n / 10 == 0) _ _ (λ (t : List ℕ). all_bytes is_digit t ≡ true) (λ e. p) (λ e. onto-digits k (n / 10) (digit_glyph false (n % 10) ∷ acc) p)
+    let p : list_all is_digit (digit_glyph false (n % 10) ∷ acc) ≡ true = rw (is_digit-glyph (n % 10) (omega arith)) h in
+    cond_both (n / 10 == 0) _ _ (λ (t : List ℕ). list_all is_digit t ≡ true) (λ e. p) (λ e. onto-digits k (n / 10) (digit_glyph false (n % 10) ∷ acc) p)
 
 -- the first is no 0, unless the number is
 onto-first : (k n : ℕ) (acc : List ℕ) → 0 < n → n < 10 ^ suc k → (first (digits_onto (suc k) 10 false n acc) == 48) ≡ false
@@ -61,7 +62,7 @@ pub decimal-value : (n : ℕ) → n < 10 ^ 64 → digits_value 10 0 (decimal n) 
 unfolding digits
 decimal-value n l = onto-value 63 n [] l
 
-pub decimal-digits : (n : ℕ) → all_bytes is_digit (decimal n) ≡ true
+pub decimal-digits : (n : ℕ) → list_all is_digit (decimal n) ≡ true
 unfolding digits
 decimal-digits n = onto-digits 64 n [] refl
 
@@ -76,14 +77,6 @@ abbrev none_begins : ℕ → List (List ℕ) → Bool
 none_begins b [] = true
 none_begins b (w ∷ ws) = not (first w == b) && none_begins b ws
 
-both : (a b : Bool) → (a && b) ≡ true → (a ≡ true) × (b ≡ true)
-both true b e = (refl, e)
-both false b e = absurd (true≢false (sym e))
-
-of_not : (a : Bool) → not a ≡ true → a ≡ false
-of_not true e = absurd (true≢false (sym e))
-of_not false e = refl
-
 differ : (w : List ℕ) (b : ℕ) (bs : List ℕ) → (first w == b) ≡ false → bytes_eq w (b ∷ bs) ≡ false
 differ [] b bs e = refl
 differ (c ∷ cs) b bs e = rw e refl
@@ -91,13 +84,10 @@ differ (c ∷ cs) b bs e = rw e refl
 no_word : (ws : List (List ℕ)) (b : ℕ) (bs : List ℕ) → none_begins b ws ≡ true → is_word ws (b ∷ bs) ≡ false
 no_word [] b bs e = refl
 no_word (w ∷ ws) b bs e =
-    let k = both (not (first w == b)) (none_begins b ws) e in
-    rw (differ w b bs (of_not (first w == b) k.0)) (no_word ws b bs k.1)
+    let k = and_parts (not (first w == b)) (none_begins b ws) e in
+    rw (differ w b bs (not-true (first w == b) k.0)) (no_word ws b bs k.1)
 
--- a digit, and the words of the first forms
-abbrev early_words : List (List ℕ)
-early_words = null_words ++ (true_words ++ false_words)
-
+-- no word of the first forms begins with this byte
 record NoWord (b : ℕ) : Type 0 where
   nulls : none_begins b null_words ≡ true
   trues : none_begins b true_words ≡ true
@@ -146,8 +136,8 @@ module _ (n : ℕ) (l : suc n < 10 ^ 64) where
   positive_by : (t : List ℕ) → decimal (suc n) ≡ t → (form t ≡ integer_form) × (unsigned t ≡ t) × (is_negative t ≡ false)
   positive_by [] e = absurd (true≢false (ap is_empty (sym e) ∙ decimal-some (suc n)))
   positive_by (b ∷ bs) e =
-      let d = both (is_digit b) (all_bytes is_digit bs) (ap (all_bytes is_digit) (sym e) ∙ decimal-digits (suc n)) in
-      let r = both (nat_le 48 b) (nat_le b 57) d.0 in
+      let d = and_parts (is_digit b) (list_all is_digit bs) (ap (list_all is_digit) (sym e) ∙ decimal-digits (suc n)) in
+      let r = and_parts (nat_le 48 b) (nat_le b 57) d.0 in
       let low = leb-true 48 b r.0 in
       let high = leb-true b 57 r.1 in
       let u : unsigned (b ∷ bs) ≡ b ∷ bs = rw (ne_eqb b 43 (omega arith), ne_eqb b 45 (omega arith)) refl in

@@ -1,5 +1,6 @@
 -- Runs of letters and digits are text.
-use Rattle.std.proofs.Common.{◌≡◌, ℕ, ◌<◌, List, [], ◌∷◌, refl, arith, Bool, true, false, ◌&&◌}
+use Rattle.std.proofs.Common.{◌≡◌, ℕ, ◌<◌, List, [], ◌∷◌, arith, true}
+use Rattle.std.proofs.lemmas.Bool.{and_parts}
 use Rattle.std.proofs.lemmas.Bool.Decides.{nat_tests}
 use Rattle.std.proofs.lemmas.Str.Ascii.{IsAscii-nil, IsAscii-cons}
 use Rattle.std.proofs.lemmas.Str.{IsUtf8-from_ascii}
@@ -7,16 +8,12 @@ use Rattle.std.specs.Str.{IsAscii, IsUtf8}
 use Rattle.std.specs.List.{list_all}
 use Rattle.yaml_spec.specs.Bytes.{is_letter_or_digit}
 
-pub both : (a b : Bool) → (a && b) ≡ true → (a ≡ true) × (b ≡ true)
-both true b h = (refl, h)
-both false b h = cc
-
 letter_or_digit_below : (b : ℕ) → is_letter_or_digit b ≡ true → b < 128
 letter_or_digit_below b h = grind (arith, nat_tests)
 
 pub run_ascii : (bs : List ℕ) → list_all is_letter_or_digit bs ≡ true → IsAscii bs
 run_ascii [] h = IsAscii-nil
-run_ascii (b ∷ bs) h = let p = both (is_letter_or_digit b) (list_all is_letter_or_digit bs) h in IsAscii-cons b bs (letter_or_digit_below b p.0) (run_ascii bs p.1)
+run_ascii (b ∷ bs) h = let p = and_parts (is_letter_or_digit b) (list_all is_letter_or_digit bs) h in IsAscii-cons b bs (letter_or_digit_below b p.0) (run_ascii bs p.1)
 
 pub run_utf8 : (bs : List ℕ) → list_all is_letter_or_digit bs ≡ true → IsUtf8 bs
 run_utf8 bs h = IsUtf8-from_ascii bs (run_ascii bs h)

@@ -111,10 +111,6 @@ abbrev pub is_empty : {A : Type 0} → List A → Bool
 is_empty [] = true
 is_empty (x ∷ xs) = false
 
-abbrev pub all_bytes : (ℕ → Bool) → List ℕ → Bool
-all_bytes test [] = true
-all_bytes test (b ∷ bs) = test b && all_bytes test bs
-
 -- the text without the white space at its start
 abbrev pub skip_white : List ℕ → List ℕ
 skip_white [] = []

@@ -1,5 +1,6 @@
 -- The lines of a text, and the characters that may stand in them (YAML 1.2.2, 5.1, 5.2 and 5.4).
 use Rattle.std.specs.Prelude.{ℕ, Bool, true, false, ◌&&◌, ◌||◌, ◌==◌, List, [], ◌∷◌, drop, slice_index, if◌then◌else◌, Option, Some, None, Ok, chars}
+use Rattle.std.specs.List.{list_all}
 use Rattle.std.specs.Str.{is_utf8}
 use Rattle.yaml_spec.specs.Bytes.{tab, line_feed, carriage_return, first, is_between}
 use Rattle.ytt_base.specs.declared.fault.FaultKind.TheVariants as kind
@@ -45,8 +46,7 @@ is_printable c = is_between 0x20 0x7E c || c == 0x85 || is_between 0xA0 0xD7FF c
 
 -- each character is printable or a tab
 abbrev pub all_printable : List ℕ → Bool
-all_printable [] = true
-all_printable (c ∷ cs) = (c == tab || is_printable c) && all_printable cs
+all_printable cs = list_all (λ c. c == tab || is_printable c) cs
 
 -- the same of the characters of a text
 abbrev pub has_good_chars : List ℕ → Bool

@@ -166,7 +166,7 @@ Read file bytes = Lines file bytes >>= (λ ls. let s = segments ls in implicit s
 unfoldable pub distinct : Documents → Outcome Documents
 distinct ds =
     elim (twice_below ds.items) [
-      | Some n ↦ Err (record { kind = kind.KeyTwice; place = n.place; detail = key_text (key_of n) })
+      | Some n ↦ Err (record { kind = kind.KeyTwice; place = Some n.place; detail = key_text (key_of n) })
       | None ↦ Ok ds
     ]
 
@@ -178,6 +178,6 @@ plain_trees ds = distinct ds >>= (λ es. Ok (drop_null (bare_trees es.items)))
 unfoldable pub read_trees : ℕ → List ℕ → Outcome Trees
 read_trees file bytes = Read file bytes >>= (λ ds. plain_trees ds)
 
--- the text reads as these trees and no others, whichever file it is
+-- the text reads as these trees, whichever file it is
 abbrev pub Reads : List ℕ → Trees → Type 0
 Reads bytes ts = (file : ℕ) → read_trees file bytes ≡ Ok ts

@@ -2,7 +2,7 @@
 use Rattle.std.specs.Prelude.{ℕ, ◌+◌, Err}
 use Rattle.ytt_base.specs.declared.fault.FaultKind.{FaultKind}
 use Rattle.ytt_base.specs.declared.fault.Place.{Place}
-use Rattle.ytt_base.specs.Outcomes.{Outcome, fault_at, place_at}
+use Rattle.ytt_base.specs.Outcomes.{Outcome, fault_at, first_place, place_at}
 
 -- nothing but a fault of this kind at this place
 abbrev pub refused : {A : Type 0} → FaultKind → Place → Outcome A
@@ -12,6 +12,6 @@ refused kind place = Err (fault_at kind place)
 abbrev pub place_below : Place → ℕ → Place
 place_below place n = place_at place.file (place.line + n)
 
--- no place, where only one line is looked at and no fault of it counts
+-- a place that shows in nothing, where only one line is looked at and no fault of it counts
 abbrev pub nowhere : Place
-nowhere = place_at 0 0
+nowhere = first_place

@@ -124,7 +124,7 @@ least_behind least (h ∷ i ∷ hs) = least_behind least (i ∷ hs)
 abbrev pub open_place_of : ℕ → Place → Place
 open_place_of stop p = if stop == 0 then p else place_at p.file stop
 
--- the row that begins with this line
+-- the row that begins with this line, where these comments stand before it; the words are those of `rows`
 unfoldable pub row_at : ℕ → Bool → ℕ → List Comment → Line → List Line → Row
 row_at stop is_owned least comments l ls =
     let t = skip_white l.text in
@@ -149,8 +149,9 @@ taken r =
       | false ↦ Ok (0, [])
     ]
 
--- The rows of a document's lines, up to the first whose value is refused, and the comments after the last.
--- So many lines belong to the row before; `least` is the least indent that its last entry takes.
+-- The rows of a document's lines, up to the first whose value is refused, and the comments after the last. `stop` is the line
+-- of the marker that ends the document, or 0, and an item starts on the first row's line if it is owned. The first `skip` lines
+-- belong to the row before, whose last entry takes what has at least the indent `least`. `comments` wait for the next item.
 unfoldable pub rows : ℕ → Bool → ℕ → ℕ → List Comment → List Line → List Row × List Comment
 rows stop is_owned skip least comments [] = ([], comments)
 rows stop is_owned (suc skip) least comments (l ∷ ls) = rows stop is_owned skip least comments ls

@@ -1,11 +1,13 @@
 -- Plain scalars by their form: the first form that fits (YAML 1.2.2, 10.2.1 and 10.3.2, in this profile).
 use Rattle.std.specs.Prelude.{ℕ, zero, suc, ◌+◌, ◌*◌, ◌^◌, ℤ, pos, negsuc, Bool, true, false, not, ◌&&◌, ◌||◌, ◌==◌, nat_le, nat_lt, if◌then◌else◌, List, [], ◌∷◌, take, drop, codes, bytes_eq, Result, Ok, Err}
+use Rattle.std.specs.List.{list_all}
 use Rattle.ytt_base.specs.Trees.{Scalar, null, boolean, integer, string}
 use Rattle.ytt_base.specs.declared.fault.FaultKind.{FaultKind}
 use Rattle.ytt_base.specs.declared.fault.FaultKind.TheVariants as kind
-use Rattle.yaml_spec.specs.Bytes.{plus, dash, dot, first, is_empty, all_bytes, is_one_of, is_word, is_digit, is_octal_digit, is_hex_digit, digit_value, null_words, true_words, false_words, yes_words}
+use Rattle.yaml_spec.specs.Bytes.{plus, dash, dot, first, is_empty, is_one_of, is_word, is_digit, is_octal_digit, is_hex_digit, digit_value, null_words, true_words, false_words, yes_words}
 
--- the forms of a plain scalar, in the order in which they are tried
+-- The forms of a plain scalar, in the order in which they are tried. A bad octal has a digit from 8 on behind its leading zero;
+-- a prefixed one has `0o` or `0x` and digits of this base; a word is one that YAML 1.1 reads as a bool.
 pub data Form : Type 0 where
   null_form : Form
   bool_form : Bool → Form
@@ -17,26 +19,31 @@ pub data Form : Type 0 where
   word_form : Form
   string_form : Form
 
+-- infinite floats without their sign
 abbrev pub infinity_words : List (List ℕ)
 infinity_words = codes ".inf" ∷ codes ".Inf" ∷ codes ".INF" ∷ []
 
+-- the floats that are no numbers
 abbrev pub nan_words : List (List ℕ)
 nan_words = codes ".nan" ∷ codes ".NaN" ∷ codes ".NAN" ∷ []
 
+-- a sign stands before the number
 abbrev pub has_sign : List ℕ → Bool
 has_sign t = first t == plus || first t == dash
 
+-- the number without its sign
 abbrev pub unsigned : List ℕ → List ℕ
 unsigned t = if has_sign t then drop 1 t else t
 
 -- one or more bytes that pass the test
 abbrev pub some_of : (ℕ → Bool) → List ℕ → Bool
-some_of test t = not (is_empty t) && all_bytes test t
+some_of test t = not (is_empty t) && list_all test t
 
 -- `0` and one or more decimal digits
 abbrev pub has_leading_zero : List ℕ → Bool
 has_leading_zero t = first t == 48 && some_of is_digit (drop 1 t)
 
+-- the text behind the digits at its start
 abbrev pub skip_digits : List ℕ → List ℕ
 skip_digits [] = []
 skip_digits (b ∷ bs) = elim (is_digit b) [ true ↦ skip_digits bs | false ↦ b ∷ bs ]
@@ -51,6 +58,7 @@ is_decimal_fraction t =
     if first t == dot then is_digit (first (drop 1 t)) && is_exponent (skip_digits (drop 1 t))
     else is_digit (first t) && is_exponent (if first (skip_digits t) == dot then skip_digits (drop 1 (skip_digits t)) else skip_digits t)
 
+-- a number with a fraction or an exponent, an infinite one, or none
 abbrev pub is_float : List ℕ → Bool
 is_float t = is_decimal_fraction (unsigned t) || is_word infinity_words (unsigned t) || is_word nan_words t
 
@@ -64,7 +72,7 @@ form t =
     if is_word null_words t then null_form
     else if is_word true_words t then bool_form true
     else if is_word false_words t then bool_form false
-    else if has_leading_zero (unsigned t) && all_bytes is_octal_digit (unsigned t) then octal_form
+    else if has_leading_zero (unsigned t) && list_all is_octal_digit (unsigned t) then octal_form
     else if has_leading_zero (unsigned t) then bad_octal_form
     else if some_of is_digit (unsigned t) then integer_form
     else if has_prefix (codes "0o") is_octal_digit t then prefixed_form 8
@@ -78,19 +86,22 @@ abbrev pub digits_value : ℕ → ℕ → List ℕ → ℕ
 digits_value base n [] = n
 digits_value base n (d ∷ ds) = digits_value base (n * base + digit_value d) ds
 
+-- the integer of this size, negative or not
 abbrev pub with_sign : Bool → ℕ → ℤ
 with_sign false n = pos n
 with_sign true zero = pos 0
 with_sign true (suc n) = negsuc n
 
--- an integer of 128 bits
+-- the integer of this size, negative or not, if it has 128 bits
 abbrev pub integer_of : Bool → ℕ → Result Scalar FaultKind
 integer_of negative n =
     if (if negative then nat_le n (2 ^ 127) else nat_lt n (2 ^ 127)) then Ok (integer (with_sign negative n)) else Err kind.IntWide
 
+-- a minus sign stands before the number
 abbrev pub is_negative : List ℕ → Bool
 is_negative t = first t == dash
 
+-- the value of a plain scalar of this form, or why it has none
 abbrev pub value_of : Form → List ℕ → Result Scalar FaultKind
 value_of null_form t = Ok null
 value_of (bool_form b) t = Ok (boolean b)
@@ -114,6 +125,7 @@ pub data PlainKind : Type 0 where
   word_kind : PlainKind
   string_kind : PlainKind
 
+-- the kind of a plain scalar of this form
 abbrev pub kind_of : Form → PlainKind
 kind_of null_form = null_kind
 kind_of (bool_form b) = bool_kind
@@ -143,6 +155,7 @@ abbrev pub is_word_form : Form → Bool
 is_word_form word_form = true
 is_word_form _ = false
 
+-- a plain scalar of this form is an integer in decimal digits
 abbrev pub is_integer_form : Form → Bool
 is_integer_form integer_form = true
 is_integer_form _ = false

@@ -1,5 +1,6 @@
 -- The text of documents, in one layout, with the first style that fits each string (YAML 1.2.2, 7.3, 8.1.2 and 8.2).
 use Rattle.std.specs.Prelude.{ℕ, zero, suc, ◌+◌, ◌/◌, ◌%◌, Bool, true, false, not, ◌&&◌, ◌||◌, ◌==◌, nat_lt, if◌then◌else◌, List, [], ◌∷◌, ◌++◌, length, take, replicate, codes, bytes_eq, chars, encode_utf8}
+use Rattle.std.specs.List.{list_all}
 use Rattle.std.specs.Fmt.{signed_decimal}
 use Rattle.yaml_spec.specs.Bytes.{tab, line_feed, carriage_return, space, quote, hash, apostrophe, percent, comma, dash, colon, greater, question, at_sign, left_bracket, right_bracket, left_brace, right_brace, backslash, bar, is_one_of, is_white, is_between, first, is_empty}
 use Rattle.yaml_spec.specs.Lines.{is_printable, start_line}
@@ -24,11 +25,6 @@ is_hidden c = is_one_of (0x85 ∷ 0xA0 ∷ 0x2028 ∷ 0x2029 ∷ 0xFEFF ∷ []) 
 abbrev pub is_shown : ℕ → Bool
 is_shown c = is_printable c && not (is_hidden c)
 
--- each character passes the test
-abbrev pub all_chars : (ℕ → Bool) → List ℕ → Bool
-all_chars test [] = true
-all_chars test (c ∷ cs) = test c && all_chars test cs
-
 -- characters that begin no plain string
 abbrev pub start_marks : List ℕ
 start_marks =
@@ -50,7 +46,7 @@ last (x ∷ y ∷ t) = last (y ∷ t)
 -- the string reads back as itself without quotes
 unfoldable pub fits_plain : List ℕ → Bool
 fits_plain s =
-    is_string_form (form s) && all_chars is_shown (chars s) && not (is_one_of start_marks (first s))
+    is_string_form (form s) && list_all is_shown (chars s) && not (is_one_of start_marks (first s))
     && not (bytes_eq (take 3 s) (codes "...")) && not (is_one_of (space ∷ colon ∷ []) (last s))
     && not (has_pair colon space s) && not (has_pair space hash s)
 
@@ -75,7 +71,7 @@ is_literal_char c = c == line_feed || c == tab || is_shown c
 -- the string reads back as itself in literal style
 unfoldable pub fits_literal : List ℕ → Bool
 fits_literal s =
-    has_break s && not (first s == line_feed) && all_chars is_literal_char (chars s) && are_trimmed (pieces s)
+    has_break s && not (first s == line_feed) && list_all is_literal_char (chars s) && are_trimmed (pieces s)
 
 -- the number of breaks at the end
 abbrev pub final_breaks : List (List ℕ) → ℕ

@@ -1,6 +1,6 @@
 -- White space at the ends of a text, and where a text may be cut.
 use Rattle.std.proofs.Common.{◌≡◌, ℕ, zero, suc, ◌+◌, ◌-◌, ◌<◌, ◌≤◌, Bool, true, false, ◌&&◌, List, [], ◌∷◌, ◌++◌, length, get_or, take, drop, IsUtf8, refl, sym, subst, inl, inr, arith, length-drop}
-use Rattle.std.proofs.lemmas.Bool.{cases_lt}
+use Rattle.std.proofs.lemmas.Bool.{and_right, cases_lt}
 use Rattle.std.proofs.lemmas.Bool.Decides.{nat_tests}
 use Rattle.std.proofs.lemmas.List.Sums.{prefix_len-le-length, prefix_len_passes, prefix_len_stops}
 use Rattle.std.proofs.lemmas.Str.{IsCharBoundary-start, IsCharBoundary-end, IsCharBoundary-before_ascii, IsCharBoundary-after_ascii}
@@ -53,7 +53,7 @@ and-false false = refl
 -- what stands up to a byte that is no white space stays
 pub trim_end-middle : (w : List ℕ) (b : ℕ) (t : List ℕ) → is_white b ≡ false → trim_end (w ++ b ∷ t) ≡ w ++ b ∷ trim_end t
 trim_end-middle [] b t h = rw h refl
-trim_end-middle (x ∷ w) b t h = rw (trim_end-middle w b t h, is_empty-middle w b (trim_end t), and-false) refl
+trim_end-middle (x ∷ w) b t h = rw (trim_end-middle w b t h, is_empty-middle w b (trim_end t), and_right (is_white x) false refl) refl
 
 -- white space at the end goes
 pub trim_end-white : (t : List ℕ) (b : ℕ) → is_white b ≡ true → trim_end (t ++ b ∷ []) ≡ trim_end t

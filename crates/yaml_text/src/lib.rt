@@ -1,4 +1,7 @@
 //! Places in a text, and what stands there: white space, marks, and the refusal of what is wrong there.
+//!
+//! What is left of a text without the white space at its start or end (`skip_white`, `trim_end`), its indent (`indent`), what
+//! begins it (`is_gap`, `is_blank`, `starts_quote` and the like) and a refusal at a place (`refusal`) are the definitions'.
 #![tactic(auto)]
 
 mod cursor;

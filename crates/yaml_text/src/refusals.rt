@@ -13,7 +13,7 @@ pub fn refusal(alloc: Global, kind: FaultKind, place: Place) -> Stop
 {
     Stop::Fault(Fault {
         kind,
-        place,
+        place: Some(place),
         detail: Text::new(alloc),
     })
 }

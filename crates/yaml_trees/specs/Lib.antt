@@ -1,3 +1,1 @@
-pub mod Behind
 pub mod Faults
-pub mod Seen

@@ -12,7 +12,7 @@ use crate::twice::twice_below;
 use sqlite_items::Items;
 use std::alloc::Global;
 use yaml_noted::{Content, NotedDocs, NotedItem, NotedItems};
-use yaml_scalar::key_text;
+use yaml_styles::key_text;
 use ytt_base::fault::{Fault, FaultKind, Stop};
 use ytt_base::text::{Memory, Text};
 use ytt_base::tree::{Key, Pairs, Tree, Trees};
@@ -107,7 +107,7 @@ fn key_twice(alloc: Global, item: &NotedItem) -> Result<Fault, Memory>
     };
     Ok(Fault {
         kind: FaultKind::KeyTwice,
-        place: item.place,
+        place: Some(item.place),
         detail,
     })
 }

@@ -3,10 +3,10 @@ ghost use Rattle.std.specs.Prelude.{◌≡◌, ◌||◌, [], not, IfOk, OnOk, op
 ghost use Rattle.ytt_base.specs.Trees.{Scalar, same_key};
 ghost use Rattle.yaml_noted.specs.View.{content_of, items_of, note_of};
 ghost use Rattle.yaml_spec.specs.Noted.{key_of, twice, twice_among, twice_below};
-ghost use Rattle.yaml_trees.specs.Seen.{is_seen};
+ghost use Rattle.yaml_keys.specs.Seen.{is_seen};
 
-use crate::seen::Seen;
 use std::alloc::Global;
+use yaml_keys::Seen;
 use yaml_noted::{Content, NotedItem, NotedItems};
 use ytt_base::text::Memory;
 use ytt_base::tree::Key;

@@ -1,5 +1,5 @@
 -- The line that reports a fault: `error: KIND at FILE:LINE: DETAIL`.
-use Rattle.std.specs.Prelude.{ℕ, ◌-◌, ◌==◌, List, [], ◌∷◌, ◌++◌, Option, None, codes, decimal, slice_get, if◌then◌else◌}
+use Rattle.std.specs.Prelude.{ℕ, ◌-◌, ◌==◌, List, [], ◌∷◌, ◌++◌, Option, Some, None, codes, decimal, slice_get, if◌then◌else◌}
 use Rattle.std.specs.Option.{option_map_or}
 use Rattle.ytt_base.specs.declared.fault.Place.{Place}
 use Rattle.ytt_base.specs.declared.fault.Fault.{Fault}
@@ -64,13 +64,18 @@ kind_name kind.AliasForm = codes "AliasForm"
 kind_name kind.AliasWide = codes "AliasWide"
 kind_name kind.LibraryMissing = codes "LibraryMissing"
 
--- the name of a file, by its number from 1; number 0 and one past the names have none
+-- the name of a file, by its number from 1; a number of no file has none
 abbrev pub name_at : List (List ℕ) → ℕ → Option (List ℕ)
 name_at names file = if file == 0 then None else slice_get names (file - 1)
 
 -- the file's name and the line, where the file has a name
-abbrev pub place_text : List (List ℕ) → Place → List ℕ
-place_text names p = option_map_or (λ name. codes " at " ++ name ++ codes ":" ++ decimal p.line) (name_at names p.file) []
+abbrev pub line_text : List (List ℕ) → Place → List ℕ
+line_text names p = option_map_or (λ name. codes " at " ++ name ++ codes ":" ++ decimal p.line) (name_at names p.file) []
+
+-- the place, where there is one
+abbrev pub place_text : List (List ℕ) → Option Place → List ℕ
+place_text names None = []
+place_text names (Some p) = line_text names p
 
 -- the detail, where there is one
 abbrev pub detail_text : List ℕ → List ℕ

@@ -2,8 +2,7 @@
 
 use crate::text::{Memory, Text};
 
-/// Where something stands: a file by its number from 1, or 0 for none, and a line from 1, or 0 for
-/// none.
+/// Where something stands: a file by its number from 1, and a line of it by its number from 1.
 #[derive(Clone, Copy, Debug, PartialEq, Eq)]
 pub struct Place {
     pub file: u32,
@@ -193,11 +192,12 @@ impl FaultKind {
     }
 }
 
-/// One refusal: its kind, its place and its detail, which is empty where the kind has none.
+/// One refusal: its kind, its place and its detail. A fault of a whole path, or of a program in no
+/// proper form, has no place, and the detail is empty where the kind has none.
 #[derive(Debug, Drop)]
 pub struct Fault {
     pub kind: FaultKind,
-    pub place: Place,
+    pub place: Option<Place>,
     pub detail: Text,
 }
 

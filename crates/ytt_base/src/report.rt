@@ -1,7 +1,7 @@
 // The line that reports a fault.
 ghost use Rattle.std.specs.Prelude.{◌≡◌, IfOk, string_bytes};
 ghost use Rattle.std.specs.Option.{option_map};
-ghost use Rattle.ytt_base.specs.FaultText.{detail_text, fault_line, name_at, place_text};
+ghost use Rattle.ytt_base.specs.FaultText.{detail_text, fault_line, line_text, name_at, place_text};
 
 use crate::fault::{Fault, Place};
 use crate::text::{Memory, Names, Text};
@@ -16,8 +16,8 @@ fn name_at(names: &Names, file: u32) -> Option<&Text>
     names.get((file - 1) as usize)
 }
 
-fn place_text(alloc: Global, place: Place, names: &Names) -> Result<String, Memory>
-    ensures { IfOk result (λ s. string_bytes s ≡ place_text names.now place) }
+fn line_text(alloc: Global, place: Place, names: &Names) -> Result<String, Memory>
+    ensures { IfOk result (λ s. string_bytes s ≡ line_text names.now place) }
 {
     match name_at(names, place.file) {
         None => Ok(String::new(alloc)),
@@ -25,6 +25,15 @@ fn place_text(alloc: Global, place: Place, names: &Names) -> Result<String, Memo
             let line = place.line;
             Ok(format!(in alloc; " at {}:{line}", name.as_str())?)
         }
+    }
+}
+
+fn place_text(alloc: Global, place: Option<Place>, names: &Names) -> Result<String, Memory>
+    ensures { IfOk result (λ s. string_bytes s ≡ place_text names.now place) }
+{
+    match place {
+        None => Ok(String::new(alloc)),
+        Some(place) => line_text(alloc, place, names),
     }
 }
 
@@ -40,8 +49,8 @@ fn detail_text(alloc: Global, detail: &Text) -> Result<String, Memory>
 
 /// The line that reports a fault, with its line break: `error: KIND at FILE:LINE: DETAIL`.
 ///
-/// `names` are the names of the files, the first for file number 1. ` at FILE:LINE` is absent for
-/// file number 0 and for one past the names, and `: DETAIL` where the detail is empty.
+/// `names` are the names of the files, the first for file number 1. ` at FILE:LINE` is absent where
+/// the fault has no place or no file has its number, and `: DETAIL` where the detail is empty.
 pub fn fault_text(alloc: Global, fault: &Fault, names: &Names) -> Result<Text, Memory>
     ensures { IfOk result (λ t. t ≡ fault_line names.now fault.now) }
 {

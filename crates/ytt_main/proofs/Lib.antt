@@ -5,3 +5,4 @@ pub mod Names
 pub mod Numbers
 pub mod Refusals
 pub mod Texts
+pub mod Walk

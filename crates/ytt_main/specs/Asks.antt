@@ -1,16 +1,48 @@
 -- What reading the words answers.
-use Rattle.std.specs.Prelude.{◌≡◌, ℕ, List, Option, Result, Ok, Err, String, string_bytes}
+use Rattle.std.specs.Prelude.{◌≡◌, ℕ, ◌+◌, List, [], ◌∷◌, map, Option, Some, None, Result, Ok, Err, String, string_bytes}
 use Rattle.std.specs.Option.{option_map}
-use Rattle.std.specs.declared.alloc.Global.{Global}
 use denote.Ref.{Bor}
-use Rattle.ytt_spec.specs.Words.{Asked, render, wrong}
+use Rattle.ytt_spec.specs.Requests.{IsFirstWrong, IsRequest}
+use Rattle.ytt_spec.specs.Words.{Asked, CommandOption, Given, file_option, number_of, render, steps_option, values_of, wrong}
+use Rattle.ytt_main.specs.declared.words.CommandOption.{CommandOption as Read}
+use Rattle.ytt_main.specs.declared.words.CommandOption.TheVariants as read
 use Rattle.ytt_main.specs.declared.words.Request.{Request}
-
--- the bytes of a word that was given, if it was
-abbrev pub bytes_given : Option (Bor (String Global)) → Option (List ℕ)
-bytes_given given = option_map (λ word. string_bytes word.now) given
+use Rattle.ytt_main.specs.declared.words.Value.{Value}
+use Rattle.ytt_main.specs.declared.words.Values.{Values}
 
 -- the path and the steps that are asked for, or the number of the wrong word
 abbrev pub Asks : Asked → Result Request ℕ → Type 0
-Asks asked (Ok r) = asked ≡ render (string_bytes r.path.now) r.steps
+Asks asked (Ok r) = asked ≡ render r.path.now r.steps
 Asks asked (Err n) = asked ≡ wrong n
+
+-- The words are a request for them, or no request, with the number of the first wrong one.
+abbrev pub AsksFor : List (List ℕ) → Result Request ℕ → Type 0
+AsksFor words (Ok r) = IsRequest words r.path.now r.steps
+AsksFor words (Err n) = IsFirstWrong words n
+
+-- ---- steps of the reading
+
+abbrev pub option_of : Read → CommandOption
+option_of read.File = file_option
+option_of read.Steps = steps_option
+
+abbrev pub text_in : Option (Bor (List ℕ)) → Option (List ℕ)
+text_in text = option_map (λ t. t.now) text
+
+abbrev pub one_or_none : {A : Type 0} → Option A → List A
+one_or_none None = []
+one_or_none (Some x) = x ∷ []
+
+-- these are the values of the options that were read
+pub record HaveRead (gs : List Given) (values : Values) : Type 0 where
+  pub paths : values_of file_option.name gs ≡ one_or_none (text_in values.path)
+  pub numbers : map number_of (values_of steps_option.name gs) ≡ one_or_none values.steps
+
+abbrev pub value_in_words : Value → List ℕ × ℕ × List (List ℕ)
+value_in_words v = (v.text.now, v.number, map string_bytes v.behind.now)
+
+-- the value of an option, whose word has number n: in the same word, or the next one
+abbrev pub value_behind : (n : ℕ) → Option (List ℕ) → List (List ℕ) → Option (List ℕ × ℕ × List (List ℕ))
+value_behind n (Some value) words = Some (value, n, words)
+value_behind n None [] = None
+value_behind n None (word ∷ words) = Some (word, n + 1, words)

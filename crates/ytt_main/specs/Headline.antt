@@ -1,7 +1,9 @@
 -- What the top call leaves where nothing failed.
-use Rattle.std.specs.Prelude.{◌≡◌, ℕ, List, [], Option}
+use Rattle.std.specs.Prelude.{◌≡◌, ◌≢◌, ℕ, List, [], Option, IfSome}
+use Rattle.ytt_outside.specs.Counts.{NoneRose}
 use Rattle.ytt_outside.specs.Sink.{Grows}
-use Rattle.ytt_spec.specs.Due.{Due, done, fault, usage}
+use Rattle.ytt_spec.specs.Due.{Due, IsDue, done, fault, usage}
+use Rattle.ytt_main.specs.Seen.{Files, Sink}
 use Rattle.ytt_main.specs.declared.run.Status.{Status}
 use Rattle.ytt_main.specs.declared.run.Status.TheVariants as status
 
@@ -20,11 +22,20 @@ due_err (done text) = []
 due_err (fault line) = line
 due_err (usage line) = line
 
--- the status and the bytes that are due, and nothing else
-pub record Meets (due : Due) (status : Status) (out_before out_now err_before err_now : Option (List ℕ)) : Type 0 where
-  pub status_is : status ≡ due_status due
-  pub out_grew : Grows out_before out_now (due_out due)
-  pub err_grew : Grows err_before err_now (due_err due)
+-- the status and the bytes are those of what is due, and nothing else
+pub record Meets (d : Due) (status : Status) (out err : Sink) : Type 0 where
+  pub status_is : status ≡ due_status d
+  pub out_grew : Grows out.held_before out.held_now (due_out d)
+  pub err_grew : Grows err.held_before err.held_now (due_err d)
+
+-- no count of failures rose
+abbrev pub NothingFailed : Files → (out err : Sink) → Type 0
+NothingFailed files out err = NoneRose files.faults_before files.faults_now × NoneRose out.faults_before out.faults_now × NoneRose err.faults_before err.faults_now
+
+-- Where the files tell their tree, nothing failed and there was room, the status and all bytes are those of what is due.
+abbrev pub GivesDue : Status → (words : List (List ℕ)) → Files → (out err : Sink) → Type 0
+GivesDue status words files out err =
+    IfSome files.tree (λ tree. NothingFailed files out err → status ≢ status.Memory → (d : Due) × IsDue words tree d × Meets d status out err)
 
 -- a status that stands on all that was asked of the files
 abbrev pub IsWhole : Status → Type 0

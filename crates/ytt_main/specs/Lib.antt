@@ -4,3 +4,5 @@ pub mod Endings
 pub mod Found
 pub mod Headline
 pub mod Rendering
+pub mod Seen
+pub mod Status

@@ -1,15 +1,14 @@
 // The answer to the words, before anything is written.
-ghost use Rattle.std.specs.Prelude.{◌≡◌, ◌∷◌, [], ℕ, IfOk, IfSome, map, string_bytes};
+ghost use Rattle.std.specs.Prelude.{◌≡◌, ◌∷◌, [], IfOk, IfSome, map, string_bytes};
 ghost use Rattle.ytt_base.specs.FaultText.{fault_line};
-ghost use Rattle.ytt_spec.specs.Due.{Due, IsDue, due_for, read_failed_line, usage_line};
-ghost use Rattle.ytt_spec.specs.Meaning.{last_part, meaning};
-ghost use Rattle.star_spec.specs.Reading.{IsReader, Reader};
-ghost use Rattle.ytt_spec.specs.Words.{asked, render, wrong};
+ghost use Rattle.ytt_spec.specs.Due.{IsDue, read_failed_line, usage_line};
+ghost use Rattle.ytt_spec.specs.Meaning.{last_part};
 ghost use Rattle.ytt_main.specs.Answers.{Answers};
 ghost use Rattle.ytt_main.specs.Found.{Found};
+ghost use Rattle.ytt_main.specs.Seen.{seen_files};
 
 use crate::render::{RenderStop, last_part, render};
-use crate::words::{Request, read_words};
+use crate::words::read_words;
 use sqlite_items::Items;
 use std::alloc::Global;
 use ytt_base::fault::Fault;
@@ -49,13 +48,23 @@ fn fault_line(alloc: Global, path: &str, fault: &Fault) -> Result<Text, Memory>
     fault_text(alloc, fault, &names)
 }
 
-fn answer_render<F: Files>(alloc: Global, path: &str, steps: u64, files: &mut F) -> Answer
-    ensures told { IfSome (F.tree files.old) (λ tree. Answers (λ d. (r : Reader) → IsReader r → due_for path.now (meaning r path.now steps (tree path.now)) ≡ d) result) }
-    ensures found { Found (render path.now steps) (F.tree files.old) (F.faults files.old) (F.faults files.new) result }
+/// The answer to the words.
+pub fn answer_words<F: Files>(alloc: Global, words: &[String], files: &mut F) -> Answer
+    ensures told { IfSome (F.tree files.old) (λ tree. Answers (IsDue (map string_bytes words.now) tree) result) }
+    ensures found { Found (map string_bytes words.now) (seen_files F.tree F.faults files.old files.new) result }
 {
-    match render(alloc, path, steps, files) {
+    let request = match read_words(words) {
+        Ok(request) => request,
+        Err(word) => {
+            return match usage_text(alloc, word) {
+                Ok(line) => Answer::Usage(line),
+                Err(_) => Answer::Memory,
+            };
+        }
+    };
+    match render(alloc, request.path, request.steps, files) {
         Ok(trees) => Answer::Documents(trees),
-        Err(RenderStop::Fault(fault)) => match fault_line(alloc, path, &fault) {
+        Err(RenderStop::Fault(fault)) => match fault_line(alloc, request.path, &fault) {
             Ok(line) => Answer::Fault(line),
             Err(_) => Answer::Memory,
         },
@@ -64,19 +73,5 @@ fn answer_render<F: Files>(alloc: Global, path: &str, steps: u64, files: &mut F)
             Err(_) => Answer::Memory,
         },
         Err(RenderStop::Memory) => Answer::Memory,
-    }
-}
-
-/// The answer to the words.
-pub fn answer_words<F: Files>(alloc: Global, words: &[String], files: &mut F) -> Answer
-    ensures told { IfSome (F.tree files.old) (λ tree. Answers (IsDue (map string_bytes words.now) tree) result) }
-    ensures found { Found (asked (map string_bytes words.now)) (F.tree files.old) (F.faults files.old) (F.faults files.new) result }
-{
-    match read_words(words) {
-        Ok(Request { path, steps }) => answer_render(alloc, path.as_str(), steps, files),
-        Err(word) => match usage_text(alloc, word) {
-            Ok(line) => Answer::Usage(line),
-            Err(_) => Answer::Memory,
-        },
     }
 }

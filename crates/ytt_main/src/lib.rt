@@ -1,4 +1,4 @@
-//! The top call: all that the program does.
+//! The top call: all that the program does. Its clauses are retold in the README, and stand beside `ytt_main`.
 #![tactic(auto)]
 
 mod answer;

@@ -1,13 +1,12 @@
 // What a request means over the files that are handed in.
 ghost use Rattle.std.specs.Prelude.{◌≡◌, ◌^◌, ◌<◌, IfOk, IfSome, length, true};
-ghost use Rattle.ytt_base.specs.Outcomes.{Gives, and_then};
+ghost use Rattle.ytt_base.specs.Outcomes.{◌>>=◌};
 ghost use Rattle.ytt_base.specs.Trees.{AreTrees, Writable};
 ghost use Rattle.ytt_base.specs.View.{trees_of};
 ghost use Rattle.yaml_noted.specs.View.{documents_of};
-ghost use Rattle.star_spec.specs.Reading.{IsReader, Reader};
 ghost use Rattle.template_spec.specs.Placing.{placed};
-ghost use Rattle.ytt_spec.specs.Meaning.{Means, TextMeans, built, documents_meaning, has_ending, is_template, last_part, not_built, path_fault, text_meaning};
-ghost use Rattle.ytt_main.specs.Rendering.{Counts, IsNoFailure, IsNoFolder, IsReadFailure, Refuses, Renders};
+ghost use Rattle.ytt_spec.specs.Meaning.{Means, TextMeans, built, documents_meaning, gives_documents, has_ending, last_part, not_built, path_fault, text_meaning};
+ghost use Rattle.ytt_main.specs.Rendering.{Counts, GivesRead, IsNoFailure, IsNoFolder, IsReadFailure, Refuses, Renders};
 
 use star_eval::run_flat;
 use star_read::a_reader_exists;
@@ -15,7 +14,7 @@ use std::alloc::Global;
 use template_compile::compile_flat;
 use template_tree::place_flat;
 use yaml_read::{NotedDocs, has_code, plain_trees, read_noted};
-use ytt_base::fault::{Fault, FaultKind, Place, Stop};
+use ytt_base::fault::{Fault, FaultKind, Stop};
 use ytt_base::text::Text;
 use ytt_base::tree::Trees;
 use ytt_outside::files::{Files, FilesStop, Got, PathKind};
@@ -42,21 +41,21 @@ pub fn last_part(path: &str) -> &str
     rest
 }
 
-fn is_template(name: &[u8]) -> bool
-    ensures { result ≡ is_template name.now }
+fn gives_documents(name: &[u8]) -> bool
+    ensures { result ≡ gives_documents name.now }
 {
     (name.ends_with(b".yml".as_slice()) || name.ends_with(b".yaml".as_slice()))
         && !(name.ends_with(b".lib.yml".as_slice()) || name.ends_with(b".lib.yaml".as_slice()))
 }
 
-/// The fault of a whole path, of no line.
+/// The fault of a whole path, of no place.
 fn path_fault(alloc: Global, kind: FaultKind, path: &str) -> RenderStop
     ensures { Refuses (path_fault kind path.now) result }
 {
     match Text::of(alloc, path) {
         Ok(detail) => RenderStop::Fault(Fault {
             kind,
-            place: Place { file: 0, line: 0 },
+            place: None,
             detail,
         }),
         Err(_) => RenderStop::Memory,
@@ -68,7 +67,7 @@ fn not_built(alloc: Global) -> RenderStop
 {
     RenderStop::Fault(Fault {
         kind: FaultKind::NotBuilt,
-        place: Place { file: 0, line: 0 },
+        place: None,
         detail: Text::new(alloc),
     })
 }
@@ -84,7 +83,7 @@ fn read_failed(alloc: Global, path: &str) -> RenderStop
 
 /// The documents that a template builds with so many steps, or its first fault.
 fn build(alloc: Global, documents: NotedDocs, steps: u64) -> Result<Trees, Stop>
-    ensures { (r : Reader) → IsReader r → Gives trees_of result (and_then (built steps) (placed r 1 (documents_of documents))) }
+    ensures { GivesRead (λ r. placed r 1 (documents_of documents) >>= built steps) result }
 {
     let template = place_flat(alloc, documents, 1)?;
     let program = compile_flat(alloc, &template)?;
@@ -95,7 +94,7 @@ fn build(alloc: Global, documents: NotedDocs, steps: u64) -> Result<Trees, Stop>
 /// What noted documents mean: with code they are a template, which is built, and without they are
 /// documents.
 fn resolve(alloc: Global, documents: NotedDocs, steps: u64) -> Result<Trees, Stop>
-    ensures { (r : Reader) → IsReader r → Gives trees_of result (documents_meaning r steps (documents_of documents)) }
+    ensures { GivesRead (λ r. documents_meaning r steps (documents_of documents)) result }
 {
     if has_code(&documents) {
         return build(alloc, documents, steps);
@@ -106,7 +105,7 @@ fn resolve(alloc: Global, documents: NotedDocs, steps: u64) -> Result<Trees, Sto
 /// The documents of a text, or its first fault.
 fn read_text(alloc: Global, bytes: &[u8], steps: u64) -> Result<Trees, Stop>
     requires { length bytes.now < 2 ^ 32 }
-    ensures { (r : Reader) → IsReader r → Gives trees_of result (text_meaning r steps bytes.now) }
+    ensures { GivesRead (λ r. text_meaning r steps bytes.now) result }
 {
     let documents = read_noted(alloc, bytes, 1)?;
     resolve(alloc, documents, steps)
@@ -147,20 +146,21 @@ pub fn render<F: Files>(
         Ok(PathKind::Folder) => return Err(not_built(alloc)),
         Ok(PathKind::File) => {}
     }
-    if !is_template(last_part(path).as_bytes()) {
+    if !gives_documents(last_part(path).as_bytes()) {
         return Err(not_built(alloc));
     }
     read_file(alloc, path, steps, files)
 }
 
-/// The documents of the template file at the path, or the first fault.
+/// The documents of the file at the path, whose name is one that gives documents, or the first
+/// fault.
 fn read_file<F: Files>(
     alloc: Global,
     path: &str,
     steps: u64,
     files: &mut F,
 ) -> Result<Trees, RenderStop>
-    requires { is_template (last_part path.now) ≡ true }
+    requires { gives_documents (last_part path.now) ≡ true }
     ensures told { IfSome (F.tree files.old) (λ tree. IsNoFolder (tree path.now) → Renders (Means path.now steps (tree path.now)) result) }
     ensures held { IfOk result (λ trees. AreTrees (trees_of trees)) }
     ensures writable { IfOk result (λ trees. Writable (trees_of trees)) }

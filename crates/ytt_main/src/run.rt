@@ -1,10 +1,8 @@
 // The run of the program.
-ghost use Rattle.std.specs.Prelude.{◌≡◌, ◌≢◌, IfSome, map, string_bytes};
-ghost use Rattle.ytt_outside.specs.Counts.{NoneRose};
-ghost use Rattle.star_spec.specs.Reading.{IsReader, Reader};
-ghost use Rattle.ytt_spec.specs.Due.{due};
-ghost use Rattle.ytt_main.specs.Endings.{IsDone, IsFault, IsMemory, IsReadFault, IsUsage, IsWriteFault, sink};
-ghost use Rattle.ytt_main.specs.Headline.{IsWhole, Meets};
+ghost use Rattle.std.specs.Prelude.{◌≡◌, ◌≢◌, map, string_bytes};
+ghost use Rattle.ytt_main.specs.Endings.{Ends};
+ghost use Rattle.ytt_main.specs.Headline.{GivesDue, IsWhole};
+ghost use Rattle.ytt_main.specs.Seen.{seen_files, seen_sink};
 
 use crate::answer::{Answer, answer_words};
 use std::alloc::Global;
@@ -12,7 +10,7 @@ use yaml_print::print_to;
 use ytt_outside::files::Files;
 use ytt_outside::sink::Sink;
 
-/// How a run ended. The program's exit statuses are 0 to 5, in this order.
+/// How a run ended.
 #[derive(Clone, Copy, Debug, PartialEq, Eq)]
 pub enum Status {
     /// The documents are written.
@@ -27,6 +25,26 @@ pub enum Status {
     WriteFault,
     /// There was no room.
     Memory,
+}
+
+impl Status {
+    ghost use Rattle.std.specs.Prelude.{◌≡◌};
+    ghost use Rattle.ytt_main.specs.Status.{code_of};
+
+    /// The exit status with which the program ends: 0 for Done, and 1 to 5 for the others in their
+    /// order.
+    pub fn code(self) -> u8
+        ensures { result ≡ code_of self }
+    {
+        match self {
+            Status::Done => 0,
+            Status::Fault => 1,
+            Status::Usage => 2,
+            Status::ReadFault => 3,
+            Status::WriteFault => 4,
+            Status::Memory => 5,
+        }
+    }
 }
 
 /// All that the program does: it reads the words, which are the command line without the program's
@@ -51,22 +69,11 @@ pub fn ytt_main<F: Files, O: Sink, E: Sink>(
     err: &mut E,
 ) -> Status
     // Where nothing failed and there was room, the status and all bytes are those that are due.
-    ensures headline { (r : Reader) → IsReader r → IfSome (F.tree files.old) (λ tree. NoneRose (F.faults files.old) (F.faults files.new) → NoneRose (O.faults out.old) (O.faults out.new)
-        → NoneRose (E.faults err.old) (E.faults err.new) → result ≢ Status.Memory
-        → Meets (due r (map string_bytes words.now) tree) result (O.held out.old) (O.held out.new) (E.held err.old) (E.held err.new)) }
+    ensures headline { GivesDue result (map string_bytes words.now) (seen_files F.tree F.faults files.old files.new)
+        (seen_sink O.held O.faults out.old out.new) (seen_sink E.held E.faults err.old err.new) }
     // Each ending has its cause and shows it, also where contents aren't told.
-    ensures done { result ≡ Status.Done → IsDone (map string_bytes words.now) (F.tree files.old) (F.faults files.old) (F.faults files.new)
-        (sink (O.held out.old) (O.held out.new) (O.faults out.old) (O.faults out.new)) (sink (E.held err.old) (E.held err.new) (E.faults err.old) (E.faults err.new)) }
-    ensures fault { result ≡ Status.Fault → IsFault (map string_bytes words.now) (F.tree files.old) (F.faults files.old) (F.faults files.new)
-        (sink (O.held out.old) (O.held out.new) (O.faults out.old) (O.faults out.new)) (sink (E.held err.old) (E.held err.new) (E.faults err.old) (E.faults err.new)) }
-    ensures usage { result ≡ Status.Usage → IsUsage (map string_bytes words.now) (F.faults files.old) (F.faults files.new)
-        (sink (O.held out.old) (O.held out.new) (O.faults out.old) (O.faults out.new)) (sink (E.held err.old) (E.held err.new) (E.faults err.old) (E.faults err.new)) }
-    ensures read_fault { result ≡ Status.ReadFault → IsReadFault (map string_bytes words.now) (F.faults files.old) (F.faults files.new)
-        (sink (O.held out.old) (O.held out.new) (O.faults out.old) (O.faults out.new)) (sink (E.held err.old) (E.held err.new) (E.faults err.old) (E.faults err.new)) }
-    ensures write_fault { result ≡ Status.WriteFault → IsWriteFault (map string_bytes words.now) (F.tree files.old) (F.faults files.old) (F.faults files.new)
-        (sink (O.held out.old) (O.held out.new) (O.faults out.old) (O.faults out.new)) (sink (E.held err.old) (E.held err.new) (E.faults err.old) (E.faults err.new)) }
-    ensures memory { result ≡ Status.Memory → IsMemory
-        (sink (O.held out.old) (O.held out.new) (O.faults out.old) (O.faults out.new)) (sink (E.held err.old) (E.held err.new) (E.faults err.old) (E.faults err.new)) }
+    ensures ending { Ends result (map string_bytes words.now) (seen_files F.tree F.faults files.old files.new)
+        (seen_sink O.held O.faults out.old out.new) (seen_sink E.held E.faults err.old err.new) }
 
     // So only documents are written to `out`, and no failure is passed over.
     ensures out_unchanged { result ≢ Status.Done → result ≢ Status.WriteFault → O.held out.new ≡ O.held out.old }

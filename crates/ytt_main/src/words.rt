@@ -1,16 +1,41 @@
 // The words of a command line.
-ghost use Rattle.std.specs.Prelude.{◌≡◌, ◌≤◌, ◌<◌, ◌^◌, ◌+◌, length, map, None, Some, true, if◌then◌else◌, string_bytes};
+ghost use Rattle.std.specs.Prelude.{◌≡◌, ◌≤◌, ◌<◌, ◌^◌, ◌+◌, ◌-◌, [], Bool, IfSome, IsNone, List, length, map, None, Some, true, if◌then◌else◌, string_bytes};
+ghost use Rattle.std.specs.Option.{option_map};
 ghost use Rattle.std.specs.Str.{all_ascii_digits};
-ghost use Rattle.ytt_spec.specs.Words.{asked, is_number, is_path, is_steps, number_of, options};
-ghost use Rattle.ytt_main.specs.Asks.{Asks};
+ghost use Rattle.ytt_spec.specs.Words.{Given, added, asked, asked_from, begun, command_options, is_number, is_path, is_steps, may_follow, name_in, named, number_of, value_in, values_of};
+ghost use Rattle.ytt_main.specs.Asks.{Asks, AsksFor, HaveRead, option_of, text_in, value_behind, value_in_words};
 
 /// What the words ask for.
 #[derive(Clone, Copy)]
 pub struct Request<'a> {
     /// The path of the file to render.
-    pub path: &'a String,
+    pub path: &'a str,
     /// How many steps that may take.
     pub steps: u64,
+}
+
+/// An option of the command.
+#[derive(Clone, Copy)]
+pub enum CommandOption {
+    /// `-f`, exactly once.
+    File,
+    /// `--steps`, at most once.
+    Steps,
+}
+
+/// The values of the options that were read.
+#[derive(Clone, Copy)]
+pub struct Values<'a> {
+    pub path: Option<&'a str>,
+    pub steps: Option<u64>,
+}
+
+/// The value of an option, with the number of its word, and the words behind.
+#[derive(Clone, Copy)]
+pub struct Value<'a> {
+    pub text: &'a str,
+    pub number: u64,
+    pub behind: &'a [String],
 }
 
 /// How many steps a run may take where the words don't say.
@@ -19,8 +44,8 @@ const DEFAULT_STEPS: u64 = 5_000_000;
 /// How many steps the words may ask for.
 const MOST_STEPS: u64 = 20_000_000;
 
-fn is_path(word: &String) -> bool
-    ensures { result ≡ is_path (string_bytes word.now) }
+fn is_path(word: &str) -> bool
+    ensures { result ≡ is_path word.now }
 {
     word.len() >= 1 && word.len() <= 1024
 }
@@ -67,50 +92,136 @@ fn read_steps(word: &str) -> Option<u64>
     Some(steps)
 }
 
+/// What stands before the first `=` of a word, or all of it, and what stands behind.
+fn cut_word(word: &str) -> (&str, Option<&str>)
+    ensures name { result.0.now ≡ name_in word.now }
+    ensures value { text_in result.1 ≡ value_in word.now }
+{
+    match word.split_once('=') {
+        Some((name, value)) => (name, Some(value)),
+        None => (word, None),
+    }
+}
+
+/// The option of this name.
+fn named(name: &str) -> Option<CommandOption>
+    ensures { option_map option_of result ≡ named name.now command_options }
+{
+    if name == "-f" {
+        return Some(CommandOption::File);
+    }
+    if name == "--steps" {
+        return Some(CommandOption::Steps);
+    }
+    None
+}
+
+/// Whether the option may stand once more.
+fn may_follow(option: CommandOption, values: Values<'_>) -> bool
+    ensures { (gs : List Given) → HaveRead gs values.entry → result ≡ may_follow (option_of option).often (values_of (option_of option).name gs) }
+{
+    match option {
+        CommandOption::File => values.path.is_none(),
+        CommandOption::Steps => values.steps.is_none(),
+    }
+}
+
+/// The option that a word begins, where it may stand behind those that were read: a value in the same
+/// word needs a long one.
+fn begun(name: &str, joined: Option<&str>, values: Values<'_>) -> Option<CommandOption>
+    ensures { (gs : List Given) → HaveRead gs values.entry → option_map option_of result ≡ begun gs name.now (text_in joined.entry) }
+{
+    let option = named(name)?;
+    let is_long = matches!(&option, CommandOption::Steps);
+    if (is_long || joined.is_none()) && may_follow(option, values) {
+        return Some(option);
+    }
+    None
+}
+
+/// The value of an option whose word has this number: what stands in it behind `=`, or the next word,
+/// or `None` where there is none.
+fn value_at<'a>(number: u64, joined: Option<&'a str>, more: &'a [String]) -> Option<Value<'a>>
+    requires { number < 2 ^ 64 - 1 }
+    ensures { option_map value_in_words result ≡ value_behind number (text_in joined.entry) (map string_bytes more.now) }
+{
+    if let Some(text) = joined {
+        return Some(Value {
+            text,
+            number,
+            behind: more,
+        });
+    }
+    let (word, behind) = more.split_first()?;
+    Some(Value {
+        text: word.as_str(),
+        number: number + 1,
+        behind,
+    })
+}
+
+/// The values with the option's own, or `None` where the text is no value of it.
+fn put<'a>(values: Values<'a>, option: CommandOption, text: &'a str) -> Option<Values<'a>>
+    ensures refused { IsNone result → (option_of option).is_value text.now ≡ false }
+    ensures good { IfSome result (λ new. (option_of option).is_value text.now ≡ true) }
+    ensures put { IfSome result (λ new. (gs : List Given) (is_joined : Bool) → HaveRead gs values.entry → may_follow (option_of option).often (values_of (option_of option).name gs) ≡ true → HaveRead (added gs (option_of option).name text.now is_joined) new) }
+{
+    match option {
+        CommandOption::File => {
+            if !is_path(text) {
+                return None;
+            }
+            Some(Values {
+                path: Some(text),
+                steps: values.steps,
+            })
+        }
+        CommandOption::Steps => Some(Values {
+            path: values.path,
+            steps: Some(read_steps(text)?),
+        }),
+    }
+}
+
 /// What the options from word number `first` on ask for, or the number of the wrong word.
 fn read_options(words: &[String], first: u64) -> Result<Request<'_>, u64>
     requires { first ≤ 2 }
-    ensures { Asks (options first None None (map string_bytes words.now)) result }
+    ensures { Asks (asked_from first [] (map string_bytes words.now)) result }
 {
-    let mut path = None;
-    let mut steps = None;
+    let mut values = Values {
+        path: None,
+        steps: None,
+    };
     let mut rest = words;
     let mut number = first;
-    while let Some((option, more)) = rest.split_first() {
-        let is_path_option = path.is_none() && option.as_str() == "-f";
-        let is_steps_option = steps.is_none() && option.as_str() == "--steps";
-        if !is_path_option && !is_steps_option {
+    while let Some((word, more)) = rest.split_first() {
+        let (name, joined) = cut_word(word.as_str());
+        let Some(option) = begun(name, joined, values) else {
             return Err(number);
-        }
-        let Some((value, behind)) = more.split_first() else {
+        };
+        let Some(value) = value_at(number, joined, more) else {
             return Err(number + 1);
         };
-        if is_path_option {
-            if !is_path(value) {
-                return Err(number + 1);
-            }
-            path = Some(value);
-        } else {
-            let Some(given) = read_steps(value.as_str()) else {
-                return Err(number + 1);
-            };
-            steps = Some(given);
-        }
-        rest = behind;
-        number += 2;
+        let Some(new) = put(values, option, value.text) else {
+            return Err(value.number);
+        };
+        values = new;
+        rest = value.behind;
+        number = value.number + 1;
     }
-    match path {
+    match values.path {
         None => Err(number),
         Some(path) => Ok(Request {
             path,
-            steps: steps.unwrap_or(DEFAULT_STEPS),
+            steps: values.steps.unwrap_or(DEFAULT_STEPS),
         }),
     }
 }
 
 /// What the words ask for, or the number, from 1, of the first word at which no request goes on.
 pub fn read_words(words: &[String]) -> Result<Request<'_>, u64>
-    ensures { Asks (asked (map string_bytes words.now)) result }
+    ensures asked { Asks (asked (map string_bytes words.now)) result }
+    ensures spelled { AsksFor (map string_bytes words.now) result }
 {
     match words.split_first() {
         None => Err(1),

@@ -1,5 +1,5 @@
 -- What a stream holds after a part of a piece went to it.
-use Rattle.std.proofs.Common.{◌≡◌, ℕ, ◌+◌, ◌-◌, List, ◌++◌, length, take, drop, Option, Some, None, Result, Ok, Err, sym, ap, subst, ◌∙◌, append_assoc, take-append-drop}
+use Rattle.std.proofs.Common.{◌≡◌, ℕ, ◌+◌, ◌-◌, ◌==◌, false, List, [], ◌∷◌, ◌++◌, length, take, drop, Option, Some, None, Result, Ok, Err, sym, ap, subst, ◌∙◌, append_assoc, take-append-drop}
 use Rattle.std.proofs.Math.Seq.{take-append-add, take-append_seam}
 use Rattle.std.proofs.lemmas.List.{take_rest}
 use Rattle.std.specs.Io.KnownBytes.{Appends, Keeps, WriteAppends}
@@ -26,3 +26,9 @@ pub front_appended : {E : Type 0} (a b c : Option (List ℕ)) (piece done rest :
     → (n : ℕ) × Appends a c (take n piece)
 front_appended a b c piece done rest (Ok n) e p q = (length done + n, subst (Appends a c) (sym (ap (take (length done + n)) e ∙ take-append-add done rest n)) (appends_more a b c done (take n rest) p q))
 front_appended a b c piece done rest (Err x) e p q = (length done, subst (Appends a c) (sym (ap (take (length done)) e ∙ take-append_seam done rest)) (appends_kept a b c done p q))
+
+-- where some of a piece is left, it isn't empty
+pub some_left : (done rest : List ℕ) → (length rest == 0) ≡ false → done ++ rest ≡ [] → ⊥
+some_left [] [] h e = cc
+some_left [] (b ∷ bs) h e = cc
+some_left (b ∷ bs) rest h e = cc

@@ -15,8 +15,9 @@ use ytt_base::text::Names;
 
 /// The files that the runtime gives. It tells nothing of them.
 ///
-/// Each `Err` of the machine counts as a failure, but for a path at which nothing stands, or no
-/// folder, or in `read` a folder, and in `read` and `list` for want of memory. A name that isn't
+/// Each `Err` of the machine counts as a failure, but for a path at which nothing stands or can stand
+/// (as behind a loop of links), or no folder, or in `read` a folder, and in `read` and `list` for
+/// want of memory. A name that isn't
 /// UTF-8 is such an `Err`, and so is a source that isn't at its end after as many turns as the
 /// standard library makes.
 #[derive(Drop)]
@@ -45,11 +46,18 @@ impl<R> HostFiles<R> {
     }
 }
 
+/// Whether the error says that nothing stands at the path, or that nothing can: a link to nothing, a
+/// loop of links, a name that is longer than names may be, or a path below a file. For a read a
+/// folder is no file.
 fn is_missing(error: &io::Error) -> bool {
     let kind = error.kind();
     matches!(
         kind,
-        ErrorKind::NotFound | ErrorKind::NotADirectory | ErrorKind::IsADirectory
+        ErrorKind::NotFound
+            | ErrorKind::NotADirectory
+            | ErrorKind::IsADirectory
+            | ErrorKind::FilesystemLoop
+            | ErrorKind::InvalidFilename
     )
 }
 

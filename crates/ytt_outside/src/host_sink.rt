@@ -1,5 +1,5 @@
 // A sink over one of the machine's streams.
-ghost use Rattle.std.specs.Prelude.{◌≡◌, None};
+ghost use Rattle.std.specs.Prelude.{◌≡◌, [], IsOk, None};
 ghost use Rattle.ytt_outside.specs.HostSink.{Passes, faults_in, stream_in};
 ghost use Rattle.ytt_outside.specs.Sink.{SinkCounts, Writes, count_after};
 
@@ -35,6 +35,7 @@ impl<W: Write> Sink for HostSink<W> {
     fn write_piece(&mut self, piece: &[u8]) -> Result<(), SinkFailed>
         ensures bytes { Writes None None piece.now result }
         ensures cause { SinkCounts (faults_in self.old) (faults_in self.new) result }
+        ensures empty { piece.now ≡ [] → IsOk result }
         ensures counts { faults_in self.new ≡ count_after result (faults_in self.old) }
         ensures passes { Passes (W.contents (stream_in self.old)) (W.contents (stream_in self.new)) piece.now result }
     {

@@ -1,5 +1,5 @@
 // A sink in memory.
-ghost use Rattle.std.specs.Prelude.{◌≡◌, ◌+◌, ◌≤◌, ◌++◌, [], IfOk, List, Some, is_err, length, vec_capacity, vec_len};
+ghost use Rattle.std.specs.Prelude.{◌≡◌, ◌+◌, ◌≤◌, ◌++◌, [], IfOk, IsOk, List, Some, is_err, length, vec_capacity, vec_len};
 ghost use Rattle.ytt_outside.specs.Counts.{raised};
 ghost use Rattle.ytt_outside.specs.Sink.{SinkCounts, Writes, count_after};
 ghost use Rattle.ytt_outside.specs.SinkSteps.{bytes_after, fails_at, appended_part, taken_at};
@@ -102,6 +102,7 @@ impl Sink for MemSink {
     fn write_piece(&mut self, piece: &[u8]) -> Result<(), SinkFailed>
         ensures bytes { Writes (Some (bytes_in self.old)) (Some (bytes_in self.new)) piece.now result }
         ensures cause { SinkCounts (faults_in self.old) (faults_in self.new) result }
+        ensures empty { piece.now ≡ [] → IsOk result }
         ensures counts { faults_in self.new ≡ count_after result (faults_in self.old) }
         ensures after { bytes_in self.new ≡ bytes_after (room_in self.old) (bytes_in self.old) (taken_at (fails_in self.old) (raised (calls_in self.old))) piece.now }
         ensures fails { is_err result ≡ fails_at (room_in self.old) (bytes_in self.old) (taken_at (fails_in self.old) (raised (calls_in self.old))) piece.now }

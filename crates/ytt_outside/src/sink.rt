@@ -1,4 +1,4 @@
-ghost use Rattle.std.specs.Prelude.{ℕ, List};
+ghost use Rattle.std.specs.Prelude.{◌≡◌, ℕ, [], IsOk, List};
 ghost use Rattle.std.specs.declared.option.Option.{Option};
 ghost use Rattle.ytt_outside.specs.Sink.{SinkCounts, Writes};
 
@@ -20,8 +20,9 @@ pub trait Sink {
     /// How often it has failed.
     ghost faults: { Self → ℕ };
 
-    /// Appends the piece, or on failure a prefix of it. It takes no memory.
+    /// Appends the piece, or on failure a prefix of it. An empty piece succeeds. It takes no memory.
     fn write_piece(&mut self, piece: &[u8]) -> Result<(), SinkFailed>
         ensures bytes { Writes (held self.old) (held self.new) piece.now result }
-        ensures cause { SinkCounts (faults self.old) (faults self.new) result };
+        ensures cause { SinkCounts (faults self.old) (faults self.new) result }
+        ensures empty { piece.now ≡ [] → IsOk result };
 }

@@ -101,6 +101,27 @@ one_word_more : (r : Reader) → due_over r nothing (codes "render" ∷ codes "-
 unfolding digits
 one_word_more r = refl
 
+-- ---- a value in the word of its option
+
+joined_steps : (r : Reader) → due_over r nothing (codes "--steps=7" ∷ codes "-f" ∷ codes "a.yml" ∷ []) ≡ fault (codes "error: FileMissing: a.yml\n")
+joined_steps r = refl
+
+no_joined_value : (r : Reader) → due_over r nothing (codes "-f" ∷ codes "a.yml" ∷ codes "--steps=" ∷ codes "7" ∷ []) ≡ usage (codes "error: usage at word 3\n")
+unfolding digits
+no_joined_value r = refl
+
+no_joined_steps : (r : Reader) → due_over r nothing (codes "--steps=0" ∷ codes "-f" ∷ codes "a.yml" ∷ []) ≡ usage (codes "error: usage at word 1\n")
+unfolding digits
+no_joined_steps r = refl
+
+short_option_joined : (r : Reader) → due_over r nothing (codes "render" ∷ codes "-f=a.yml" ∷ []) ≡ usage (codes "error: usage at word 2\n")
+unfolding digits
+short_option_joined r = refl
+
+joined_steps_twice : (r : Reader) → due_over r nothing (codes "--steps" ∷ codes "7" ∷ codes "--steps=7" ∷ []) ≡ usage (codes "error: usage at word 3\n")
+unfolding digits
+joined_steps_twice r = refl
+
 -- ---- templates, whose code is read as its expression
 
 abbrev steps_over : Reader → List ℕ → (steps : List ℕ) → Due

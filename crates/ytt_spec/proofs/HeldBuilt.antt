@@ -8,8 +8,8 @@ use Rattle.ytt_base.specs.Trees.{Scalar, null, string, Tree, scalar, Trees, IsSc
 use Rattle.yaml_spec.specs.Noted.{Documents, has_code}
 use Rattle.yaml_spec.specs.Read.{Read, plain_trees, read_trees}
 use Rattle.yaml_spec.proofs.Runs.{run_utf8}
-use Rattle.yaml_laws.proofs.HeldDocuments.{DocumentsHeld, good_read, reads_trees}
-use Rattle.yaml_laws.proofs.Shallow.{reads_writable}
+use Rattle.yaml_held.proofs.HeldDocuments.{DocumentsHeld, good_read, reads_trees}
+use Rattle.yaml_held.proofs.Shallow.{reads_writable}
 use Rattle.star_spec.specs.Acts.{Act, Flow, go_on, on, out}
 use Rattle.star_spec.specs.Calls.{no_natives}
 use Rattle.star_spec.specs.Eval.{eval, starlark}
@@ -31,10 +31,13 @@ use Rattle.template_spec.specs.Take.{children_pairs, take_over}
 use Rattle.template_spec.specs.Template.{no_notes, no_key, written_key, Item, node, Items, no_items, an_item, Content, written_value, value_from, pairs, elements, is_void}
 use Rattle.ytt_outside.specs.Standing.{Standing, nothing, file, folder}
 use Rattle.ytt_spec.specs.Meaning as meant
-use Rattle.ytt_spec.specs.Meaning.{default_depth, documents_meaning, is_template, largest_file, last_part, meaning, outcome_of, started, text_meaning}
+use Rattle.ytt_spec.specs.Meaning.{default_depth, documents_meaning, gives_documents, largest_file, last_part, meaning, outcome_of, started, text_meaning}
 use Rattle.ytt_spec.proofs.HeldChildren.{IsLeaf, AreLeafPairs, IsAdded, added, leaf_pairs, leaf_pairs-depth}
 use Rattle.ytt_spec.proofs.HeldTemplates.{AreHeldDocuments, AreHeldPairs, IsHeldContent, IsHeldDocument, IsHeldPair, template_held}
-use Rattle.ytt_spec.proofs.Holding.{Ends, Holds, Yields, held, holds_behind, holds_either, holds_where_read, yields_any, yields_paid, yields_then}
+use Rattle.std.specs.Result.{IfOk}
+use Rattle.std.proofs.lemmas.Result.{IfOk-at_ok}
+use Rattle.ytt_laws.proofs.Yielded.{yielded_if, yielded_then, yielded_where}
+use Rattle.ytt_spec.proofs.Holding.{Ends, Yields, yields_any, yields_paid, yields_then}
 use Rattle.ytt_spec.proofs.PlainValues.{IsPlainValue, plain_value}
 
 -- ---- pairs
@@ -169,11 +172,11 @@ scoped P names meaning h = λ s.
     yields_then (λ env. Unit {0}) P (with_boxes names []) (λ env. meaning env >>= frozen_since (length s.store)) (yields_any (with_boxes names []))
     (λ env u. yields_then P P (meaning env) (frozen_since (length s.store)) (h env) (λ cs k t. k)) s
 
-ended : (e : Ending (Unit {0}) Children) → Ends AreWrittenChildren e → Holds AreWritten (outcome_of e)
+ended : (e : Ending (Unit {0}) Children) → Ends AreWrittenChildren e → IfOk (outcome_of e) AreWritten
 ended (done cs s) h = h
 ended (bad f s) h = tt
 
-template_written : (steps : ℕ) (is : Items) → AreHeldDocuments is → Holds AreWritten (meant.built steps is)
+template_written : (steps : ℕ) (is : Items) → AreHeldDocuments is → IfOk (meant.built steps is) AreWritten
 template_written steps is h =
     let call = template_calls starlark no_natives (λ file. is) default_depth in
     let meaning = Build starlark call is in
@@ -191,24 +194,24 @@ plain_written bytes ds ts e p =
 abbrev IsRead : List ℕ → Documents → Type 0
 IsRead bytes ds = (Read 1 bytes ≡ Ok ds) × DocumentsHeld ds
 
-text_holds : (r : Reader) → IsReader r → (steps : ℕ) (bytes : List ℕ) → Holds AreWritten (text_meaning r steps bytes)
+text_holds : (r : Reader) → IsReader r → (steps : ℕ) (bytes : List ℕ) → IfOk (text_meaning r steps bytes) AreWritten
 text_holds r reads steps bytes =
-    holds_behind (IsRead bytes) AreWritten (Read 1 bytes) (documents_meaning r steps) (holds_where_read (IsRead bytes) (Read 1 bytes) (λ ds e. (e, good_read 1 bytes ds e)))
-    (λ ds h. holds_either AreWritten (has_code ds) (outcome.and_then (meant.built steps) (placed r 1 ds)) (plain_trees ds)
-    (λ k. holds_behind AreHeldDocuments AreWritten (placed r 1 ds) (meant.built steps) (template_held r reads 1 ds h.1) (template_written steps))
-    (λ k. holds_where_read AreWritten (plain_trees ds) (λ ts e. plain_written bytes ds ts h.0 e)))
+    yielded_then (IsRead bytes) AreWritten (Read 1 bytes) (documents_meaning r steps) (yielded_where (IsRead bytes) (Read 1 bytes) (λ ds e. (e, IfOk-at_ok DocumentsHeld e (good_read 1 bytes))))
+    (λ ds h. yielded_if AreWritten (has_code ds) (outcome.and_then (meant.built steps) (placed r 1 ds)) (plain_trees ds)
+    (λ k. yielded_then AreHeldDocuments AreWritten (placed r 1 ds) (meant.built steps) (template_held r reads 1 ds h.1) (template_written steps))
+    (λ k. yielded_where AreWritten (plain_trees ds) (λ ts e. plain_written bytes ds ts h.0 e)))
 
-path_holds : (r : Reader) → IsReader r → (path : List ℕ) (steps : ℕ) (standing : Standing) → Holds AreWritten (meaning r path steps standing)
+path_holds : (r : Reader) → IsReader r → (path : List ℕ) (steps : ℕ) (standing : Standing) → IfOk (meaning r path steps standing) AreWritten
 path_holds r reads path steps nothing = tt
 path_holds r reads path steps (folder names) = tt
 path_holds r reads path steps (file bytes) =
-    holds_either AreWritten (not (is_template (last_part path))) _ _ (λ h. tt)
-    (λ h. holds_either AreWritten (nat_lt largest_file (length bytes)) _ (text_meaning r steps bytes) (λ k. tt) (λ k. text_holds r reads steps bytes))
+    yielded_if AreWritten (not (gives_documents (last_part path))) _ _ (λ h. tt)
+    (λ h. yielded_if AreWritten (nat_lt largest_file (length bytes)) _ (text_meaning r steps bytes) (λ k. tt) (λ k. text_holds r reads steps bytes))
 
 -- the documents of a text
 pub text_written : (r : Reader) → IsReader r → (steps : ℕ) (bytes : List ℕ) (ds : Trees) → text_meaning r steps bytes ≡ Ok ds → AreWritten ds
-text_written r reads steps bytes ds h = held AreWritten (text_meaning r steps bytes) ds (text_holds r reads steps bytes) h
+text_written r reads steps bytes ds h = IfOk-at_ok AreWritten h (text_holds r reads steps bytes)
 
 -- those of a path
 pub meaning_written : (r : Reader) → IsReader r → (path : List ℕ) (steps : ℕ) (standing : Standing) (ds : Trees) → meaning r path steps standing ≡ Ok ds → AreWritten ds
-meaning_written r reads path steps standing ds h = held AreWritten (meaning r path steps standing) ds (path_holds r reads path steps standing) h
+meaning_written r reads path steps standing ds h = IfOk-at_ok AreWritten h (path_holds r reads path steps standing)

@@ -1,10 +1,8 @@
--- What holds of each value that an option, an outcome or a computation gives, if it gives one.
-use Rattle.std.proofs.Common.{◌≡◌, ℕ, nat_le, Bool, true, false, if◌then◌else◌, Option, Some, None, Ok, Err, refl}
+-- What holds of each value that an option or a computation gives, if it gives one.
+use Rattle.std.proofs.Common.{◌≡◌, ℕ, nat_le, Bool, true, false, if◌then◌else◌, Option, Some, None, refl}
 use Rattle.std.specs.Option.{option_map}
 use Rattle.std.specs.Prelude.{option_and_then}
 use Rattle.ytt_base.specs.declared.fault.Place.{Place}
-use Rattle.ytt_base.specs.Outcomes.{Outcome}
-use Rattle.ytt_base.specs.Outcomes as outcome
 use Rattle.star_spec.specs.Outcomes.{State, Ending, done, bad, Computation, then_do, paid_if, paid_by, ◌>>=◌}
 
 -- ---- options
@@ -39,35 +37,6 @@ pub found_then : {A B : Type 0} (P : A → Type 0) (Q : B → Type 0) (f : A →
 unfolding Found
 found_then P Q f None k h = tt
 found_then P Q f (Some x) k h = k x h
-
--- ---- outcomes
-
-abbrev pub Holds : {A : Type 0} → (A → Type 0) → Outcome A → Type 0
-Holds P (Ok x) = P x
-Holds P (Err f) = Unit {0}
-
-pub holds_behind : {A B : Type 0} (P : A → Type 0) (Q : B → Type 0) (o : Outcome A) (f : A → Outcome B) → Holds P o → ((x : A) → P x → Holds Q (f x)) → Holds Q (outcome.and_then f o)
-holds_behind P Q (Ok x) f h k = k x h
-holds_behind P Q (Err e) f h k = tt
-
-pub holds_any : {A : Type 0} (o : Outcome A) → Holds (λ x. Unit {0}) o
-holds_any (Ok x) = tt
-holds_any (Err e) = tt
-
-pub holds_weaker : {A : Type 0} (P Q : A → Type 0) (o : Outcome A) → ((x : A) → P x → Q x) → Holds P o → Holds Q o
-holds_weaker P Q (Ok x) k h = k x h
-holds_weaker P Q (Err e) k h = tt
-
-pub holds_either : {A : Type 0} (P : A → Type 0) (b : Bool) (x y : Outcome A) → (b ≡ true → Holds P x) → (b ≡ false → Holds P y) → Holds P (if b then x else y)
-holds_either P true x y h k = h refl
-holds_either P false x y h k = k refl
-
-pub holds_where_read : {A : Type 0} (P : A → Type 0) (o : Outcome A) → ((x : A) → o ≡ Ok x → P x) → Holds P o
-holds_where_read P (Ok x) h = h x refl
-holds_where_read P (Err e) h = tt
-
-pub held : {A : Type 0} (P : A → Type 0) (o : Outcome A) (x : A) → Holds P o → o ≡ Ok x → P x
-held P o x h e = rw e at h
 
 -- ---- computations
 

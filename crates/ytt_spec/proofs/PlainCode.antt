@@ -1,5 +1,6 @@
 -- The literals of code are integers of 128 bits and texts of letters and digits.
 use Rattle.std.proofs.Common.{◌≡◌, pos, ℕ, zero, suc, ◌+◌, ◌-◌, Bool, true, false, ◌&&◌, ◌||◌, ◌==◌, nat_le, if◌then◌else◌, leb-true, List, [], ◌∷◌, length, take, drop, slice_index, Option, Some, None, FitsSigned, refl, arith}
+use Rattle.std.proofs.lemmas.Bool.{and_parts}
 use Rattle.std.specs.Int.{w128}
 use Rattle.std.specs.Char.{is_ascii_alphanumeric}
 use Rattle.std.specs.List.{list_all}
@@ -7,7 +8,6 @@ use Rattle.std.specs.Option.{option_map}
 use Rattle.std.specs.Str.Parse.{digits_value}
 use Rattle.ytt_base.specs.declared.fault.Place.{Place}
 use Rattle.yaml_spec.specs.Bytes.{is_letter_or_digit}
-use Rattle.yaml_spec.proofs.Runs.{both}
 use Rattle.star_spec.specs.Code as code
 use Rattle.star_spec.specs.Code.{Expr}
 use Rattle.star_spec.specs.Grammar.{Source, int, text, unary, binary, group, binary_kind, spell, tree}
@@ -60,7 +60,7 @@ plain_kind : (k : Kind) (size : ℕ) → IsPlainKind k → Found IsPlainPiece (t
 plain_kind k size h = found_some IsPlainPiece _ (found_some IsPlainKind k h)
 
 plain_integer : (ds : List ℕ) → Found IsPlainPiece (integer_piece ds)
-plain_integer ds = found_either IsPlainPiece _ _ _ (λ h. plain_kind (token.int (pos (digits_value 10 ds))) (length ds) (integer_fits (digits_value 10 ds) (both (is_decimal ds) (nat_le (digits_value 10 ds) greatest_integer) h).1)) (found_none IsPlainPiece)
+plain_integer ds = found_either IsPlainPiece _ _ _ (λ h. plain_kind (token.int (pos (digits_value 10 ds))) (length ds) (integer_fits (digits_value 10 ds) (and_parts (is_decimal ds) (nat_le (digits_value 10 ds) greatest_integer) h).1)) (found_none IsPlainPiece)
 
 plain_text : (t : List ℕ) → Found IsPlainPiece (text_piece t)
 plain_text t = found_either IsPlainPiece _ _ _ (λ h. plain_kind (token.text (take (run_size t) t)) (run_size t + 2) (run_passes t)) (found_none IsPlainPiece)

@@ -1,123 +1,104 @@
 -- Words that ask for a path are the words of a request, and all requests are read so.
-use Rattle.std.proofs.Common.{◌≡◌, ℕ, ◌+◌, Bool, true, false, ◌&&◌, cond, List, [], ◌∷◌, Option, Some, None, is_none, codes, bytes_eq, refl, ap, sym, ◌∙◌, inl, inr, ⊎_elim}
+use Rattle.std.proofs.Common.{◌≡◌, ℕ, ◌+◌, Bool, true, false, not, ◌&&◌, ◌||◌, cond, List, [], ◌∷◌, ◌++◌, Option, Some, None, is_none, codes, bytes_eq, refl, ap, sym, ◌∙◌, inl, inr, ⊎_elim, append_assoc, append-nil}
 use Rattle.std.proofs.lemmas.Slice.Eq.{bytes_eq-Decides}
-use Rattle.ytt_spec.specs.Requests.{Given, path_given, steps_given, spelled, paths, numbers, IsBudget, IsRequest}
-use Rattle.ytt_spec.specs.Words.{render, wrong, default_steps, is_path, is_steps, number_of, is_command, is_path_option, is_steps_option, options, path_of, steps_of, asked}
-
--- ---- what the options still have to give, behind those that were read
-
-abbrev pub GivesPath : Option (List ℕ) → List Given → List ℕ → Type 0
-GivesPath None gs p = (paths gs ≡ p ∷ []) × (is_path p ≡ true)
-GivesPath (Some q) gs p = (paths gs ≡ []) × (p ≡ q)
-
-abbrev pub GivesSteps : Option ℕ → List Given → ℕ → Type 0
-GivesSteps None gs s = IsBudget (numbers gs) s
-GivesSteps (Some k) gs s = (numbers gs ≡ []) × (s ≡ k)
-
-pub record Options (path : Option (List ℕ)) (steps : Option ℕ) (words : List (List ℕ)) (p : List ℕ) (s : ℕ) : Type 0 where
-  pub given : List Given
-  pub spelled_is : words ≡ spelled given
-  pub gives_path : GivesPath path given p
-  pub gives_steps : GivesSteps steps given s
-
--- the same, where the first word is the path
-record AtPath (steps : Option ℕ) (words : List (List ℕ)) (p : List ℕ) (s : ℕ) : Type 0 where
-  word : List ℕ
-  rest : List (List ℕ)
-  words_are : words ≡ word ∷ rest
-  good : is_path word ≡ true
-  after : Options (Some word) steps rest p s
-
--- the same, where the first word is the number of steps
-record AtSteps (path : Option (List ℕ)) (words : List (List ℕ)) (p : List ℕ) (s : ℕ) : Type 0 where
-  word : List ℕ
-  rest : List (List ℕ)
-  words_are : words ≡ word ∷ rest
-  good : is_steps word ≡ true
-  after : Options path (Some (number_of word)) rest p s
+use Rattle.std.specs.Cmp.{first_so, second_so}
+use Rattle.std.specs.List.{list_all}
+use Rattle.ytt_spec.proofs.Options.{MayStand, asked_next, begun_stands, cut_back, cut_joined, cut_whole, named_holds, next, no_equals, same, stands_after, stands_begun, values_of-append}
+use Rattle.ytt_spec.specs.Requests.{IsRequest, is_good, spelled, spelled_alone}
+use Rattle.ytt_spec.specs.Words.{Asked, render, wrong, CommandOption, Given, added, are_all_given, asked, asked_from, asked_value, begun, command_options, equals, is_command, may_follow, may_have, name_in, named, path_given, steps_given, value_in, values_of}
 
 -- ---- from words to a request
 
-same : (word other : List ℕ) → bytes_eq word other ≡ true → word ≡ other
-same word other h = (bytes_eq-Decides word other).0 h
+-- what the options behind those that were read still give
+pub record Rest (gs : List Given) (words : List (List ℕ)) (p : List ℕ) (s : ℕ) : Type 0 where
+  pub more : List Given
+  pub spelled_is : words ≡ spelled more
+  pub good : list_all is_good more ≡ true
+  pub complete : are_all_given (gs ++ more) ≡ true
+  pub path_is : p ≡ path_given (gs ++ more)
+  pub steps_is : s ≡ steps_given (gs ++ more)
 
-with_path : (steps : Option ℕ) (word : List ℕ) (words : List (List ℕ)) (p : List ℕ) (s : ℕ) → is_path_option word ≡ true → AtPath steps words p s → Options None steps (word ∷ words) p s
-with_path steps word words p s h at = record {
-  given = path_given at.word ∷ at.after.given;
-  spelled_is = (λ i. same word (codes "-f") h i ∷ (at.words_are ∙ ap (λ ws. at.word ∷ ws) at.after.spelled_is) i);
-  gives_path = ((λ i. sym at.after.gives_path.1 i ∷ at.after.gives_path.0 i), ap is_path at.after.gives_path.1 ∙ at.good);
-  gives_steps = steps_kept steps at.after.given at.word s at.after.gives_steps;
-}
+abbrev given : List ℕ → List ℕ → Bool → Given
+given name value is_joined = record { name = name; value = value; is_joined = is_joined }
+
+-- the same, where the first word is the value of an option
+record AtValue (gs : List Given) (o : CommandOption) (name : List ℕ) (words : List (List ℕ)) (p : List ℕ) (s : ℕ) : Type 0 where
+  value : List ℕ
+  words_behind : List (List ℕ)
+  words_are : words ≡ value ∷ words_behind
+  good : o.is_value value ≡ true
+  after : Rest (added gs name value false) words_behind p s
+
+no_more : (n : ℕ) (gs : List Given) (p : List ℕ) (s : ℕ) (b : Bool) → are_all_given gs ≡ b → cond b (render (path_given gs) (steps_given gs)) (wrong n) ≡ render p s → Rest gs [] p s
+no_more n gs p s true h e =
+    let path_is : p ≡ path_given gs = cc in
+    let steps_is : s ≡ steps_given gs = cc in
+    let all = append-nil gs in
+    record { more = []; spelled_is = refl; good = refl; complete = ap are_all_given all ∙ h; path_is = path_is ∙ sym (ap path_given all); steps_is = steps_is ∙ sym (ap steps_given all) }
+no_more n gs p s false h e = cc
+
+one_more : (gs : List Given) (g : Given) (words behind : List (List ℕ)) (p : List ℕ) (s : ℕ) → words ≡ spelled_alone g ++ behind → is_good g ≡ true → Rest (gs ++ (g ∷ [])) behind p s → Rest gs words p s
+one_more gs g words behind p s e h r =
+    let all = append_assoc gs (g ∷ []) r.more in
+    record {
+      more = g ∷ r.more;
+      spelled_is = e ∙ ap (λ ws. spelled_alone g ++ ws) r.spelled_is;
+      good = (λ i. h i && r.good i);
+      complete = sym (ap are_all_given all) ∙ r.complete;
+      path_is = r.path_is ∙ ap path_given all;
+      steps_is = r.steps_is ∙ ap steps_given all;
+    }
+
+good_given : (name value : List ℕ) (is_joined : Bool) (o : CommandOption) → named name command_options ≡ Some o → (o.is_long || not is_joined) ≡ true → o.is_value value ≡ true → is_good (given name value is_joined) ≡ true
+good_given name value is_joined o found joined h = ap (λ r. elim r [ None ↦ false | Some p ↦ (p.is_long || not is_joined) && p.is_value value ]) found ∙ (λ i. joined i && h i)
+
+by_value : (n : ℕ) (gs : List Given) (o : CommandOption) (word value : List ℕ) (words : List (List ℕ)) (p : List ℕ) (s : ℕ) (b : Bool) → MayStand gs (name_in word) (Some value) o → value_in word ≡ Some value
+    → (asked_from (n + 1) (added gs (name_in word) value true) words ≡ render p s → Rest (added gs (name_in word) value true) words p s)
+    → o.is_value value ≡ b → cond b (asked_from (n + 1) (added gs (name_in word) value true) words) (wrong n) ≡ render p s → Rest gs (word ∷ words) p s
+by_value n gs o word value words p s true m v read h e =
+    one_more gs (given (name_in word) value true) (word ∷ words) words p s (ap (λ w. w ∷ words) (sym (cut_back word value v))) (good_given (name_in word) value true o m.found m.joined h) (read e)
+by_value n gs o word value words p s false m v read h e = cc
+
+by_next : (n : ℕ) (gs : List Given) (word : List ℕ) (words : List (List ℕ)) (p : List ℕ) (s : ℕ) (o : Option CommandOption) (v : Option (List ℕ)) → begun gs (name_in word) (value_in word) ≡ o → value_in word ≡ v
+    → ((value : List ℕ) → asked_from (n + 1) (added gs (name_in word) value true) words ≡ render p s → Rest (added gs (name_in word) value true) words p s)
+    → ((q : CommandOption) → asked_value (n + 1) gs q (name_in word) words ≡ render p s → AtValue gs q (name_in word) words p s)
+    → next n gs (name_in word) words o v ≡ render p s → Rest gs (word ∷ words) p s
+by_next n gs word words p s None v b w read read_value e = cc
+by_next n gs word words p s (Some o) (Some value) b w read read_value e =
+    let m = begun_stands gs (name_in word) (value_in word) o b in
+    by_value n gs o word value words p s (o.is_value value) (record { found = m.found; joined = ap (λ x. o.is_long || is_none x) (sym w) ∙ m.joined; follows = m.follows }) w (read value) refl e
+by_next n gs word words p s (Some o) None b w read read_value e =
+    let m = begun_stands gs (name_in word) (value_in word) o b in
+    let at = read_value o e in
+    one_more gs (given (name_in word) at.value false) (word ∷ words) at.words_behind p s (λ i. sym (cut_whole word w) i ∷ at.words_are i) (good_given (name_in word) at.value false o m.found (or_true o.is_long) at.good) at.after
   where
-    steps_kept : (steps : Option ℕ) (gs : List Given) (word : List ℕ) (s : ℕ) → GivesSteps steps gs s → GivesSteps steps (path_given word ∷ gs) s
-    steps_kept None gs word s h = h
-    steps_kept (Some k) gs word s h = h
+    or_true : (b : Bool) → (b || true) ≡ true
+    or_true true = refl
+    or_true false = refl
 
-one_budget : (word : List ℕ) (ns : List (List ℕ)) (s : ℕ) → is_steps word ≡ true → ns ≡ [] → s ≡ number_of word → IsBudget (word ∷ ns) s
-one_budget word [] s good none is = (good, is)
-one_budget word (n ∷ ns) s good none is = cc
-
-path_kept : (path : Option (List ℕ)) (gs : List Given) (word p : List ℕ) → GivesPath path gs p → GivesPath path (steps_given word ∷ gs) p
-path_kept None gs word p h = h
-path_kept (Some q) gs word p h = h
-
-with_steps : (path : Option (List ℕ)) (word : List ℕ) (words : List (List ℕ)) (p : List ℕ) (s : ℕ) → is_steps_option word ≡ true → AtSteps path words p s → Options path None (word ∷ words) p s
-with_steps path word words p s h at = record {
-  given = steps_given at.word ∷ at.after.given;
-  spelled_is = (λ i. same word (codes "--steps") h i ∷ (at.words_are ∙ ap (λ ws. at.word ∷ ws) at.after.spelled_is) i);
-  gives_path = path_kept path at.after.given at.word p at.after.gives_path;
-  gives_steps = one_budget at.word (numbers at.after.given) s at.good at.after.gives_steps.0 at.after.gives_steps.1;
-}
-
--- by the tests that are made of an option
-by_option : (n : ℕ) (path : Option (List ℕ)) (steps : Option ℕ) (word : List ℕ) (words : List (List ℕ)) (p : List ℕ) (s : ℕ) (a b : Bool)
-    → (path_of (n + 1) steps words ≡ render p s → AtPath steps words p s) → (steps_of (n + 1) path words ≡ render p s → AtSteps path words p s)
-    → (is_none path && is_path_option word) ≡ a → (is_none steps && is_steps_option word) ≡ b
-    → cond a (path_of (n + 1) steps words) (cond b (steps_of (n + 1) path words) (wrong n)) ≡ render p s → Options path steps (word ∷ words) p s
-by_option n None steps word words p s true b at_path at_steps h k e = with_path steps word words p s h (at_path e)
-by_option n (Some q) steps word words p s true b at_path at_steps h k e = cc
-by_option n path None word words p s false true at_path at_steps h k e = with_steps path word words p s k (at_steps e)
-by_option n path (Some m) word words p s false true at_path at_steps h k e = cc
-by_option n path steps word words p s false false at_path at_steps h k e = cc
-
-by_path : (n : ℕ) (steps : Option ℕ) (word : List ℕ) (words : List (List ℕ)) (p : List ℕ) (s : ℕ) (b : Bool) → (options (n + 1) (Some word) steps words ≡ render p s → Options (Some word) steps words p s)
-    → is_path word ≡ b → cond b (options (n + 1) (Some word) steps words) (wrong n) ≡ render p s → AtPath steps (word ∷ words) p s
-by_path n steps word words p s true read h e = record { word = word; rest = words; words_are = refl; good = h; after = read e }
-by_path n steps word words p s false read h e = cc
-
-by_steps : (n : ℕ) (path : Option (List ℕ)) (word : List ℕ) (words : List (List ℕ)) (p : List ℕ) (s : ℕ) (b : Bool)
-    → (options (n + 1) path (Some (number_of word)) words ≡ render p s → Options path (Some (number_of word)) words p s)
-    → is_steps word ≡ b → cond b (options (n + 1) path (Some (number_of word)) words) (wrong n) ≡ render p s → AtSteps path (word ∷ words) p s
-by_steps n path word words p s true read h e = record { word = word; rest = words; words_are = refl; good = h; after = read e }
-by_steps n path word words p s false read h e = cc
-
-no_more : (n : ℕ) (path : Option (List ℕ)) (steps : Option ℕ) (p : List ℕ) (s : ℕ) → options n path steps [] ≡ render p s → Options path steps [] p s
-no_more n None steps p s e = cc
-no_more n (Some q) None p s e = let same_path : p ≡ q = cc in let same_steps : s ≡ default_steps = cc in record { given = []; spelled_is = refl; gives_path = (refl, same_path); gives_steps = same_steps }
-no_more n (Some q) (Some k) p s e = let same_path : p ≡ q = cc in let same_steps : s ≡ k = cc in record { given = []; spelled_is = refl; gives_path = (refl, same_path); gives_steps = (refl, same_steps) }
+at_value : (n : ℕ) (gs : List Given) (o : CommandOption) (name value : List ℕ) (words : List (List ℕ)) (p : List ℕ) (s : ℕ) (b : Bool)
+    → (asked_from (n + 1) (added gs name value false) words ≡ render p s → Rest (added gs name value false) words p s)
+    → o.is_value value ≡ b → cond b (asked_from (n + 1) (added gs name value false) words) (wrong n) ≡ render p s → AtValue gs o name (value ∷ words) p s
+at_value n gs o name value words p s true read h e = record { value = value; words_behind = words; words_are = refl; good = h; after = read e }
+at_value n gs o name value words p s false read h e = cc
 
 mutual
-  pub read_options : (n : ℕ) (path : Option (List ℕ)) (steps : Option ℕ) (words : List (List ℕ)) (p : List ℕ) (s : ℕ) → options n path steps words ≡ render p s → Options path steps words p s
-  read_options n path steps [] p s e = no_more n path steps p s e
-  read_options n path steps (word ∷ words) p s e =
-      by_option n path steps word words p s (is_none path && is_path_option word) (is_none steps && is_steps_option word) (read_path (n + 1) steps words p s) (read_steps (n + 1) path words p s) refl refl e
+  pub read_from : (n : ℕ) (gs : List Given) (words : List (List ℕ)) (p : List ℕ) (s : ℕ) → asked_from n gs words ≡ render p s → Rest gs words p s
+  read_from n gs [] p s e = no_more n gs p s (are_all_given gs) refl e
+  read_from n gs (word ∷ words) p s e =
+      by_next n gs word words p s (begun gs (name_in word) (value_in word)) (value_in word) refl refl (λ value. read_from (n + 1) (added gs (name_in word) value true) words p s) (λ o. read_value (n + 1) gs o (name_in word) words p s) (sym (asked_next n gs word words) ∙ e)
 
-  read_path : (n : ℕ) (steps : Option ℕ) (words : List (List ℕ)) (p : List ℕ) (s : ℕ) → path_of n steps words ≡ render p s → AtPath steps words p s
-  read_path n steps [] p s e = cc
-  read_path n steps (word ∷ words) p s e = by_path n steps word words p s (is_path word) (read_options (n + 1) (Some word) steps words p s) refl e
+  read_value : (n : ℕ) (gs : List Given) (o : CommandOption) (name : List ℕ) (words : List (List ℕ)) (p : List ℕ) (s : ℕ) → asked_value n gs o name words ≡ render p s → AtValue gs o name words p s
+  read_value n gs o name [] p s e = cc
+  read_value n gs o name (value ∷ words) p s e = at_value n gs o name value words p s (o.is_value value) (read_from (n + 1) (added gs name value false) words p s) refl e
 
-  read_steps : (n : ℕ) (path : Option (List ℕ)) (words : List (List ℕ)) (p : List ℕ) (s : ℕ) → steps_of n path words ≡ render p s → AtSteps path words p s
-  read_steps n path [] p s e = cc
-  read_steps n path (word ∷ words) p s e = by_steps n path word words p s (is_steps word) (read_options (n + 1) path (Some (number_of word)) words p s) refl e
-
-by_command : (word : List ℕ) (words : List (List ℕ)) (p : List ℕ) (s : ℕ) (b : Bool) → is_command word ≡ b → cond b (options 2 None None words) (options 1 None None (word ∷ words)) ≡ render p s
-    → IsRequest (word ∷ words) p s
+by_command : (word : List ℕ) (words : List (List ℕ)) (p : List ℕ) (s : ℕ) (b : Bool) → is_command word ≡ b → cond b (asked_from 2 [] words) (asked_from 1 [] (word ∷ words)) ≡ render p s → IsRequest (word ∷ words) p s
 by_command word words p s true h e =
-    let read = read_options 2 None None words p s e in
-    record { given = read.given; spelled_is = inr (λ i. same word (codes "render") h i ∷ read.spelled_is i); one_path = read.gives_path.0; good_path = read.gives_path.1; budget = read.gives_steps }
+    let r = read_from 2 [] words p s e in
+    record { given = r.more; spelled_is = inr (λ i. same word (codes "render") h i ∷ r.spelled_is i); good = r.good; complete = r.complete; path_is = r.path_is; steps_is = r.steps_is }
 by_command word words p s false h e =
-    let read = read_options 1 None None (word ∷ words) p s e in
-    record { given = read.given; spelled_is = inl read.spelled_is; one_path = read.gives_path.0; good_path = read.gives_path.1; budget = read.gives_steps }
+    let r = read_from 1 [] (word ∷ words) p s e in
+    record { given = r.more; spelled_is = inl r.spelled_is; good = r.good; complete = r.complete; path_is = r.path_is; steps_is = r.steps_is }
 
 -- words that ask for a path with a budget are a request for them
 pub request_read : (words : List (List ℕ)) (p : List ℕ) (s : ℕ) → asked words ≡ render p s → IsRequest words p s
@@ -126,49 +107,78 @@ request_read (word ∷ words) p s e = by_command word words p s (is_command word
 
 -- ---- from a request to its words
 
-steps_left : (steps : Option ℕ) (gs : List Given) (word : List ℕ) (s : ℕ) → GivesSteps steps (path_given word ∷ gs) s → GivesSteps steps gs s
-steps_left None gs word s h = h
-steps_left (Some k) gs word s h = h
+-- an option that stands among all is one that may stand there
+record IsNext (gs : List Given) (name value : List ℕ) (is_joined : Bool) : Type 0 where
+  option : CommandOption
+  found : named name command_options ≡ Some option
+  joined : (option.is_long || not is_joined) ≡ true
+  good : option.is_value value ≡ true
+  follows : may_follow option.often (values_of name gs) ≡ true
 
-path_left : (path : Option (List ℕ)) (gs : List Given) (word p : List ℕ) → GivesPath path (steps_given word ∷ gs) p → GivesPath path gs p
-path_left None gs word p h = h
-path_left (Some q) gs word p h = h
+good_is : (name value : List ℕ) (is_joined : Bool) (o : Option CommandOption) → named name command_options ≡ o → elim o [ None ↦ false | Some p ↦ (p.is_long || not is_joined) && p.is_value value ] ≡ true
+    → (p : CommandOption) × (named name command_options ≡ Some p) × ((p.is_long || not is_joined) ≡ true) × (p.is_value value ≡ true)
+good_is name value is_joined None e h = cc
+good_is name value is_joined (Some p) e h = (p, e, first_so (p.is_long || not is_joined) (p.is_value value) h, second_so (p.is_long || not is_joined) (p.is_value value) h)
 
-pub record OneBudget (word : List ℕ) (others : List (List ℕ)) (s : ℕ) : Type 0 where
-  pub alone : others ≡ []
-  pub good : is_steps word ≡ true
-  pub steps_are : s ≡ number_of word
+one_value : (name value : List ℕ) (is_joined : Bool) (more : List Given) → values_of name (given name value is_joined ∷ more) ≡ value ∷ values_of name more
+one_value name value is_joined more = ap (λ b. cond b (value ∷ values_of name more) (values_of name more)) ((bytes_eq-Decides name name).1 refl)
 
-the_budget : (word : List ℕ) (ns : List (List ℕ)) (s : ℕ) → IsBudget (word ∷ ns) s → OneBudget word ns s
-the_budget word [] s h = record { alone = refl; good = h.0; steps_are = h.1 }
-the_budget word (n ∷ ns) s h = absurd h
+is_next : (gs : List Given) (name value : List ℕ) (is_joined : Bool) (more : List Given) → is_good (given name value is_joined) ≡ true → are_all_given (gs ++ (given name value is_joined ∷ more)) ≡ true → IsNext gs name value is_joined
+is_next gs name value is_joined more h all =
+    let (o, found, joined, good) = good_is name value is_joined (named name command_options) refl h in
+    let every = gs ++ (given name value is_joined ∷ more) in
+    let stands = named_holds (λ (x : CommandOption). may_have x.often (values_of x.name every)) name command_options o found all in
+    let values : values_of o.name every ≡ values_of name gs ++ (value ∷ values_of name more) =
+        ap (λ m. values_of m every) stands.1 ∙ values_of-append name gs (given name value is_joined ∷ more) ∙ ap (λ vs. values_of name gs ++ vs) (one_value name value is_joined more) in
+    record { option = o; found = found; joined = joined; good = good; follows = stands_after o.often (values_of name gs) (values_of name more) value (sym (ap (may_have o.often) values) ∙ stands.0) }
 
--- options behind which nothing is missing are read to their end
-pub options_read : (n : ℕ) (path : Option (List ℕ)) (steps : Option ℕ) (gs : List Given) (p : List ℕ) (s : ℕ) → GivesPath path gs p → GivesSteps steps gs s → options n path steps (spelled gs) ≡ render p s
-options_read n None steps [] p s h k = let e = h.0 in cc
-options_read n (Some q) None [] p s h k = λ i. render (sym h.1 i) (sym k i)
-options_read n (Some q) (Some m) [] p s h k = λ i. render (sym h.1 i) (sym k.1 i)
-options_read n None steps (path_given word ∷ gs) p s h k =
-    let e = h.0 in let is : p ≡ word = cc in let rest : paths gs ≡ [] = cc in let good : is_path word ≡ true = ap is_path (sym is) ∙ h.1 in
-    ap (λ b. cond b (options (n + 1 + 1) (Some word) steps (spelled gs)) (wrong (n + 1))) good ∙ options_read (n + 1 + 1) (Some word) steps gs p s (rest, is) (steps_left steps gs word s k)
-options_read n (Some q) steps (path_given word ∷ gs) p s h k = let e = h.0 in cc
-options_read n None None (steps_given word ∷ gs) p s h k =
-    let budget = the_budget word (numbers gs) s k in
-    ap (λ b. cond b (options (n + 1 + 1) None (Some (number_of word)) (spelled gs)) (wrong (n + 1))) budget.good ∙ options_read (n + 1 + 1) None (Some (number_of word)) gs p s h (budget.alone, budget.steps_are)
-options_read n (Some q) None (steps_given word ∷ gs) p s h k =
-    let budget = the_budget word (numbers gs) s k in
-    ap (λ b. cond b (options (n + 1 + 1) (Some q) (Some (number_of word)) (spelled gs)) (wrong (n + 1))) budget.good
-    ∙ options_read (n + 1 + 1) (Some q) (Some (number_of word)) gs p s h (budget.alone, budget.steps_are)
-options_read n path (Some m) (steps_given word ∷ gs) p s h k = let e = k.0 in cc
+abbrev asks : List Given → Asked
+asks gs = render (path_given gs) (steps_given gs)
 
-begins_with_option : (gs : List Given) (p : List ℕ) → paths gs ≡ p ∷ [] → asked (spelled gs) ≡ options 1 None None (spelled gs)
-begins_with_option [] p h = cc
-begins_with_option (path_given word ∷ gs) p h = refl
-begins_with_option (steps_given word ∷ gs) p h = refl
+request_next : (n : ℕ) (gs : List Given) (name value : List ℕ) (is_joined : Bool) (more : List Given) → is_good (given name value is_joined) ≡ true → are_all_given (gs ++ (given name value is_joined ∷ more)) ≡ true
+    → ((k : ℕ) (hs : List Given) → are_all_given (hs ++ more) ≡ true → asked_from k hs (spelled more) ≡ asks (hs ++ more))
+    → asked_from n gs (spelled (given name value is_joined ∷ more)) ≡ asks (gs ++ (given name value is_joined ∷ more))
+request_next n gs name value true more good all read =
+    let at = is_next gs name value true more good all in
+    let cut = cut_joined name value (no_equals name at.option at.found) in
+    let starts = stands_begun gs name (Some value) at.option (record { found = at.found; joined = at.joined; follows = at.follows }) in
+    let assoc = append_assoc gs (given name value true ∷ []) more in
+    asked_next n gs (name ++ equals ∷ value) (spelled more)
+    ∙ (λ i. next n gs (cut.0 i) (spelled more) (begun gs (cut.0 i) (cut.1 i)) (cut.1 i))
+    ∙ ap (λ o. next n gs name (spelled more) o (Some value)) starts
+    ∙ ap (λ b. cond b (asked_from (n + 1) (added gs name value true) (spelled more)) (wrong n)) at.good
+    ∙ read (n + 1) (added gs name value true) (ap are_all_given assoc ∙ all)
+    ∙ ap asks assoc
+request_next n gs name value false more good all read =
+    let at = is_next gs name value false more good all in
+    let whole = no_equals name at.option at.found in
+    let starts = stands_begun gs name None at.option (record { found = at.found; joined = at.joined; follows = at.follows }) in
+    let assoc = append_assoc gs (given name value false ∷ []) more in
+    asked_next n gs name (value ∷ spelled more)
+    ∙ (λ i. next n gs (cut_whole name whole i) (value ∷ spelled more) (begun gs (cut_whole name whole i) (whole i)) (whole i))
+    ∙ ap (λ o. next n gs name (value ∷ spelled more) o None) starts
+    ∙ ap (λ b. cond b (asked_from (n + 1 + 1) (added gs name value false) (spelled more)) (wrong (n + 1))) at.good
+    ∙ read (n + 1 + 1) (added gs name value false) (ap are_all_given assoc ∙ all)
+    ∙ ap asks assoc
+
+-- options that stand as often as they must are read to their end
+pub request_from : (n : ℕ) (gs more : List Given) → list_all is_good more ≡ true → are_all_given (gs ++ more) ≡ true → asked_from n gs (spelled more) ≡ asks (gs ++ more)
+request_from n gs [] good all = ap (λ b. cond b (asks gs) (wrong n)) (sym (ap are_all_given (append-nil gs)) ∙ all) ∙ sym (ap asks (append-nil gs))
+request_from n gs (g ∷ more) good all =
+    request_next n gs g.name g.value g.is_joined more (first_so (is_good g) (list_all is_good more) good) all (λ k hs. request_from k hs more (second_so (is_good g) (list_all is_good more) good))
+
+-- what is read as options begins with no command
+pub without_command : (words : List (List ℕ)) (p : List ℕ) (s : ℕ) → asked_from 1 [] words ≡ render p s → asked words ≡ render p s
+without_command [] p s e = e
+without_command (word ∷ words) p s e = by (is_command word) refl
+  where
+    by : (b : Bool) → is_command word ≡ b → cond b (asked_from 2 [] words) (asked_from 1 [] (word ∷ words)) ≡ render p s
+    by true h = let refused : asked_from 1 [] (word ∷ words) ≡ wrong 1 = ap (λ w. asked_from 1 [] (w ∷ words)) (same word (codes "render") h) in cc
+    by false h = e
 
 -- a request is read as what it asks for
 pub read_request : (words : List (List ℕ)) (p : List ℕ) (s : ℕ) → IsRequest words p s → asked words ≡ render p s
 read_request words p s r = ⊎_elim
-    (λ (e : words ≡ spelled r.given). ap asked e ∙ begins_with_option r.given p r.one_path ∙ options_read 1 None None r.given p s (r.one_path, r.good_path) r.budget)
-    (λ (e : words ≡ codes "render" ∷ spelled r.given). ap asked e ∙ options_read 2 None None r.given p s (r.one_path, r.good_path) r.budget)
+    (λ (e : words ≡ spelled r.given). ap asked e ∙ without_command (spelled r.given) p s (request_from 1 [] r.given r.good r.complete ∙ (λ i. render (sym r.path_is i) (sym r.steps_is i))))
+    (λ (e : words ≡ codes "render" ∷ spelled r.given). ap asked e ∙ request_from 2 [] r.given r.good r.complete ∙ (λ i. render (sym r.path_is i) (sym r.steps_is i)))
     r.spelled_is

@@ -1,9 +1,10 @@
 -- The number of the wrong word is that of the first at which no request goes on.
-use Rattle.std.proofs.Common.{◌≡◌, ℕ, ◌+◌, ◌-◌, ◌≤◌, Bool, true, false, ◌&&◌, cond, List, [], ◌∷◌, ◌++◌, length, take, Option, Some, None, is_none, unwrap_or, codes, refl, ap, sym, ◌∙◌, arith, append_assoc, append-nil, length-append}
+use Rattle.std.proofs.Common.{◌≡◌, ℕ, ◌+◌, ◌-◌, ◌≤◌, Bool, true, false, ◌&&◌, cond, List, [], ◌∷◌, ◌++◌, length, take, Option, Some, None, bytes_eq, codes, refl, subst, ap, sym, ◌∙◌, arith, append_assoc, append-nil, length-append}
 use Rattle.std.proofs.Math.Seq.{take-append_seam, take-append-add}
+use Rattle.ytt_spec.proofs.Options.{asked_next, begun_stands, next, same, stands_begun, values_of-append}
 use Rattle.ytt_spec.proofs.WordsRead.{read_request, request_read}
 use Rattle.ytt_spec.specs.Requests.{Begins, IsFirstWrong, IsRequest}
-use Rattle.ytt_spec.specs.Words.{Asked, render, wrong, default_steps, is_path, is_steps, number_of, is_command, is_path_option, is_steps_option, options, path_of, steps_of, asked}
+use Rattle.ytt_spec.specs.Words.{Asked, render, wrong, CommandOption, Given, Often, exactly_once, at_most_once, added, are_all_given, asked, asked_from, asked_value, begun, command_options, default_steps, file_option, is_command, may_follow, may_have, name_in, named, path_given, steps_given, steps_option, value_in, values_of}
 
 -- Of words from number n on, the one of number m is the first at which the reading can't end in a request.
 pub record Stops (read : List (List ℕ) → Asked) (n : ℕ) (words : List (List ℕ)) (m : ℕ) : Type 0 where
@@ -52,89 +53,177 @@ no_word word words e = absurd (let f : ⊥ = cc in f)
 
 -- ---- what completes a request, at each place
 
-completes : (n : ℕ) (path : Option (List ℕ)) (steps : Option ℕ) → (more : List (List ℕ)) × (p : List ℕ) × (s : ℕ) × (options n path steps more ≡ render p s)
-completes n None steps = (codes "-f" ∷ codes "a" ∷ [], codes "a", unwrap_or steps default_steps, refl)
-completes n (Some q) steps = ([], q, unwrap_or steps default_steps, refl)
+abbrev is_short : List (List ℕ) → Bool
+is_short [] = true
+is_short (v ∷ []) = true
+is_short (v ∷ w ∷ vs) = false
 
-completes_steps : (n : ℕ) (path : Option (List ℕ)) → (more : List (List ℕ)) × (p : List ℕ) × (s : ℕ) × (steps_of n path more ≡ render p s)
-completes_steps n path = let c = completes (n + 1) path (Some 1) in (codes "1" ∷ c.0, c.1, c.2, c.3)
+-- an option with these values may still stand as often as it must
+abbrev may_begin : Often → List (List ℕ) → Bool
+may_begin exactly_once vs = is_short vs
+may_begin at_most_once vs = is_short vs
+
+-- the options that were read are such
+abbrev IsWithin : Option CommandOption → List (List ℕ) → Type 0
+IsWithin None vs = Unit {0}
+IsWithin (Some o) vs = may_begin o.often vs ≡ true
+
+abbrev Within : List Given → Type 0
+Within gs = (name : List ℕ) → IsWithin (named name command_options) (values_of name gs)
+
+none_within : Within []
+none_within name = by (named name command_options)
+  where
+    none : (often : Often) → may_begin often [] ≡ true
+    none exactly_once = refl
+    none at_most_once = refl
+    by : (r : Option CommandOption) → IsWithin r []
+    by None = tt
+    by (Some o) = none o.often
+
+begins_after : (often : Often) (vs : List (List ℕ)) (v : List ℕ) → may_follow often vs ≡ true → may_begin often (vs ++ (v ∷ [])) ≡ true
+begins_after exactly_once [] v h = refl
+begins_after at_most_once [] v h = refl
+begins_after exactly_once (u ∷ us) v h = cc
+begins_after at_most_once (u ∷ us) v h = cc
+
+added_within : (gs : List Given) (name value : List ℕ) (is_joined : Bool) (o : CommandOption) → Within gs → named name command_options ≡ Some o → may_follow o.often (values_of name gs) ≡ true → Within (added gs name value is_joined)
+added_within gs name value is_joined o w found follows other =
+    subst (IsWithin (named other command_options)) (sym (values_of-append other gs (record { name = name; value = value; is_joined = is_joined } ∷ []))) (by (bytes_eq other name) refl)
+  where
+    by : (b : Bool) → bytes_eq other name ≡ b → IsWithin (named other command_options) (values_of other gs ++ cond b (value ∷ []) [])
+    by true e =
+        let is : other ≡ name = same other name e in
+        subst (λ (m : List ℕ). IsWithin (named m command_options) (values_of m gs ++ (value ∷ []))) (sym is) (subst (λ (r : Option CommandOption). IsWithin r (values_of name gs ++ (value ∷ []))) (sym found) (begins_after o.often (values_of name gs) value follows))
+    by false e = subst (IsWithin (named other command_options)) (sym (append-nil (values_of other gs))) (w other)
+
+-- some words go on to a request
+abbrev Completes : (List (List ℕ) → Asked) → Type 0
+Completes read = (more : List (List ℕ)) × (p : List ℕ) × (s : ℕ) × (read more ≡ render p s)
+
+steps_fit : (vs : List (List ℕ)) → may_begin at_most_once vs ≡ true → may_have at_most_once vs ≡ true
+steps_fit [] h = refl
+steps_fit (v ∷ []) h = refl
+steps_fit (v ∷ w ∷ vs) h = cc
+
+-- a path completes them, where there is none
+completes : (n : ℕ) (gs : List Given) → Within gs → Completes (asked_from n gs)
+completes n gs w = by (values_of file_option.name gs) refl (w file_option.name)
+  where
+    steps_done : may_have at_most_once (values_of steps_option.name gs) ≡ true
+    steps_done = steps_fit (values_of steps_option.name gs) (w steps_option.name)
+    by : (vs : List (List ℕ)) → values_of file_option.name gs ≡ vs → may_begin exactly_once vs ≡ true → Completes (asked_from n gs)
+    by [] e h =
+        let starts = stands_begun gs file_option.name None file_option (record { found = refl; joined = refl; follows = ap (may_follow exactly_once) e }) in
+        let all = added gs file_option.name (codes "a") false in
+        let paths : values_of file_option.name all ≡ codes "a" ∷ [] = values_of-append file_option.name gs _ ∙ ap (λ vs. vs ++ (codes "a" ∷ [])) e in
+        let numbers : values_of steps_option.name all ≡ values_of steps_option.name gs = values_of-append steps_option.name gs _ ∙ append-nil (values_of steps_option.name gs) in
+        (
+          file_option.name ∷ codes "a" ∷ [],
+          path_given all,
+          steps_given all,
+          asked_next n gs file_option.name (codes "a" ∷ []) ∙ ap (λ o. next n gs file_option.name (codes "a" ∷ []) o None) starts
+          ∙ (λ i. cond (may_have exactly_once (paths i) && ((ap (may_have at_most_once) numbers ∙ steps_done) i && true)) (render (path_given all) (steps_given all)) (wrong (n + 1 + 1))),
+        )
+    by (v ∷ []) e h = ([], path_given gs, steps_given gs, λ i. cond (may_have exactly_once (e i) && (steps_done i && true)) (render (path_given gs) (steps_given gs)) (wrong n))
+    by (v ∷ u ∷ vs) e h = cc
+
+-- each option has a value
+sample : (name : List ℕ) (o : CommandOption) → named name command_options ≡ Some o → (value : List ℕ) × (o.is_value value ≡ true)
+sample name o h = by (bytes_eq name file_option.name) (bytes_eq name steps_option.name) h
+  where
+    by : (a b : Bool) → cond a (Some file_option) (cond b (Some steps_option) None) ≡ Some o → (value : List ℕ) × (o.is_value value ≡ true)
+    by true b e = let is : file_option ≡ o = cc in (codes "a", ap (λ (x : CommandOption). x.is_value (codes "a")) (sym is))
+    by false true e = let is : steps_option ≡ o = cc in (codes "1", ap (λ (x : CommandOption). x.is_value (codes "1")) (sym is))
+    by false false e = cc
+
+completes_value : (n : ℕ) (gs : List Given) (o : CommandOption) (name : List ℕ) → Within gs → named name command_options ≡ Some o → may_follow o.often (values_of name gs) ≡ true → Completes (asked_value n gs o name)
+completes_value n gs o name w found follows =
+    let v = sample name o found in
+    let c = completes (n + 1) (added gs name v.0 false) (added_within gs name v.0 false o w found follows) in
+    (v.0 ∷ c.0, c.1, c.2, ap (λ b. cond b (asked_from (n + 1) (added gs name v.0 false) c.0) (wrong n)) v.1 ∙ c.3)
 
 -- ---- by the tests that are made of a word
 
-option_here : (n : ℕ) (path : Option (List ℕ)) (steps : Option ℕ) (words : List (List ℕ)) (m : ℕ) → m ≡ n
-    → ((word : List ℕ) (rest : List (List ℕ)) → words ≡ word ∷ rest → (others : List (List ℕ)) → options n path steps (word ∷ others) ≡ wrong m) → Stops (options n path steps) n words m
-option_here n path steps words m is refused = let c = completes n path steps in here (options n path steps) n words m c.0 c.1 c.2 is c.3 refused
+stops_here : (read : List (List ℕ) → Asked) (n : ℕ) (words : List (List ℕ)) (m : ℕ) → Completes read → m ≡ n
+    → ((word : List ℕ) (rest : List (List ℕ)) → words ≡ word ∷ rest → (others : List (List ℕ)) → read (word ∷ others) ≡ wrong m) → Stops read n words m
+stops_here read n words m c is refused = here read n words m c.0 c.1 c.2 is c.3 refused
 
-by_option : (n : ℕ) (path : Option (List ℕ)) (steps : Option ℕ) (word : List ℕ) (words : List (List ℕ)) (m : ℕ) (a b : Bool)
-    → (path_of (n + 1) steps words ≡ wrong m → Stops (path_of (n + 1) steps) (n + 1) words m) → (steps_of (n + 1) path words ≡ wrong m → Stops (steps_of (n + 1) path) (n + 1) words m)
-    → (is_none path && is_path_option word) ≡ a → (is_none steps && is_steps_option word) ≡ b
-    → cond a (path_of (n + 1) steps words) (cond b (steps_of (n + 1) path words) (wrong n)) ≡ wrong m → Stops (options n path steps) n (word ∷ words) m
-by_option n path steps word words m true b at_path at_steps h k e =
-    one_read (options n path steps) (path_of (n + 1) steps) n word words m (λ others. ap (λ t. cond t (path_of (n + 1) steps others) (cond (is_none steps && is_steps_option word) (steps_of (n + 1) path others) (wrong n))) h) (at_path e)
-by_option n path steps word words m false true at_path at_steps h k e =
-    one_read (options n path steps) (steps_of (n + 1) path) n word words m
-    (λ others. (λ i. cond (h i) (path_of (n + 1) steps others) (cond (k i) (steps_of (n + 1) path others) (wrong n)))) (at_steps e)
-by_option n path steps word words m false false at_path at_steps h k e =
+-- where the first word is refused, whatever stands behind it
+refused_here : (read : List (List ℕ) → Asked) (n : ℕ) (word : List ℕ) (words : List (List ℕ)) (m : ℕ) → Completes read → m ≡ n → ((others : List (List ℕ)) → read (word ∷ others) ≡ wrong n) → Stops read n (word ∷ words) m
+refused_here read n word words m c is refused =
+    stops_here read n (word ∷ words) m c is (λ w ws f others. let same_word : w ≡ word = cc in ap (λ v. read (v ∷ others)) same_word ∙ refused others ∙ ap wrong (sym is))
+
+by_value : (n : ℕ) (gs : List Given) (o : CommandOption) (word value : List ℕ) (words : List (List ℕ)) (m : ℕ) (b : Bool) → Within gs → begun gs (name_in word) (value_in word) ≡ Some o → value_in word ≡ Some value
+    → (asked_from (n + 1) (added gs (name_in word) value true) words ≡ wrong m → Stops (asked_from (n + 1) (added gs (name_in word) value true)) (n + 1) words m)
+    → o.is_value value ≡ b → cond b (asked_from (n + 1) (added gs (name_in word) value true) words) (wrong n) ≡ wrong m → Stops (asked_from n gs) n (word ∷ words) m
+by_value n gs o word value words m true w starts v read h e =
+    one_read (asked_from n gs) (asked_from (n + 1) (added gs (name_in word) value true)) n word words m
+    (λ others. asked_next n gs word others ∙ (λ i. next n gs (name_in word) others (starts i) (v i)) ∙ ap (λ t. cond t (asked_from (n + 1) (added gs (name_in word) value true) others) (wrong n)) h) (read e)
+by_value n gs o word value words m false w starts v read h e =
     let is : m ≡ n = cc in
-    option_here n path steps (word ∷ words) m is
-    (λ w ws f others. let same : w ≡ word = cc in
-    ap (λ v. options n path steps (v ∷ others)) same ∙ (λ i. cond (h i) (path_of (n + 1) steps others) (cond (k i) (steps_of (n + 1) path others) (wrong n))) ∙ ap wrong (sym is))
+    refused_here (asked_from n gs) n word words m (completes n gs w) is
+    (λ others. asked_next n gs word others ∙ (λ i. next n gs (name_in word) others (starts i) (v i)) ∙ ap (λ t. cond t (asked_from (n + 1) (added gs (name_in word) value true) others) (wrong n)) h)
 
-by_path : (n : ℕ) (steps : Option ℕ) (word : List ℕ) (words : List (List ℕ)) (m : ℕ) (b : Bool) → (options (n + 1) (Some word) steps words ≡ wrong m → Stops (options (n + 1) (Some word) steps) (n + 1) words m)
-    → is_path word ≡ b → cond b (options (n + 1) (Some word) steps words) (wrong n) ≡ wrong m → Stops (path_of n steps) n (word ∷ words) m
-by_path n steps word words m true read h e =
-    one_read (path_of n steps) (options (n + 1) (Some word) steps) n word words m (λ others. ap (λ t. cond t (options (n + 1) (Some word) steps others) (wrong n)) h) (read e)
-by_path n steps word words m false read h e =
+by_next : (n : ℕ) (gs : List Given) (word : List ℕ) (words : List (List ℕ)) (m : ℕ) (o : Option CommandOption) (v : Option (List ℕ)) → Within gs → begun gs (name_in word) (value_in word) ≡ o → value_in word ≡ v
+    → ((value : List ℕ) → Within (added gs (name_in word) value true) → asked_from (n + 1) (added gs (name_in word) value true) words ≡ wrong m → Stops (asked_from (n + 1) (added gs (name_in word) value true)) (n + 1) words m)
+    → ((q : CommandOption) → named (name_in word) command_options ≡ Some q → may_follow q.often (values_of (name_in word) gs) ≡ true → asked_value (n + 1) gs q (name_in word) words ≡ wrong m
+      → Stops (asked_value (n + 1) gs q (name_in word)) (n + 1) words m)
+    → next n gs (name_in word) words o v ≡ wrong m → Stops (asked_from n gs) n (word ∷ words) m
+by_next n gs word words m None v w starts cut read read_value e =
     let is : m ≡ n = cc in
-    here (path_of n steps) n (word ∷ words) m (codes "a" ∷ []) (codes "a") (unwrap_or steps default_steps) is refl
-    (λ w ws f others. let same : w ≡ word = cc in
-    ap (λ v. path_of n steps (v ∷ others)) same ∙ ap (λ t. cond t (options (n + 1) (Some word) steps others) (wrong n)) h ∙ ap wrong (sym is))
+    refused_here (asked_from n gs) n word words m (completes n gs w) is (λ others. asked_next n gs word others ∙ ap (λ o. next n gs (name_in word) others o (value_in word)) starts)
+by_next n gs word words m (Some o) (Some value) w starts cut read read_value e =
+    let at = begun_stands gs (name_in word) (value_in word) o starts in
+    by_value n gs o word value words m (o.is_value value) w starts cut (read value (added_within gs (name_in word) value true o w at.found at.follows)) refl e
+by_next n gs word words m (Some o) None w starts cut read read_value e =
+    let at = begun_stands gs (name_in word) (value_in word) o starts in
+    one_read (asked_from n gs) (asked_value (n + 1) gs o (name_in word)) n word words m (λ others. asked_next n gs word others ∙ (λ i. next n gs (name_in word) others (starts i) (cut i))) (read_value o at.found at.follows e)
 
-by_steps : (n : ℕ) (path : Option (List ℕ)) (word : List ℕ) (words : List (List ℕ)) (m : ℕ) (b : Bool)
-    → (options (n + 1) path (Some (number_of word)) words ≡ wrong m → Stops (options (n + 1) path (Some (number_of word))) (n + 1) words m)
-    → is_steps word ≡ b → cond b (options (n + 1) path (Some (number_of word)) words) (wrong n) ≡ wrong m → Stops (steps_of n path) n (word ∷ words) m
-by_steps n path word words m true read h e =
-    one_read (steps_of n path) (options (n + 1) path (Some (number_of word))) n word words m (λ others. ap (λ t. cond t (options (n + 1) path (Some (number_of word)) others) (wrong n)) h) (read e)
-by_steps n path word words m false read h e =
-    let is : m ≡ n = cc in let c = completes_steps n path in
-    here (steps_of n path) n (word ∷ words) m c.0 c.1 c.2 is c.3
-    (λ w ws f others. let same : w ≡ word = cc in
-    ap (λ v. steps_of n path (v ∷ others)) same ∙ ap (λ t. cond t (options (n + 1) path (Some (number_of word)) others) (wrong n)) h ∙ ap wrong (sym is))
+at_value : (n : ℕ) (gs : List Given) (o : CommandOption) (name value : List ℕ) (words : List (List ℕ)) (m : ℕ) (b : Bool) → Completes (asked_value n gs o name)
+    → (asked_from (n + 1) (added gs name value false) words ≡ wrong m → Stops (asked_from (n + 1) (added gs name value false)) (n + 1) words m)
+    → o.is_value value ≡ b → cond b (asked_from (n + 1) (added gs name value false) words) (wrong n) ≡ wrong m → Stops (asked_value n gs o name) n (value ∷ words) m
+at_value n gs o name value words m true c read h e =
+    one_read (asked_value n gs o name) (asked_from (n + 1) (added gs name value false)) n value words m (λ others. ap (λ t. cond t (asked_from (n + 1) (added gs name value false) others) (wrong n)) h) (read e)
+at_value n gs o name value words m false c read h e =
+    let is : m ≡ n = cc in
+    refused_here (asked_value n gs o name) n value words m c is (λ others. ap (λ t. cond t (asked_from (n + 1) (added gs name value false) others) (wrong n)) h)
 
-no_more : (n : ℕ) (path : Option (List ℕ)) (steps : Option ℕ) (m : ℕ) → options n path steps [] ≡ wrong m → Stops (options n path steps) n [] m
-no_more n None steps m e = let is : m ≡ n = cc in option_here n None steps [] m is (λ w ws f. no_word w ws f)
-no_more n (Some q) steps m e = cc
+no_more : (n : ℕ) (gs : List Given) (m : ℕ) (b : Bool) → Within gs → cond b (render (path_given gs) (steps_given gs)) (wrong n) ≡ wrong m → Stops (asked_from n gs) n [] m
+no_more n gs m true w e = cc
+no_more n gs m false w e = let is : m ≡ n = cc in stops_here (asked_from n gs) n [] m (completes n gs w) is (λ word ws f. no_word word ws f)
 
 mutual
-  options_stop : (n : ℕ) (path : Option (List ℕ)) (steps : Option ℕ) (words : List (List ℕ)) (m : ℕ) → options n path steps words ≡ wrong m → Stops (options n path steps) n words m
-  options_stop n path steps [] m e = no_more n path steps m e
-  options_stop n path steps (word ∷ words) m e =
-      by_option n path steps word words m (is_none path && is_path_option word) (is_none steps && is_steps_option word) (path_stops (n + 1) steps words m) (steps_stop (n + 1) path words m) refl refl e
+  options_stop : (n : ℕ) (gs : List Given) (words : List (List ℕ)) (m : ℕ) → Within gs → asked_from n gs words ≡ wrong m → Stops (asked_from n gs) n words m
+  options_stop n gs [] m w e = no_more n gs m (are_all_given gs) w e
+  options_stop n gs (word ∷ words) m w e =
+      by_next n gs word words m (begun gs (name_in word) (value_in word)) (value_in word) w refl refl (λ value. options_stop (n + 1) (added gs (name_in word) value true) words m) (λ o found follows. value_stops (n + 1) gs o (name_in word) words m w found follows)
+      (sym (asked_next n gs word words) ∙ e)
 
-  path_stops : (n : ℕ) (steps : Option ℕ) (words : List (List ℕ)) (m : ℕ) → path_of n steps words ≡ wrong m → Stops (path_of n steps) n words m
-  path_stops n steps [] m e = let is : m ≡ n = cc in here (path_of n steps) n [] m (codes "a" ∷ []) (codes "a") (unwrap_or steps default_steps) is refl (λ w ws f. no_word w ws f)
-  path_stops n steps (word ∷ words) m e = by_path n steps word words m (is_path word) (options_stop (n + 1) (Some word) steps words m) refl e
-
-  steps_stop : (n : ℕ) (path : Option (List ℕ)) (words : List (List ℕ)) (m : ℕ) → steps_of n path words ≡ wrong m → Stops (steps_of n path) n words m
-  steps_stop n path [] m e = let is : m ≡ n = cc in let c = completes_steps n path in here (steps_of n path) n [] m c.0 c.1 c.2 is c.3 (λ w ws f. no_word w ws f)
-  steps_stop n path (word ∷ words) m e = by_steps n path word words m (is_steps word) (options_stop (n + 1) path (Some (number_of word)) words m) refl e
+  value_stops : (n : ℕ) (gs : List Given) (o : CommandOption) (name : List ℕ) (words : List (List ℕ)) (m : ℕ) → Within gs → named name command_options ≡ Some o → may_follow o.often (values_of name gs) ≡ true
+      → asked_value n gs o name words ≡ wrong m → Stops (asked_value n gs o name) n words m
+  value_stops n gs o name [] m w found follows e =
+      let is : m ≡ n = cc in
+      stops_here (asked_value n gs o name) n [] m (completes_value n gs o name w found follows) is (λ word ws f. no_word word ws f)
+  value_stops n gs o name (value ∷ words) m w found follows e =
+      at_value n gs o name value words m (o.is_value value) (completes_value n gs o name w found follows) (options_stop (n + 1) (added gs name value false) words m (added_within gs name value false o w found follows)) refl e
 
 -- ---- the command
 
 -- behind a first word that is no command all is read as options
-without_command : (word : List ℕ) (words : List (List ℕ)) (m : ℕ) → is_command word ≡ false → (front : List (List ℕ)) (s : Stops (options 1 None None) 1 (word ∷ words) m) → s.front ≡ front → Stops asked 1 (word ∷ words) m
+without_command : (word : List ℕ) (words : List (List ℕ)) (m : ℕ) → is_command word ≡ false → (front : List (List ℕ)) (s : Stops (asked_from 1 []) 1 (word ∷ words) m) → s.front ≡ front → Stops asked 1 (word ∷ words) m
 without_command word words m h [] s f =
     let is : m ≡ 1 = s.number ∙ ap (λ l. 1 + length l) f in
     here asked 1 (word ∷ words) m (codes "-f" ∷ codes "a" ∷ []) (codes "a") default_steps is refl
     (λ w ws e others.
     let same : w ≡ word = cc in
     let rest : s.rest ≡ w ∷ words = sym (s.split ∙ ap (λ l. l ++ s.rest) f) ∙ ap (λ v. v ∷ words) (sym same) in
-    ap (λ v. cond v (options 2 None None others) (options 1 None None (w ∷ others))) (ap is_command same ∙ h) ∙ sym (ap (λ l. options 1 None None (l ++ (w ∷ others))) f) ∙ s.refused w words rest others)
+    ap (λ v. cond v (asked_from 2 [] others) (asked_from 1 [] (w ∷ others))) (ap is_command same ∙ h) ∙ sym (ap (λ l. asked_from 1 [] (l ++ (w ∷ others))) f) ∙ s.refused w words rest others)
 without_command word words m h (x ∷ front) s f =
     let split : word ∷ words ≡ x ∷ (front ++ s.rest) = s.split ∙ ap (λ l. l ++ s.rest) f in
     let same : x ≡ word = cc in
-    let read : (others : List (List ℕ)) → asked (s.front ++ others) ≡ options 1 None None (s.front ++ others) = λ others.
-    ap (λ l. asked (l ++ others)) f ∙ ap (λ v. cond v (options 2 None None (front ++ others)) (options 1 None None (x ∷ (front ++ others)))) (ap is_command same ∙ h) ∙ sym (ap (λ l. options 1 None None (l ++ others)) f) in
+    let read : (others : List (List ℕ)) → asked (s.front ++ others) ≡ asked_from 1 [] (s.front ++ others) = λ others.
+    ap (λ l. asked (l ++ others)) f ∙ ap (λ v. cond v (asked_from 2 [] (front ++ others)) (asked_from 1 [] (x ∷ (front ++ others)))) (ap is_command same ∙ h) ∙ sym (ap (λ l. asked_from 1 [] (l ++ others)) f) in
     record {
       front = s.front;
       rest = s.rest;
@@ -147,10 +236,10 @@ without_command word words m h (x ∷ front) s f =
       refused = λ w ws e others. read (w ∷ others) ∙ s.refused w ws e others;
     }
 
-by_command : (word : List ℕ) (words : List (List ℕ)) (m : ℕ) (b : Bool) → is_command word ≡ b → cond b (options 2 None None words) (options 1 None None (word ∷ words)) ≡ wrong m → Stops asked 1 (word ∷ words) m
+by_command : (word : List ℕ) (words : List (List ℕ)) (m : ℕ) (b : Bool) → is_command word ≡ b → cond b (asked_from 2 [] words) (asked_from 1 [] (word ∷ words)) ≡ wrong m → Stops asked 1 (word ∷ words) m
 by_command word words m true h e =
-    one_read asked (options 2 None None) 1 word words m (λ others. ap (λ v. cond v (options 2 None None others) (options 1 None None (word ∷ others))) h) (options_stop 2 None None words m e)
-by_command word words m false h e = let s = options_stop 1 None None (word ∷ words) m e in without_command word words m h s.front s refl
+    one_read asked (asked_from 2 []) 1 word words m (λ others. ap (λ v. cond v (asked_from 2 [] others) (asked_from 1 [] (word ∷ others))) h) (options_stop 2 [] words m none_within e)
+by_command word words m false h e = let s = options_stop 1 [] (word ∷ words) m none_within e in without_command word words m h s.front s refl
 
 asked_stops : (words : List (List ℕ)) (m : ℕ) → asked words ≡ wrong m → Stops asked 1 words m
 asked_stops [] m e = let is : m ≡ 1 = cc in here asked 1 [] m (codes "-f" ∷ codes "a" ∷ []) (codes "a") default_steps is refl (λ w ws f. no_word w ws f)

@@ -1,10 +1,10 @@
 -- What a request means: documents, or a fault.
-use Rattle.std.specs.Prelude.{◌≡◌, ℕ, nat_lt, nat_eq, ◌==◌, ◌||◌, ◌&&◌, not, Bool, List, [], ◌∷◌, length, codes, Ok, Err, if◌then◌else◌}
+use Rattle.std.specs.Prelude.{◌≡◌, ℕ, nat_lt, nat_eq, ◌==◌, ◌||◌, ◌&&◌, not, Bool, List, [], ◌∷◌, length, codes, None, Ok, Err, if◌then◌else◌}
 use Rattle.std.specs.List.{ends_with, list_any}
 use Rattle.ytt_base.specs.declared.fault.Fault.{Fault}
 use Rattle.ytt_base.specs.declared.fault.FaultKind.{FaultKind}
 use Rattle.ytt_base.specs.declared.fault.FaultKind.TheVariants as kind
-use Rattle.ytt_base.specs.Outcomes.{Outcome, ◌>>=◌, fault_at, place_at}
+use Rattle.ytt_base.specs.Outcomes.{Outcome, ◌>>=◌, fault_of}
 use Rattle.ytt_base.specs.Trees.{Trees}
 use Rattle.ytt_outside.specs.Standing.{Standing, nothing, file, folder}
 use Rattle.yaml_spec.specs.Noted.{Documents, has_code}
@@ -30,22 +30,22 @@ last_part (b ∷ bs) = if list_any is_slash (b ∷ bs) then last_part bs else b 
 abbrev pub has_ending : List ℕ → List ℕ → Bool
 has_ending name ending = ends_with nat_eq name ending
 
--- the name is that of a file that gives documents, and no library
-abbrev pub is_template : List ℕ → Bool
-is_template name =
+-- a file of this name gives documents: the name has one of the endings, and is no library's
+abbrev pub gives_documents : List ℕ → Bool
+gives_documents name =
     (has_ending name (codes ".yml") || has_ending name (codes ".yaml")) && not (has_ending name (codes ".lib.yml") || has_ending name (codes ".lib.yaml"))
 
 -- how many bytes a file may have
 abbrev pub largest_file : ℕ
 largest_file = 8388608
 
--- a fault of a whole path, of no line
+-- a fault of a whole path, of no place
 abbrev pub path_fault : FaultKind → List ℕ → Fault
-path_fault k path = record { kind = k; place = place_at 0 0; detail = path }
+path_fault k path = record { kind = k; place = None; detail = path }
 
--- a form that isn't built yet, of no line
+-- a form that isn't built yet, of no place
 abbrev pub not_built : Fault
-not_built = fault_at kind.NotBuilt (place_at 0 0)
+not_built = fault_of kind.NotBuilt
 
 -- ---- what a template means
 
@@ -73,12 +73,12 @@ documents_meaning r steps ds = if has_code ds then placed r 1 ds >>= built steps
 abbrev pub text_meaning : Reader → (steps : ℕ) → List ℕ → Outcome Trees
 text_meaning r steps bytes = Read 1 bytes >>= documents_meaning r steps
 
--- What a path means, by what stands at it: the documents of a template file. The reader of code is a parameter: each that reads as code reads gives the same.
+-- What a path means, by what stands at it: the documents of a file of such a name. The reader of code is a parameter: each that reads as code reads gives the same.
 abbrev pub meaning : Reader → (path : List ℕ) → (steps : ℕ) → Standing → Outcome Trees
 meaning r path steps nothing = Err (path_fault kind.FileMissing path)
 meaning r path steps (folder names) = Err not_built
 meaning r path steps (file bytes) =
-    if not (is_template (last_part path)) then Err not_built
+    if not (gives_documents (last_part path)) then Err not_built
     else if nat_lt largest_file (length bytes) then Err (path_fault kind.FileTooLarge path)
     else text_meaning r steps bytes
 

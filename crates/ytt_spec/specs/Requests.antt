@@ -1,41 +1,29 @@
 -- What a request is, and which word of a command line is wrong: in terms of how requests are spelled.
-use Rattle.std.specs.Prelude.{◌≡◌, ◌⊎◌, ℕ, ◌+◌, ◌-◌, ◌≤◌, true, List, [], ◌∷◌, ◌++◌, length, take, codes}
-use Rattle.ytt_spec.specs.Words.{default_steps, is_path, is_steps, number_of}
+use Rattle.std.specs.Prelude.{◌≡◌, ◌⊎◌, ℕ, ◌+◌, ◌-◌, ◌≤◌, Bool, true, false, not, ◌&&◌, ◌||◌, List, [], ◌∷◌, ◌++◌, length, take, codes, Some, None}
+use Rattle.std.specs.List.{list_all}
+use Rattle.ytt_spec.specs.Words.{Given, are_all_given, command_options, equals, named, path_given, steps_given}
 
--- an option, with the word that it gives
-pub data Given : Type 0 where
-  path_given : List ℕ → Given
-  steps_given : List ℕ → Given
+-- the words of an option
+abbrev pub spelled_alone : Given → List (List ℕ)
+spelled_alone g = elim g.is_joined [ true ↦ (g.name ++ equals ∷ g.value) ∷ [] | false ↦ g.name ∷ g.value ∷ [] ]
 
 -- the words of options
 abbrev pub spelled : List Given → List (List ℕ)
 spelled [] = []
-spelled (path_given path ∷ gs) = codes "-f" ∷ path ∷ spelled gs
-spelled (steps_given steps ∷ gs) = codes "--steps" ∷ steps ∷ spelled gs
+spelled (g ∷ gs) = spelled_alone g ++ spelled gs
 
-abbrev pub paths : List Given → List (List ℕ)
-paths [] = []
-paths (path_given path ∷ gs) = path ∷ paths gs
-paths (steps_given steps ∷ gs) = paths gs
+-- it is an option with a value of it, and a long one where they are one word
+abbrev pub is_good : Given → Bool
+is_good g = elim (named g.name command_options) [ None ↦ false | Some o ↦ (o.is_long || not g.is_joined) && o.is_value g.value ]
 
-abbrev pub numbers : List Given → List (List ℕ)
-numbers [] = []
-numbers (path_given path ∷ gs) = numbers gs
-numbers (steps_given steps ∷ gs) = steps ∷ numbers gs
-
--- the budget: the one number that is given, or where none is, the default
-abbrev pub IsBudget : List (List ℕ) → ℕ → Type 0
-IsBudget [] steps = steps ≡ default_steps
-IsBudget (word ∷ []) steps = (is_steps word ≡ true) × (steps ≡ number_of word)
-IsBudget (word ∷ other ∷ words) steps = ⊥
-
--- A request for a path with a budget: options in any order, the path once and the steps at most once, behind the command or without it.
+-- A request for a path with a budget: options in any order, each as often as it must stand, behind the command or without it.
 pub record IsRequest (words : List (List ℕ)) (path : List ℕ) (steps : ℕ) : Type 0 where
   pub given : List Given
   pub spelled_is : (words ≡ spelled given) ⊎ (words ≡ codes "render" ∷ spelled given)
-  pub one_path : paths given ≡ path ∷ []
-  pub good_path : is_path path ≡ true
-  pub budget : IsBudget (numbers given) steps
+  pub good : list_all is_good given ≡ true
+  pub complete : are_all_given given ≡ true
+  pub path_is : path ≡ path_given given
+  pub steps_is : steps ≡ steps_given given
 
 -- some request begins with these words
 pub record Begins (words : List (List ℕ)) : Type 0 where

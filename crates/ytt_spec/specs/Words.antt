@@ -1,5 +1,7 @@
 -- What the words of a command line ask for.
-use Rattle.std.specs.Prelude.{ℕ, ◌+◌, Bool, nat_le, ◌&&◌, List, [], ◌∷◌, length, codes, bytes_eq, Option, Some, None, unwrap_or, is_none, if◌then◌else◌}
+use Rattle.std.specs.Prelude.{ℕ, ◌+◌, ◌==◌, Bool, true, false, nat_le, ◌&&◌, ◌||◌, List, [], ◌∷◌, ◌++◌, length, codes, bytes_eq, Option, Some, None, is_none, option_and_then, if◌then◌else◌}
+use Rattle.std.specs.List.{list_all}
+use Rattle.std.specs.Option.{option_map_or}
 use Rattle.std.specs.Str.{all_ascii_digits}
 use Rattle.std.specs.Str.Parse.{digits_value}
 
@@ -7,6 +9,8 @@ use Rattle.std.specs.Str.Parse.{digits_value}
 pub data Asked : Type 0 where
   render : (path : List ℕ) → (steps : ℕ) → Asked
   wrong : ℕ → Asked
+
+-- ---- values
 
 -- a path has 1 to 1,024 bytes
 abbrev pub is_path : List ℕ → Bool
@@ -30,40 +34,117 @@ is_number word = nat_le 1 (length word) && nat_le (length word) 8 && all_ascii_d
 abbrev pub is_steps : List ℕ → Bool
 is_steps word = is_number word && (nat_le 1 (number_of word) && nat_le (number_of word) most_steps)
 
-abbrev pub is_command : List ℕ → Bool
-is_command word = bytes_eq word (codes "render")
+-- ---- options
 
-abbrev pub is_path_option : List ℕ → Bool
-is_path_option word = bytes_eq word (codes "-f")
+-- how often an option may stand
+pub data Often : Type 0 where
+  exactly_once : Often
+  at_most_once : Often
 
-abbrev pub is_steps_option : List ℕ → Bool
-is_steps_option word = bytes_eq word (codes "--steps")
+-- an option by its name: whether it is a long one, whose value may stand behind `=` in the same word; how often it may stand; and the texts that are values of it
+pub record CommandOption : Type 0 where
+  pub name : List ℕ
+  pub is_long : Bool
+  pub often : Often
+  pub is_value : List ℕ → Bool
 
--- the end of the words, whose number would be n
-abbrev pub ended : ℕ → Option (List ℕ) → Option ℕ → Asked
-ended n None steps = wrong n
-ended n (Some path) steps = render path (unwrap_or steps default_steps)
+abbrev pub file_option : CommandOption
+file_option = record { name = codes "-f"; is_long = false; often = exactly_once; is_value = is_path }
+
+abbrev pub steps_option : CommandOption
+steps_option = record { name = codes "--steps"; is_long = true; often = at_most_once; is_value = is_steps }
+
+-- all options
+abbrev pub command_options : List CommandOption
+command_options = file_option ∷ steps_option ∷ []
+
+-- the option of this name
+abbrev pub named : List ℕ → List CommandOption → Option CommandOption
+named name [] = None
+named name (o ∷ os) = if bytes_eq name o.name then Some o else named name os
+
+-- an option that stands in the words: its name and value, and whether these are one word
+pub record Given : Type 0 where
+  pub name : List ℕ
+  pub value : List ℕ
+  pub is_joined : Bool
+
+-- the values that the option of this name has, in their order
+abbrev pub values_of : List ℕ → List Given → List (List ℕ)
+values_of name [] = []
+values_of name (g ∷ gs) = if bytes_eq name g.name then g.value ∷ values_of name gs else values_of name gs
+
+-- an option may have these values, and no others
+abbrev pub may_have : Often → List (List ℕ) → Bool
+may_have exactly_once [] = false
+may_have at_most_once [] = true
+may_have _ (v ∷ []) = true
+may_have _ (v ∷ w ∷ vs) = false
+
+-- an option that has these values may stand once more
+abbrev pub may_follow : Often → List (List ℕ) → Bool
+may_follow exactly_once [] = true
+may_follow at_most_once [] = true
+may_follow _ (v ∷ vs) = false
+
+-- each option stands as often as it must
+abbrev pub are_all_given : List Given → Bool
+are_all_given gs = list_all (λ o. may_have o.often (values_of o.name gs)) command_options
+
+abbrev pub first_of : List (List ℕ) → Option (List ℕ)
+first_of [] = None
+first_of (v ∷ vs) = Some v
+
+-- the path and the budget that are given
+abbrev pub path_given : List Given → List ℕ
+path_given gs = option_map_or (λ v. v) (first_of (values_of file_option.name gs)) []
+
+abbrev pub steps_given : List Given → ℕ
+steps_given gs = option_map_or number_of (first_of (values_of steps_option.name gs)) default_steps
+
+-- ---- words
+
+abbrev pub equals : ℕ
+equals = 61
+
+-- what stands before the first `=` of a word, or all of it, and what stands behind
+abbrev pub name_in : List ℕ → List ℕ
+name_in [] = []
+name_in (b ∷ bs) = if b == equals then [] else b ∷ name_in bs
+
+abbrev pub value_in : List ℕ → Option (List ℕ)
+value_in [] = None
+value_in (b ∷ bs) = if b == equals then Some bs else value_in bs
+
+-- the option that a word begins by its name, where it may stand behind those that are given: a value in the same word needs a long one
+abbrev pub begun : List Given → (name : List ℕ) → (value : Option (List ℕ)) → Option CommandOption
+begun gs name value = option_and_then (λ o. if (o.is_long || is_none value) && may_follow o.often (values_of name gs) then Some o else None) (named name command_options)
+
+abbrev pub added : List Given → List ℕ → List ℕ → Bool → List Given
+added gs name value is_joined = gs ++ record { name = name; value = value; is_joined = is_joined } ∷ []
 
 abbrev mutual
-  -- the words from number n on, behind options that gave this path and these steps, each at most once; where a word is missing, its number is the one behind the last
-  pub options : ℕ → Option (List ℕ) → Option ℕ → List (List ℕ) → Asked
-  options n path steps [] = ended n path steps
-  options n path steps (option ∷ words) =
-      if is_none path && is_path_option option then path_of (n + 1) steps words
-      else if is_none steps && is_steps_option option then steps_of (n + 1) path words
-      else wrong n
+  -- the words from number n on, behind these options; where a word is missing, its number is the one behind the last
+  pub asked_from : ℕ → List Given → List (List ℕ) → Asked
+  asked_from n gs [] = if are_all_given gs then render (path_given gs) (steps_given gs) else wrong n
+  asked_from n gs (word ∷ words) =
+      elim (begun gs (name_in word) (value_in word)) [
+        | None ↦ wrong n
+        | Some o ↦ elim (value_in word) [
+          | Some value ↦ if o.is_value value then asked_from (n + 1) (added gs (name_in word) value true) words else wrong n
+          | None ↦ asked_value (n + 1) gs o (name_in word) words
+        ]
+      ]
 
-  -- the same, where the first word is the path
-  pub path_of : ℕ → Option ℕ → List (List ℕ) → Asked
-  path_of n steps [] = wrong n
-  path_of n steps (path ∷ words) = if is_path path then options (n + 1) (Some path) steps words else wrong n
+  -- the same, where the first word is the value of an option
+  pub asked_value : ℕ → List Given → CommandOption → (name : List ℕ) → List (List ℕ) → Asked
+  asked_value n gs o name [] = wrong n
+  asked_value n gs o name (value ∷ words) = if o.is_value value then asked_from (n + 1) (added gs name value false) words else wrong n
 
-  -- the same, where the first word is the number of steps
-  pub steps_of : ℕ → Option (List ℕ) → List (List ℕ) → Asked
-  steps_of n path [] = wrong n
-  steps_of n path (steps ∷ words) = if is_steps steps then options (n + 1) path (Some (number_of steps)) words else wrong n
+abbrev pub is_command : List ℕ → Bool
+is_command word = bytes_eq word (codes "render")
 
 -- the command, which may be left out, and then its options
 abbrev pub asked : List (List ℕ) → Asked
 asked [] = wrong 1
-asked (word ∷ words) = if is_command word then options 2 None None words else options 1 None None (word ∷ words)
+asked (word ∷ words) = if is_command word then asked_from 2 [] words else asked_from 1 [] (word ∷ words)

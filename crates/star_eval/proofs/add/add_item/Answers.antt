@@ -1,22 +1,15 @@
-use Rattle.std.proofs.Common.{slice_set, ap, sym, ◌∙◌}
+use Rattle.std.proofs.Common.{◌≡◌, false, rules, ap, sym, ◌∙◌}
 use Rattle.star_spec.specs.Outcomes.{done}
-use Rattle.template_spec.specs.Adding.{in_place_if}
 use Rattle.star_eval.specs.Meets.{with_steps}
-use Rattle.star_eval.specs.View.{children_of, in_scalar_key}
-use Rattle.star_eval.proofs.Placing.{add_at, add_last}
+use Rattle.star_eval.specs.Positions.{in_scalar_key, is_known}
+use Rattle.star_eval.specs.View.{children_of}
+use Rattle.star_eval.proofs.Known.{new_key}
+use Rattle.star_eval.proofs.Placing.{add_last}
 use Rattle.star_eval.proofs.add.add_item.Goals as goal
 
-pub returns-in_ok-push-in-None : goal.returns-in_ok-push-in-None
-returns-in_ok-push-in-None c = λ n.
-    add_last c.args.item c.args.items.now (sym c.in-None.ensures.value) (with_steps n) ∙ ap (λ is. done (children_of is) (with_steps n)) (sym c.in_ok-push-in-None.ensures)
-
-pub returns-then-overrides : goal.returns-then-overrides
-returns-then-overrides c = λ n.
-    add_at c.args.item c.args.items.now c.in-Some.i (sym c.in-Some.ensures.value) (with_steps n)
-    ∙ (λ i. in_place_if (sym c.if-overrides.ensures i) c.args.item.place (in_scalar_key c.args.item.key) (children_of (sym c.set.ensures i)) (with_steps n))
-
-pub returns-in_ok-key_twice-in-Some : goal.returns-in_ok-key_twice-in-Some
-returns-in_ok-key_twice-in-Some c = λ n.
-    rw c.in_ok-key_twice-in-Some.ensures
-    (add_at c.args.item c.args.items.now c.in-Some.i (sym c.in-Some.ensures.value) (with_steps n)
-    ∙ ap (λ b. in_place_if b c.args.item.place (in_scalar_key c.args.item.key) (children_of (slice_set c.args.items.now c.in-Some.i c.args.item)) (with_steps n)) (sym c.if-overrides.ensures))
+pub returns-in_ok-add_behind : goal.returns-in_ok-add_behind
+returns-in_ok-add_behind c = λ n.
+    let all = c.args.members in
+    let key = in_scalar_key c.args.item.key in
+    let unknown : is_known key all.keys ≡ false = search rules in
+    add_last c.args.item all.items (new_key all.keys all.items key all.known unknown) (with_steps n) ∙ ap (λ is. done (children_of is) (with_steps n)) (sym c.in_ok-add_behind.ensures)

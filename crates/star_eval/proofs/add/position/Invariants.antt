@@ -1,6 +1,5 @@
 use Rattle.std.proofs.Common.{◌≡◌, drop}
-use Rattle.star_eval.specs.Positions.{further, position_of}
-use Rattle.star_eval.specs.View.{in_scalar_key}
+use Rattle.star_eval.specs.Positions.{further, in_scalar_key, position_of}
 use Rattle.star_eval.proofs.add.position.Given as goal
 
 abbrev pub invariant-loop-i : goal.invariant-loop-i

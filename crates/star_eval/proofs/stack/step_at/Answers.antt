@@ -3,6 +3,9 @@ use Rattle.star_eval.proofs.stack.step_at.Goals as goal
 pub returns-in-Start : goal.returns-in-Start
 returns-in-Start c = λ call. rw c.in-Start.is (c.start.ensures call)
 
+pub returns-in-Note : goal.returns-in-Note
+returns-in-Note c = λ call. rw c.in-Note.is (c.put_back.ensures _ _ (c.noted.ensures call _ _))
+
 pub returns-in-Key : goal.returns-in-Key
 returns-in-Key c = λ call. rw c.in-Key.is (c.put_back-in-Key.ensures _ _ (c.keyed.ensures call c.in-Key.field-0 _ _ _))
 

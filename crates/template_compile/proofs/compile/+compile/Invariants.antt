@@ -1,15 +1,11 @@
-use Rattle.std.proofs.Common.{◌≡◌, true, List, ◌++◌, drop}
+use Rattle.std.proofs.Common.{◌≡◌, List, ◌++◌, drop}
 use Rattle.star_spec.specs.Program.{Instruction}
 use Rattle.star_tree.specs.View.{instructions_of, item_kind_of}
 use Rattle.template_spec.specs.Compiled.{items_code}
-use Rattle.template_tree.specs.Scalars.{have_scalars}
 use Rattle.template_tree.specs.View.{items_as}
-use Rattle.template_compile.specs.Scalars.{values_are_scalars}
 use Rattle.template_compile.proofs.compile.+compile.Given as goal
 
 abbrev pub invariant-put_items-loop-item : goal.invariant-put_items-loop-item
-invariant-put_items-loop-item l = record {
-  code : (is : List Instruction) → instructions_of l.file l.code ++ items_code (items_as (item_kind_of l.kind) l.file (drop l.item-index l.items)) is
-      ≡ instructions_of l.file l.initial.code ++ items_code (items_as (item_kind_of l.kind) l.file l.items) is;
-  scalars : have_scalars l.items ≡ true → values_are_scalars l.code ≡ values_are_scalars l.initial.code;
-}
+invariant-put_items-loop-item l =
+    (is : List Instruction) → instructions_of l.file l.code ++ items_code (items_as (item_kind_of l.kind) l.file (drop l.item-index l.items)) is
+    ≡ instructions_of l.file l.initial.code ++ items_code (items_as (item_kind_of l.kind) l.file l.items) is

@@ -14,11 +14,11 @@ pub returns-clause-meaning : goal.returns-clause-meaning
 returns-clause-meaning c =
     let file = c.args.template.now.file in
     let t = items_of file c.args.template.now.items in
-    subst (λ is. RunsAsBuilt is t) (sym (emits_all file _ c.put_items.new.code _ c.new-code.ensures c.in_ok-put_items.ensures.code))
+    subst (λ is. RunsAsBuilt is t) (sym (emits_all file _ c.put_items.new.code _ c.new-code.ensures c.in_ok-put_items.ensures))
     (runs_as_built t (items_placed file c.args.template.now.items document_item free))
 
 pub returns-clause-well_nested : goal.returns-clause-well_nested
 returns-clause-well_nested c = λ s.
     let file = c.args.template.now.file in
     let t = items_of file c.args.template.now.items in
-    subst WellNested (sym (emits_all file _ c.put_items.new.code _ c.new-code.ensures c.in_ok-put_items.ensures.code)) (straight_nested t s)
+    subst WellNested (sym (emits_all file _ c.put_items.new.code _ c.new-code.ensures c.in_ok-put_items.ensures)) (straight_nested t s)

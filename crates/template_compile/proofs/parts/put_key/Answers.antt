@@ -7,7 +7,7 @@ use Rattle.template_tree.specs.View.{in_key}
 use Rattle.template_compile.proofs.Emitting.{emits_same}
 use Rattle.template_compile.proofs.parts.put_key.Goals as goal
 
-pub returns-in_ok-put-clause-code : goal.returns-in_ok-put-clause-code
-returns-in_ok-put-clause-code c = λ file.
-    emits_same file c.args.code.now c.put.new.code _ _ (c.in_ok-put.ensures.code file)
+pub returns-in_ok-put : goal.returns-in_ok-put
+returns-in_ok-put c = λ file.
+    emits_same file c.args.code.now c.put.new.code _ _ (c.in_ok-put.ensures file)
     (ap (λ (k : Option Key). key_code c.args.place (in_key k)) c.in-Some.is ∙ (λ i is. part (node_key c.args.place (key_of (sym c.in_ok-copy.ensures i))) ∷ is))

@@ -8,13 +8,10 @@ use Rattle.template_compile.proofs.Emitting.{emits_next, emits_same}
 use Rattle.template_compile.proofs.parts.put_notes.Goals as goal
 
 pub loop-note-preserved : goal.loop-note-preserved
-loop-note-preserved c = record {
-  code =
-      emits_next c.args.file c.args.code.now c.loop-note.code c.put.new.code c.args.notes.now c.loop-note.note-index c.note-item.result
-      (λ ns is. notes_code (notes_of c.args.file ns) is) (notes_code (notes_of c.args.file c.args.notes.now))
-      (λ is. part (node_note (place_at c.args.file c.note-item.result.line) c.note-item.result.name (exprs_of c.args.file c.note-item.result.args)) ∷ is)
-      (rw c.as_slice-note-items.ensures at c.loop-note-test.true) (rw c.as_slice-note-items.ensures at c.note-item.is) (λ ys is. refl) c.loop-note.invariant.code
-      (emits_same c.args.file c.loop-note.code c.put.new.code _ _ (c.in_ok-put.ensures.code c.args.file)
-      (λ i is. part (node_note (place_at c.args.file c.note-item.result.line) (sym c.in_ok-copy.ensures i) (exprs_of c.args.file (sym c.in_ok-copy_args.ensures i))) ∷ is));
-  scalars = c.in_ok-put.ensures.scalars refl ∙ c.loop-note.invariant.scalars;
-}
+loop-note-preserved c =
+    emits_next c.args.file c.args.code.now c.loop-note.code c.put.new.code c.args.notes.now c.loop-note.note-index c.note-item.result
+    (λ ns is. notes_code (notes_of c.args.file ns) is) (notes_code (notes_of c.args.file c.args.notes.now))
+    (λ is. part (node_note (place_at c.args.file c.note-item.result.line) c.note-item.result.name (exprs_of c.args.file c.note-item.result.args)) ∷ is)
+    (rw c.as_slice-note-items.ensures at c.loop-note-test.true) (rw c.as_slice-note-items.ensures at c.note-item.is) (λ ys is. refl) c.loop-note.invariant
+    (emits_same c.args.file c.loop-note.code c.put.new.code _ _ (c.in_ok-put.ensures c.args.file)
+    (λ i is. part (node_note (place_at c.args.file c.note-item.result.line) (sym c.in_ok-copy.ensures i) (exprs_of c.args.file (sym c.in_ok-copy_args.ensures i))) ∷ is))

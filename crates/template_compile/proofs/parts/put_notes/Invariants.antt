@@ -3,12 +3,9 @@ use Rattle.star_spec.specs.Program.{Instruction}
 use Rattle.star_tree.specs.View.{instructions_of}
 use Rattle.template_spec.specs.Compiled.{notes_code}
 use Rattle.template_tree.specs.View.{notes_of}
-use Rattle.template_compile.specs.Scalars.{values_are_scalars}
 use Rattle.template_compile.proofs.parts.put_notes.Given as goal
 
 abbrev pub invariant-loop-note : goal.invariant-loop-note
-invariant-loop-note l = record {
-  code : (is : List Instruction) → instructions_of l.file l.code ++ notes_code (notes_of l.file (drop l.note-index l.notes)) is
-      ≡ instructions_of l.file l.initial.code ++ notes_code (notes_of l.file l.notes) is;
-  scalars : values_are_scalars l.code ≡ values_are_scalars l.initial.code;
-}
+invariant-loop-note l =
+    (is : List Instruction) → instructions_of l.file l.code ++ notes_code (notes_of l.file (drop l.note-index l.notes)) is
+    ≡ instructions_of l.file l.initial.code ++ notes_code (notes_of l.file l.notes) is

@@ -1,6 +1,5 @@
 use Rattle.std.proofs.Common.{ap, refl, sym, ◌∙◌, Ok}
 use Rattle.template_tree.proofs.Pairs.{document_as, document_is, document_straight}
-use Rattle.template_tree.proofs.Scalars.{content-Map, item-Node}
 use Rattle.template_tree.proofs.documents.place_document.Goals as goal
 
 pub returns-clause-template : goal.returns-clause-template
@@ -10,6 +9,3 @@ returns-clause-template c =
 
 pub returns-clause-straight : goal.returns-clause-straight
 returns-clause-straight c = document_straight _ _ _ refl refl refl c.in_ok-pairs.ensures.straight
-
-pub returns-clause-scalars : goal.returns-clause-scalars
-returns-clause-scalars c = item-Node _ ∙ (content-Map _ ∙ c.in_ok-pairs.ensures.scalars)

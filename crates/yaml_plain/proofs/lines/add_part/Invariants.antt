@@ -1,6 +1,6 @@
 use Rattle.std.proofs.Common.{◌≡◌, ◌-◌, ℕ, List, [], ◌∷◌, ◌++◌, map as each, replicate}
 use Rattle.yaml_spec.specs.Folding.{whole_line}
-use Rattle.yaml_scalar.specs.Joining.{with_parts}
+use Rattle.yaml_quotes.specs.Joining.{with_parts}
 use Rattle.yaml_plain.proofs.lines.add_part.Given as goal
 
 abbrev pub invariant-loop-line : goal.invariant-loop-line

@@ -7,7 +7,7 @@ use Rattle.yaml_spec.specs.Read.{marker_row}
 use Rattle.yaml_spec.specs.Rows.{Row, passing, row_value}
 use Rattle.yaml_noted.specs.View.{comments_of}
 use Rattle.yaml_rows.specs.View.{value_of}
-use Rattle.yaml_text.proofs.Chains.{gives_next, gives_same, gives_stop}
+use Rattle.ytt_laws.proofs.Chains.{gives_next, gives_same, gives_stop}
 use Rattle.yaml_read.specs.Documents.{passed_behind}
 use Rattle.yaml_read.specs.Segments.{segment_of}
 use Rattle.yaml_read.specs.View.{passed_of}

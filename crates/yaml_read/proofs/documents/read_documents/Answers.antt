@@ -3,7 +3,7 @@ use Rattle.std.proofs.lemmas.Result.{err_from_is_err_and}
 use Rattle.yaml_noted.specs.View.{documents_of}
 use Rattle.yaml_spec.specs.Held.{plain_lines}
 use Rattle.yaml_spec.specs.Read.{implicit, segments}
-use Rattle.yaml_text.proofs.Chains.{gives_next, gives_same, gives_stop}
+use Rattle.ytt_laws.proofs.Chains.{gives_next, gives_same, gives_stop}
 use Rattle.yaml_read.specs.View.{part_of}
 use Rattle.yaml_read.proofs.InParts.{by_front, front_behind}
 use Rattle.yaml_read.proofs.documents.read_documents.Goals as goal

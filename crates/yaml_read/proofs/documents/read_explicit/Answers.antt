@@ -1,13 +1,13 @@
 use Rattle.std.proofs.Common.{List, Some, Ok, Err, ap, sym, ◌∙◌, [], false}
 use Rattle.std.proofs.lemmas.Result.{err_from_is_err_and}
 use Rattle.ytt_base.specs.Outcomes.{Outcome, ◌>>=◌}
-use Rattle.yaml_laws.specs.Machine.{pass, wanting}
+use Rattle.yaml_pass.specs.Machine.{pass, wanting}
 use Rattle.yaml_noted.specs.View.{comments_of, content_of}
 use Rattle.yaml_noted.specs.declared.noted.RawComment.{RawComment}
 use Rattle.yaml_spec.specs.Entries.{row_comment}
 use Rattle.yaml_spec.specs.Read.{document_note, marker_row}
 use Rattle.yaml_spec.specs.Rows.{has_value}
-use Rattle.yaml_text.proofs.Chains.{gives_same, gives_stop}
+use Rattle.ytt_laws.proofs.Chains.{gives_same, gives_stop}
 use Rattle.yaml_read.specs.Documents.{Noted, Part, explicit_part, passed_behind}
 use Rattle.yaml_read.specs.Segments.{segment_of}
 use Rattle.yaml_read.specs.View.{part_of, passed_of}

@@ -1,13 +1,13 @@
 use Rattle.std.proofs.Common.{rules, ◌≡◌, ◌==◌, List, [], ◌++◌, Some, None, Ok, Err, true, false, sym, ◌∙◌, ap}
 use Rattle.std.proofs.lemmas.Result.{err_from_is_err_and}
 use Rattle.ytt_base.specs.Outcomes.{Outcome, ◌>>=◌}
-use Rattle.yaml_laws.specs.Machine.{pass, wanting}
+use Rattle.yaml_pass.specs.Machine.{pass, wanting}
 use Rattle.yaml_noted.specs.declared.noted.RawComment.{RawComment}
 use Rattle.yaml_noted.specs.View.{comments_of}
 use Rattle.yaml_spec.specs.Bytes.{first, percent}
 use Rattle.yaml_spec.specs.Held.{plain_line, plain_lines}
 use Rattle.yaml_spec.specs.Read.{comments_of as comments_in, first_content}
-use Rattle.yaml_text.proofs.Chains.{gives_same, gives_stop}
+use Rattle.ytt_laws.proofs.Chains.{gives_same, gives_stop}
 use Rattle.yaml_read.specs.Documents.{Noted, Part, front_part}
 use Rattle.yaml_read.specs.View.{part_of, passed_of}
 use Rattle.yaml_read.proofs.Parts.{front_content, front_document, front_none, front_out, no_document}

@@ -2,7 +2,7 @@ use Rattle.std.proofs.Common.{Err, false, sym, ◌∙◌, ap}
 use Rattle.std.proofs.lemmas.Result.{err_from_is_err_and}
 use Rattle.ytt_base.specs.Outcomes.{◌>>=◌}
 use Rattle.yaml_noted.specs.View.{comments_of}
-use Rattle.yaml_text.proofs.Chains.{gives_same, gives_stop}
+use Rattle.ytt_laws.proofs.Chains.{gives_same, gives_stop}
 use Rattle.yaml_read.specs.Between.{ended_behind}
 use Rattle.yaml_read.specs.Documents.{segment_part}
 use Rattle.yaml_read.specs.Segments.{segment_of}

@@ -4,7 +4,7 @@ use Rattle.ytt_base.specs.Outcomes.{◌>>=◌}
 use Rattle.yaml_noted.specs.View.{comments_of, documents_of, items_of, noted_of}
 use Rattle.yaml_spec.specs.Held.{plain_lines}
 use Rattle.yaml_spec.specs.Read.{Segment, segments}
-use Rattle.yaml_text.proofs.Chains.{gives_same, gives_stop}
+use Rattle.ytt_laws.proofs.Chains.{gives_same, gives_stop}
 use Rattle.yaml_read.specs.Documents.{documents_behind, segment_part}
 use Rattle.yaml_read.specs.Segments.{segment_of}
 use Rattle.yaml_read.specs.View.{part_of}

@@ -3,7 +3,7 @@ use Rattle.std.proofs.lemmas.Result.{err_from_is_err_and}
 use Rattle.yaml_noted.specs.View.{documents_of}
 use Rattle.yaml_spec.specs.Held.{plain_lines}
 use Rattle.yaml_spec.specs.Lines.{Lines}
-use Rattle.yaml_text.proofs.Chains.{gives_next, gives_same, gives_stop}
+use Rattle.ytt_laws.proofs.Chains.{gives_next, gives_same, gives_stop}
 use Rattle.yaml_read.proofs.Fitting.{read_lines_fit}
 use Rattle.yaml_read.proofs.Wholes.{read_by_lines, documents_in}
 use Rattle.yaml_read.proofs.read.read_noted.Goals as goal

@@ -3,7 +3,7 @@ use Rattle.std.proofs.lemmas.Result.{err_from_is_err_and}
 use Rattle.ytt_base.specs.View.{trees_of}
 use Rattle.yaml_noted.specs.View.{documents_of}
 use Rattle.yaml_spec.specs.Read.{Read, plain_trees}
-use Rattle.yaml_text.proofs.Chains.{gives_next, gives_same, gives_stop}
+use Rattle.ytt_laws.proofs.Chains.{gives_next, gives_same, gives_stop}
 use Rattle.yaml_read.proofs.Wholes.{trees_by_documents}
 use Rattle.yaml_read.proofs.read.read_plain.Goals as goal
 

@@ -2,7 +2,7 @@ use Rattle.std.proofs.Common.{◌≡◌, drop}
 use Rattle.ytt_base.specs.View.{pairs_of, trees_of}
 use Rattle.yaml_noted.specs.View.{items_of}
 use Rattle.yaml_spec.specs.Noted.{bare_pairs, bare_trees}
-use Rattle.yaml_trees.specs.Behind.{and_pairs, and_trees}
+use Rattle.ytt_laws.proofs.InTurn.{and_pairs, and_trees}
 use Rattle.yaml_trees.proofs.trees.+trees.Given as goal
 
 abbrev pub invariant-bare_trees-loop-item : goal.invariant-bare_trees-loop-item

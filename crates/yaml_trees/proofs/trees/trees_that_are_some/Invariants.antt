@@ -2,7 +2,7 @@ use Rattle.std.proofs.Common.{◌≡◌, drop}
 use Rattle.ytt_base.specs.View.{trees_of}
 use Rattle.yaml_noted.specs.View.{items_of}
 use Rattle.yaml_spec.specs.Noted.{bare_trees, drop_null}
-use Rattle.yaml_trees.specs.Behind.{and_trees}
+use Rattle.ytt_laws.proofs.InTurn.{and_trees}
 use Rattle.yaml_trees.proofs.trees.trees_that_are_some.Given as goal
 
 abbrev pub invariant-loop-item : goal.invariant-loop-item

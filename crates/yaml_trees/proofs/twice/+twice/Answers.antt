@@ -1,7 +1,7 @@
 use Rattle.std.proofs.Common.{rules, ◌≡◌, ◌+◌, false, None, drop}
 use Rattle.yaml_noted.specs.View.{content_of, items_of, note_of}
 use Rattle.yaml_spec.specs.Noted.{key_of, twice}
-use Rattle.yaml_trees.specs.Seen.{is_seen}
+use Rattle.yaml_keys.specs.Seen.{is_seen}
 use Rattle.yaml_trees.proofs.Twices.{among_next, first_item}
 use Rattle.yaml_trees.proofs.twice.+twice.Goals as goal
 

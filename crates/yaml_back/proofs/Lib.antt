@@ -1,0 +1,16 @@
+pub mod BackExamples
+pub mod CutBack
+pub mod DistinctBack
+pub mod GoodBack
+pub mod HeadsBack
+pub mod ItemsBack
+pub mod KeysBack
+pub mod LiteralsBack
+pub mod MarkersBack
+pub mod PlainBack
+pub mod QuotesBack
+pub mod ReadsBack
+pub mod RowsBack
+pub mod TextBack
+pub mod TextLines
+pub mod ValuesBack

@@ -1,0 +1,3 @@
+pub mod BlockIndents
+pub mod BlockTexts
+pub mod BlocksRead

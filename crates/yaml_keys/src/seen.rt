@@ -1,0 +1,51 @@
+// The keys of a map, as a set.
+
+use std::alloc::Global;
+use std::collections::HashSet;
+use std::mem;
+use ytt_base::text::Memory;
+use ytt_base::tree::Key;
+
+/// A set of keys.
+#[derive(Drop)]
+pub struct Seen {
+    null: bool,
+    yes: bool,
+    no: bool,
+    integers: HashSet<i128>,
+    texts: HashSet<String>,
+}
+
+impl Seen {
+    ghost use Rattle.std.specs.Prelude.{◌≡◌, ◌||◌, not, false, IfOk, OnOk};
+    ghost use Rattle.ytt_base.specs.Trees.{Scalar, same_key};
+    ghost use Rattle.ytt_base.specs.View.{key_of};
+    ghost use Rattle.yaml_keys.specs.Seen.{is_seen};
+
+    /// No key. It takes no memory.
+    pub fn new(alloc: Global) -> Seen
+        ensures { (key : Scalar) → is_seen key result ≡ false }
+    {
+        Seen {
+            null: false,
+            yes: false,
+            no: false,
+            integers: HashSet::new(alloc),
+            texts: HashSet::new(alloc),
+        }
+    }
+
+    /// Adds a key, and tells whether it is a new one.
+    pub fn add(&mut self, alloc: Global, key: &Key) -> Result<bool, Memory>
+        ensures told { IfOk result (λ is_new. is_new ≡ not (is_seen (key_of key.now) self.old)) }
+        ensures seen { OnOk result ((other : Scalar) → is_seen other self.new ≡ (same_key other (key_of key.now) || is_seen other self.old)) }
+    {
+        match key {
+            Key::Null => Ok(!mem::replace(&mut self.null, true)),
+            Key::Bool(true) => Ok(!mem::replace(&mut self.yes, true)),
+            Key::Bool(false) => Ok(!mem::replace(&mut self.no, true)),
+            Key::Int(n) => Ok(self.integers.insert(*n)?),
+            Key::Str(text) => Ok(self.texts.insert(String::from_str(alloc, text.as_str())?)?),
+        }
+    }
+}

@@ -1,0 +1,4 @@
+pub mod ByteTests
+pub mod FormTests
+pub mod Integers
+pub mod PlainValues

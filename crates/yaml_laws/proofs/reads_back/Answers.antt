@@ -1,5 +1,0 @@
-use Rattle.yaml_laws.proofs.ReadsBack.{reads_alone}
-use Rattle.yaml_laws.proofs.reads_back.Goals as goal
-
-pub returns : goal.returns
-returns c = λ documents h w. reads_alone documents h w

@@ -1,0 +1,4 @@
+pub mod Escaping
+pub mod Foldings
+pub mod Pieces
+pub mod QuotedLines

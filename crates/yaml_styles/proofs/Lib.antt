@@ -1,0 +1,2 @@
+pub mod QuotedChars
+pub mod StyleTests
