@@ -1,27 +1,40 @@
 -- What the nodes of expressions do.
-use Rattle.std.proofs.Common.{◌≡◌, ℕ, [], refl, ap, ◌∙◌}
+use Rattle.std.proofs.Common.{◌≡◌, ℕ, [], ◌∷◌, refl, sym, subst, ap, ◌∙◌}
 use Rattle.ytt_base.specs.Outcomes.{place_at}
 use Rattle.star_spec.specs.Code as plain
-use Rattle.star_spec.specs.Code.{int, text, name, unary, binary}
-use Rattle.star_spec.specs.Outcomes.{State, paid, then_do}
+use Rattle.star_spec.specs.Code.{Exprs, an_expr}
+use Rattle.star_spec.specs.Outcomes.{State, give, paid, then_do, ◌>>=◌}
 use Rattle.star_spec.specs.Operators.{unary_row, binary_row}
 use Rattle.star_spec.specs.Language.{Call}
-use Rattle.star_spec.specs.Eval.{eval}
-use Rattle.star_spec.specs.Values.{Env}
+use Rattle.star_spec.specs.Eval.{eval, eval_arguments, with_values}
 use Rattle.star_tree.specs.declared.expr.UnOp.{UnOp}
 use Rattle.star_tree.specs.declared.expr.BinOp.{BinOp}
 use Rattle.star_tree.specs.declared.expr.Expr as held
 use Rattle.star_tree.specs.declared.expr.Expr.{Expr}
 use Rattle.star_tree.specs.View.{binary_operator_of, expr_of, unary_operator_of}
-use Rattle.star_tree.proofs.Views.{expr_of-Unary, expr_of-Binary}
+use Rattle.star_tree.proofs.Views.{expr_of-Int, expr_of-Text, expr_of-Unary, expr_of-Binary}
 use Rattle.star_eval.specs.AfterStep.{after_step, place_in}
 
-pub eval_after_step : {H : Type 0} (call : Call H) (e : plain.Expr) (env : Env) (s : State H) → eval call e env s ≡ paid (place_in e) (after_step call e env) s
-eval_after_step call (int p z) env s = refl
-eval_after_step call (text p t) env s = refl
-eval_after_step call (name p x) env s = refl
-eval_after_step call (unary p o a) env s = refl
-eval_after_step call (binary p o a b) env s = refl
+-- each form that is run so far is a step, and then this
+abbrev EvalsAfter : {H : Type 0} → Call H → State H → plain.Expr → Type 0
+EvalsAfter call s e = eval call e [] s ≡ paid (place_in e) (after_step call e []) s
+
+pub eval_after_step : {H : Type 0} (call : Call H) (file : ℕ) (e : Expr) (s : State H) → eval call (expr_of file e) [] s ≡ paid (place_in (expr_of file e)) (after_step call (expr_of file e) []) s
+eval_after_step call file (held.Int l z) s = subst (EvalsAfter call s) (sym (expr_of-Int file l z)) refl
+eval_after_step call file (held.Text l t) s = subst (EvalsAfter call s) (sym (expr_of-Text file l t)) refl
+eval_after_step call file (held.Unary l o a) s = subst (EvalsAfter call s) (sym (expr_of-Unary file l o a)) refl
+eval_after_step call file (held.Binary l o a b) s = subst (EvalsAfter call s) (sym (expr_of-Binary file l o a b)) refl
+
+-- so an argument of these forms goes by position
+abbrev Positional : {H : Type 0} → Call H → Exprs → State H → plain.Expr → Type 0
+Positional call es s e = eval_arguments call (an_expr e es) [] s ≡ then_do (eval call e [] s) (λ v. eval_arguments call es [] >>= λ rest. give (with_values (v ∷ []) rest))
+
+pub argument_first : {H : Type 0} (call : Call H) (file : ℕ) (e : Expr) (es : Exprs) (s : State H) →
+    eval_arguments call (an_expr (expr_of file e) es) [] s ≡ then_do (eval call (expr_of file e) [] s) (λ v. eval_arguments call es [] >>= λ rest. give (with_values (v ∷ []) rest))
+argument_first call file (held.Int l z) es s = subst (Positional call es s) (sym (expr_of-Int file l z)) refl
+argument_first call file (held.Text l t) es s = subst (Positional call es s) (sym (expr_of-Text file l t)) refl
+argument_first call file (held.Unary l o a) es s = subst (Positional call es s) (sym (expr_of-Unary file l o a)) refl
+argument_first call file (held.Binary l o a b) es s = subst (Positional call es s) (sym (expr_of-Binary file l o a b)) refl
 
 pub after_step_unary : {H : Type 0} (call : Call H) (file line : ℕ) (op : UnOp) (a e : Expr) (s : State H) → e ≡ held.Unary line op a → after_step call (expr_of file e) [] s ≡ then_do (eval call (expr_of file a) [] s) (unary_row (place_at file line) (unary_operator_of op))
 after_step_unary call file line op a e s h = ap (λ (x : plain.Expr). after_step call x [] s) (ap (expr_of file) h ∙ expr_of-Unary file line op a)

@@ -1,9 +1,8 @@
 -- How computations end that go on from others.
-use Rattle.std.proofs.Common.{◌≡◌, ℕ, Result, Err, nat_le, Bool, true, false, refl, sym, ap, subst, ◌∙◌}
-use Rattle.ytt_base.specs.declared.fault.Place.{Place}
+use Rattle.std.proofs.Common.{◌≡◌, ℕ, Result, Err, sym, ap, subst, ◌∙◌}
 use Rattle.ytt_base.specs.declared.fault.Stop.{Stop}
 use Rattle.ytt_base.specs.declared.fault.Stop.TheVariants as stop
-use Rattle.star_spec.specs.Outcomes.{State, Ending, done, then_do, Computation, give, paid_if, paid_by}
+use Rattle.star_spec.specs.Outcomes.{State, Ending, done, then_do, Computation}
 use Rattle.star_eval.specs.Meets.{with_steps, Meets}
 
 -- a refusal is the end of all that would follow
@@ -18,14 +17,6 @@ meets_then onto n m o b k r e h = subst (λ o. Meets onto r n (then_do o k)) (sy
 -- the same ending
 pub meets_same : {A B : Type 0} (view : A → B) (r : Result A Stop) (n : ℕ) (o p : Ending (Unit {0}) B) → p ≡ o → Meets view r n o → Meets view r n p
 meets_same view r n o p e h = subst (Meets view r n) (sym e) h
-
-paid_if_first : {H A : Type 0} (b : Bool) (n : ℕ) (p : Place) (m : Computation H A) (s : State H) → paid_if b n p m s ≡ then_do (paid_if b n p (give (tt {0})) s) (λ u. m)
-paid_if_first true n p m s = refl
-paid_if_first false n p m s = refl
-
--- steps are taken first
-pub paid_first : {H A : Type 0} (n : ℕ) (p : Place) (m : Computation H A) (s : State H) → paid_by n p m s ≡ then_do (paid_by n p (give (tt {0})) s) (λ u. m)
-paid_first n p m s = paid_if_first (nat_le n s.steps) n p m s
 
 -- a value, and what follows from it
 pub done_then : {A B : Type 0} (o : Ending (Unit {0}) A) (a : A) (s : State (Unit {0})) (k : A → Computation (Unit {0}) B) (x : Ending (Unit {0}) B) → o ≡ done a s → k a s ≡ x → then_do o k ≡ x

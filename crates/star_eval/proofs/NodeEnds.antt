@@ -3,15 +3,15 @@ use Rattle.std.proofs.Common.{◌≡◌, ℕ, ◌+◌, List, [], ◌∷◌, Resu
 use Rattle.ytt_base.specs.declared.fault.Place.{Place}
 use Rattle.ytt_base.specs.declared.fault.Stop.{Stop}
 use Rattle.ytt_base.specs.View.{tree_of}
-use Rattle.star_spec.specs.Acts.{Flow, on}
+use Rattle.star_spec.specs.Flow.{Flow, on}
 use Rattle.star_spec.specs.Eval.{starlark}
 use Rattle.star_spec.specs.Language.{Call}
 use Rattle.star_spec.specs.Outcomes.{Computation, State, done, give, then_do}
 use Rattle.star_spec.specs.Program.{node_end}
 use Rattle.star_spec.specs.Values.{Children, one, taken}
-use Rattle.star_tree.specs.View.{holds_of, item_kind_of}
+use Rattle.star_tree.specs.View.{holds_of}
 use Rattle.template_spec.specs.Adding.{add_child, add_taken}
-use Rattle.template_spec.specs.Build.{closed_with}
+use Rattle.template_spec.specs.Run.{closed_with}
 use Rattle.template_spec.specs.Run.{Node, node_part}
 use Rattle.star_eval.specs.declared.built.BuiltItem.{BuiltItem}
 use Rattle.star_eval.specs.declared.members.Members.{Members}
@@ -24,7 +24,7 @@ use Rattle.star_eval.proofs.Meeting.{done_then, meets_same, meets_stop}
 -- the node ends as this item
 abbrev pub EndsAs : OpenNode → BuiltItem → Type 0
 EndsAs node item =
-    (children : Children) → add_taken {H = Unit {0}} children node.place (item_kind_of node.kind) (built_notes_of node.notes) (in_scalar_key node.key) (closed_with (holds_of node.holds) (taken (one (tree_of node.value))) (children_of node.children.items)) ≡ add_child children (child_of item)
+    (children : Children) → add_taken {H = Unit {0}} children node.place (built_notes_of node.notes) (in_scalar_key node.key) (closed_with (holds_of node.holds) (taken (one (tree_of node.value))) (children_of node.children.items)) ≡ add_child children (child_of item)
 
 module _ (call : Call (Unit {0})) (place : Place) (node under : OpenNode) (item : BuiltItem) (level : ℕ) (below : List Node) (s : State (Unit {0})) where
   abbrev into : Children → Computation (Unit {0}) (Flow (List Node))

@@ -3,20 +3,21 @@ use Rattle.std.proofs.Common.{◌≡◌, ℕ, ◌+◌, ◌<◌, List, [], ◌∷
 use Rattle.ytt_base.specs.declared.fault.Stop.{Stop}
 use Rattle.ytt_base.specs.declared.fault.Stop.TheVariants as stop
 use Rattle.ytt_base.specs.View.{trees_of}
-use Rattle.star_spec.specs.Acts.{Flow, on, go_on}
+use Rattle.star_spec.specs.Flow.{Flow, on, go_on}
 use Rattle.star_spec.specs.Blocks.{Ops, op_part, no_ops, an_op, at_top, blocks, parse, whole}
 use Rattle.star_spec.specs.Calls.{no_natives}
 use Rattle.star_spec.specs.Eval.{starlark}
 use Rattle.star_spec.specs.Language.{Call}
 use Rattle.star_spec.specs.Outcomes.{State, Ending, done, give, then_do}
 use Rattle.star_spec.specs.Program.{Instruction}
-use Rattle.star_spec.specs.Values.{Children}
 use Rattle.star_tree.specs.declared.program.Instr.{Instr}
 use Rattle.star_tree.specs.declared.program.Instr.TheVariants as instr
 use Rattle.star_tree.specs.declared.program.Program.{Program}
 use Rattle.star_tree.specs.View.{instructions_of, part_of, program_of}
 use Rattle.template_spec.specs.Build.{built}
-use Rattle.template_spec.specs.Meaning.{RunFile, bottom, bottom_children, bottom_flow, documents, frozen_since, in_scope, names_in, program_calls, run_blocks}
+use Rattle.template_spec.specs.Calls.{bottom, bottom_children, bottom_flow, program_calls}
+use Rattle.template_spec.specs.Files.{FileResult, File, Loader, ended, ops_loads}
+use Rattle.template_spec.specs.Meaning.{RunFile, documents, loads_in, names_in, run_blocks}
 use Rattle.template_spec.specs.Names.{ops_names}
 use Rattle.template_spec.specs.Run.{Node, node_part, runs}
 use Rattle.star_eval.specs.declared.node.OpenNode.{OpenNode}
@@ -52,15 +53,19 @@ no_names : (file : ℕ) (code : List Instr) → ops_names (ops_of file code) ≡
 no_names file [] = refl
 no_names file (i ∷ is) = no_names file is
 
-abbrev after_run : Ending (Unit {0}) (Flow (List Node)) → Ending (Unit {0}) Children
-after_run o = then_do (then_do o (λ f. give (built (bottom_flow f)))) (frozen_since 0)
+no_loads : (file : ℕ) (code : List Instr) → ops_loads (ops_of file code) ≡ []
+no_loads file [] = refl
+no_loads file (instr.Node o ∷ is) = no_loads file is
 
-pub file_run : (files : ℕ → List Instruction) (depth : ℕ) (p : Program) (n : ℕ) → RunFile starlark no_natives files depth (program_of p) (with_steps n) ≡ after_run (runs starlark (program_calls starlark no_natives files depth) (ops_of p.file p.code) [] (bottom 0 ∷ []) (with_steps n))
-file_run files depth p n =
+abbrev after_run : Ending (Unit {0}) (Flow (List Node)) → Ending (Unit {0}) FileResult
+after_run o = then_do (then_do o (λ f. give (built (bottom_flow f)))) (ended 0 [])
+
+pub file_run : (loader : Loader (Unit {0})) (files : ℕ → List Instruction) (depth : ℕ) (p : Program) (n : ℕ) → RunFile starlark no_natives loader files depth (program_of p) (with_steps n) ≡ after_run (runs starlark (program_calls starlark no_natives files depth) (ops_of p.file p.code) [] (bottom 0 ∷ []) (with_steps n))
+file_run loader files depth p n =
     let call = program_calls starlark no_natives files depth in
     let cut = ap whole (parsed p.file p.code) in
-    (λ i. in_scope (names_in (cut i)) (λ env. run_blocks starlark call (cut i) env) (with_steps n))
-    ∙ (λ i. in_scope (no_names p.file p.code i) (λ env. run_blocks starlark call (Some (ops_of p.file p.code)) env) (with_steps n))
+    (λ i. File loader (loads_in (cut i)) (names_in (cut i)) (λ env. run_blocks starlark call (cut i) env) (with_steps n))
+    ∙ (λ i. File loader (no_loads p.file p.code i) (no_names p.file p.code i) (λ env. run_blocks starlark call (Some (ops_of p.file p.code)) env) (with_steps n))
 
 -- it ends with a fault
 pub shows_stop : {A : Type 0} (view : A → Flow (List Node)) (x : Stop) (n : ℕ) (r : Result FlatResult Stop) (o : Ending (Unit {0}) (Flow (List Node))) → Meets view (Err x) n o → r ≡ Err x → Shows r (after_run o)

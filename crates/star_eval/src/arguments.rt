@@ -1,8 +1,8 @@
 // Arguments.
 ghost use Rattle.std.specs.Prelude.{[]};
 ghost use Rattle.star_eval.specs.Meets.{Meets, with_steps};
-ghost use Rattle.star_eval.specs.View.{values_of};
-ghost use Rattle.star_spec.specs.Eval.{eval_all};
+ghost use Rattle.star_eval.specs.View.{arguments_of};
+ghost use Rattle.star_spec.specs.Eval.{eval_arguments};
 ghost use Rattle.star_spec.specs.Language.{Call};
 ghost use Rattle.star_tree.specs.View.{exprs_of};
 
@@ -21,7 +21,7 @@ pub(crate) fn eval_args(
     args: &Args,
     steps: &mut u64,
 ) -> Result<Values, Stop>
-    ensures { (call : Call (Unit {0})) → Meets values_of result steps.new (eval_all call (exprs_of file args.now) [] (with_steps steps.old)) }
+    ensures { (call : Call (Unit {0})) → Meets arguments_of result steps.new (eval_arguments call (exprs_of file args.now) [] (with_steps steps.old)) }
 {
     let mut values = Items::new(alloc);
     for arg in args.as_slice() {

@@ -5,7 +5,7 @@ ghost use Rattle.ytt_base.specs.Trees as trees;
 ghost use Rattle.ytt_base.specs.View.{key_of, tree_of};
 ghost use Rattle.star_eval.specs.Meets.{Meets, Tells, with_steps};
 ghost use Rattle.star_eval.specs.View.{node_at, value_of};
-ghost use Rattle.star_spec.specs.Acts.{on};
+ghost use Rattle.star_spec.specs.Flow.{on};
 ghost use Rattle.star_spec.specs.Eval.{starlark};
 ghost use Rattle.star_spec.specs.Language.{Call};
 ghost use Rattle.star_spec.specs.Program.{ItemKind, node_key, node_note, node_value, node_value_from};

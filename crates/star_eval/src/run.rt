@@ -4,13 +4,15 @@ ghost use Rattle.ytt_base.specs.View.{trees_of};
 ghost use Rattle.star_eval.specs.Meets.{Meets, with_steps};
 ghost use Rattle.star_eval.specs.Parts.{Shows, ops_of, part_in};
 ghost use Rattle.star_eval.specs.View.{nodes_of};
-ghost use Rattle.star_spec.specs.Acts.{on};
+ghost use Rattle.star_spec.specs.Flow.{on};
 ghost use Rattle.star_spec.specs.Calls.{no_natives};
 ghost use Rattle.star_spec.specs.Eval.{starlark};
 ghost use Rattle.star_spec.specs.Language.{Call};
 ghost use Rattle.star_spec.specs.Program.{Instruction};
 ghost use Rattle.star_tree.specs.View.{program_of};
-ghost use Rattle.template_spec.specs.Meaning.{RunFile, bottom, bottom_children, documents};
+ghost use Rattle.template_spec.specs.Calls.{bottom, bottom_children};
+ghost use Rattle.template_spec.specs.Files.{Loader};
+ghost use Rattle.template_spec.specs.Meaning.{RunFile, documents};
 ghost use Rattle.template_spec.specs.Run.{node_part, runs};
 
 use crate::documents::documents_of;
@@ -86,7 +88,7 @@ fn documents_in(alloc: Global, mut stack: Stack) -> Result<Trees, Memory>
 /// `ValueKind`, an integer outside 128 bits `IntOverflow`, a division by zero `DivideZero`, and an act for
 /// which no step is left `Steps`. A program that isn't well nested ends with `CodeForm` at no place.
 pub fn run_flat(alloc: Global, program: &Program, mut steps: u64) -> Result<FlatResult, Stop>
-    ensures meaning { (files : ℕ → List Instruction) (depth : ℕ) → Shows result (RunFile starlark no_natives files depth (program_of program.now) (with_steps steps)) }
+    ensures meaning { (loader : Loader (Unit {0})) (files : ℕ → List Instruction) (depth : ℕ) → Shows result (RunFile starlark no_natives loader files depth (program_of program.now) (with_steps steps)) }
 {
     let stack = run_parts(alloc, program.file, &program.code, &mut steps)?;
     Ok(FlatResult {

@@ -6,7 +6,7 @@ ghost use Rattle.ytt_base.specs.declared.fault.Stop.TheVariants as stop;
 ghost use Rattle.ytt_base.specs.Outcomes.{fault_of};
 ghost use Rattle.star_eval.specs.Meets.{Meets, with_steps};
 ghost use Rattle.star_eval.specs.View.{node_at, nodes_of};
-ghost use Rattle.star_spec.specs.Acts.{Flow, on};
+ghost use Rattle.star_spec.specs.Flow.{Flow, on};
 ghost use Rattle.star_spec.specs.Eval.{starlark};
 ghost use Rattle.star_spec.specs.Language.{Call};
 ghost use Rattle.star_spec.specs.Outcomes.{Ending};

@@ -2,7 +2,7 @@
 ghost use Rattle.std.specs.Prelude.{◌≡◌};
 ghost use Rattle.ytt_base.specs.declared.fault.Stop.TheVariants as stop;
 ghost use Rattle.ytt_base.specs.Outcomes.{fault_at};
-ghost use Rattle.star_spec.specs.Outcomes.{give, paid_by};
+ghost use Rattle.star_spec.specs.Outcomes.{take_steps};
 ghost use Rattle.star_eval.specs.Meets.{Meets, with_steps};
 
 use std::alloc::Global;
@@ -22,7 +22,7 @@ pub(crate) fn refusal(alloc: Global, kind: FaultKind, place: Place) -> Stop
 
 /// Takes so many steps at a place, or refuses with `Steps` where fewer are left.
 pub(crate) fn pay(alloc: Global, place: Place, cost: u128, steps: &mut u64) -> Result<(), Stop>
-    ensures { Meets (λ u. u) result steps.new (paid_by cost place (give tt) (with_steps steps.old)) }
+    ensures { Meets (λ u. u) result steps.new (take_steps cost place (with_steps steps.old)) }
 {
     if u128::from(*steps) < cost {
         return Err(refusal(alloc, FaultKind::Steps, place));

@@ -2,7 +2,6 @@
 ghost use Rattle.std.specs.Prelude.{◌≡◌, ◌++◌, IfOk, string_bytes};
 ghost use Rattle.star_spec.specs.Values.{text_value};
 ghost use Rattle.star_spec.specs.Operators.{repeat_text, repeated, sum_row};
-ghost use Rattle.star_spec.specs.Numbers.{at_least_zero};
 ghost use Rattle.star_eval.specs.Meets.{Meets, with_steps};
 ghost use Rattle.star_eval.specs.View.{value_of};
 
@@ -57,7 +56,7 @@ pub(crate) fn repeat(
     times: i128,
     steps: &mut u64,
 ) -> Result<Value, Stop>
-    ensures { Meets value_of result steps.new (repeat_text place text.now (at_least_zero times) (with_steps steps.old)) }
+    ensures { Meets value_of result steps.new (repeat_text place text.now times (with_steps steps.old)) }
 {
     let times = if times < 0 { 0 } else { times as u128 };
     match (text.as_str().len() as u128).checked_mul(1 + times) {

@@ -17,7 +17,8 @@ use Rattle.star_spec.specs.Blocks.{op_part, op_if, op_for, Ops, no_ops, an_op, a
 use Rattle.template_spec.specs.Run.{Node, unset, closed_with, opened, and_note, run, runs, run_arms}
 use Rattle.template_spec.specs.ControlWords.{Around, in_node, within_loop, ItemWordsStand, WordsStand, BranchWordsStand, ContentWordsStand}
 use Rattle.template_spec.proofs.Nested.{notes_ops, key_ops, item_ops, items_ops, arms, content_ops}
-use Rattle.template_spec.proofs.Follows.{then_assoc, then_ext, paid_then, paid_ext, flow_map, mapped, Follows, paid_follows, plain_follows, when_follows, loop_follows}
+use Rattle.star_spec.proofs.Computations.{then_assoc, then_ext, paid_then, paid_ext}
+use Rattle.template_spec.proofs.Follows.{flow_map, mapped, Follows, paid_follows, plain_follows, when_follows, loop_follows}
 use Rattle.template_spec.proofs.Leaving.{OnDone, Fits, items_good}
 
 -- the open node takes what was built

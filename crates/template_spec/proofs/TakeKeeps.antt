@@ -16,7 +16,7 @@ use Rattle.star_spec.specs.Values.{Value, none_value, bool_value, int_value, tex
 use Rattle.star_spec.proofs.EvalKeeps.{in_values}
 use Rattle.star_spec.proofs.Keeping.{Keeps, Anything, keeps_then, keeps_give, keeps_fail, keeps_paid, keeps_if, keeps_reads, keeps_weaker, HeldIfThere, object_held}
 use Rattle.template_spec.specs.Adding.{keys_equal, overrides, key_shown, add_child, add_all, add_taken}
-use Rattle.template_spec.specs.Take.{body_tree, children_trees, children_pairs, scalar_paid, key_paid, below, tree_paid, trees_paid, pairs_paid, children_paid, body_paid, scalar_of_value, trees_by, pairs_by, with_text_keys, object_tree, inner_tree, outer_tree, tree_of_value, levels_at, levels_replaced, elements_at, pairs_at, members_at, fits_kind, children_in_place, replaced, take_over, key_taken}
+use Rattle.template_spec.specs.Take.{body_tree, children_trees, children_pairs, scalar_paid, key_paid, below, tree_paid, trees_paid, pairs_paid, children_paid, body_paid, scalar_of_value, trees_by, pairs_by, with_text_keys, object_tree, inner_tree, outer_tree, deeper_tree, tree_of_value, levels_at, levels_replaced, elements_at, pairs_at, members_at, fits_kind, children_in_place, replaced, take_over, key_taken}
 
 -- ---- depths
 
@@ -230,9 +230,12 @@ outer_keeps n collection p (fragment_value pair_item cs) k h = k
 outer_keeps n collection p (fragment_value element_item cs) k h = k
 outer_keeps n collection p _ k h = keeps_fail kind.NotYaml p []
 
+deeper_keeps : {H : Type 0} (n : ℕ) (p : Place) (v : Value) → HeldValue v → Keeps {H = H} (IsLow n) (deeper_tree n p v)
+deeper_keeps zero p v h = keeps_fail kind.TooDeep p []
+deeper_keeps (suc n) p v h = inner_keeps n (λ w. outer_tree (deeper_tree n p w) p w) p v (λ w k. outer_keeps n (deeper_tree n p w) p w (deeper_keeps n p w k) k) h
+
 pub value_keeps : {H : Type 0} (n : ℕ) (p : Place) (v : Value) → HeldValue v → Keeps {H = H} (IsLow n) (tree_of_value n p v)
-value_keeps zero p v h = outer_keeps zero (fail kind.TooDeep p) p v (keeps_fail kind.TooDeep p []) h
-value_keeps (suc n) p v h = outer_keeps (suc n) (inner_tree (tree_of_value n p) n p v) p v (inner_keeps n (tree_of_value n p) p v (λ w k. value_keeps n p w k) h) h
+value_keeps n p v h = outer_keeps n (deeper_tree n p v) p v (deeper_keeps n p v h) h
 
 -- ---- a node's value
 

@@ -18,7 +18,8 @@ use Rattle.template_spec.specs.Files.{items_loads, all_loads, bind_loaded, ended
 use Rattle.template_spec.specs.Meaning.{run_blocks, Run, RunFile, names_in, loads_in, build_loaded, AllStand, Agrees, FilesAgree, LoadsAgree}
 use Rattle.template_spec.specs.Names.{items_names, ops_names}
 use Rattle.template_spec.specs.ControlWords.{free, WordsStand}
-use Rattle.template_spec.proofs.Follows.{then_ext, mapped}
+use Rattle.star_spec.proofs.Computations.{then_ext}
+use Rattle.template_spec.proofs.Follows.{mapped}
 use Rattle.template_spec.proofs.Runs.{onto, as_block, items_runs}
 use Rattle.template_spec.proofs.NamesAgree.{same_names, same_loads}
 use Rattle.template_spec.proofs.Functions.{to_ops, lifted, blocks_of, tables_agree, IfFound, items_found}

@@ -21,11 +21,14 @@ abbrev pub key_shown : Option Scalar → List ℕ
 key_shown None = []
 key_shown (Some x) = key_text x
 
+abbrev pub in_place_if : {H : Type 0} → Bool → Place → Option Scalar → Children → Computation H Children
+in_place_if overridden p x cs = if overridden then give cs else fail_with kind.KeyTwice p (key_shown x)
+
 -- in the place of the one with its key where it overrides, and else KeyTwice
 abbrev pub add_child : {H : Type 0} → Children → Child → Computation H Children
 add_child no_children c = give (a_child c no_children)
 add_child (a_child (child q ms y d) cs) (child p ns x b) =
-    if keys_equal y x then (if overrides ns then give (a_child (child p ns x b) cs) else fail_with kind.KeyTwice p (key_shown x))
+    if keys_equal y x then in_place_if (overrides ns) p x (a_child (child p ns x b) cs)
     else (add_child cs (child p ns x b) >>= λ all. give (a_child (child q ms y d) all))
 
 abbrev pub add_all : {H : Type 0} → Children → Children → Computation H Children

@@ -132,10 +132,14 @@ outer_tree collection p (fragment_value pair_item cs) = collection
 outer_tree collection p (fragment_value element_item cs) = collection
 outer_tree collection p v = fail kind.NotYaml p
 
--- the tree of a value, where so many levels are left
+-- the tree of a collection, where so many levels are left
+abbrev pub deeper_tree : {H : Type 0} → (levels : ℕ) → Place → Value → Computation H Tree
+deeper_tree zero p v = fail kind.TooDeep p
+deeper_tree (suc n) p v = inner_tree (λ w. outer_tree (deeper_tree n p w) p w) n p v
+
+-- the tree of a value
 abbrev pub tree_of_value : {H : Type 0} → (levels : ℕ) → Place → Value → Computation H Tree
-tree_of_value zero p v = outer_tree (fail kind.TooDeep p) p v
-tree_of_value (suc n) p v = outer_tree (inner_tree (tree_of_value n p) n p v) p v
+tree_of_value n p v = outer_tree (deeper_tree n p v) p v
 
 -- ---- a node's value
 

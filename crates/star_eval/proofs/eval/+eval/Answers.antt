@@ -1,9 +1,7 @@
 use Rattle.std.proofs.Common.{◌≡◌, Err, ◌∙◌, rules}
-use Rattle.star_tree.specs.View.{expr_of}
-use Rattle.star_eval.specs.AfterStep.{after_step, place_in}
 use Rattle.star_eval.specs.View.{value_of}
 use Rattle.star_eval.proofs.Expressions.{after_step_binary, after_step_unary, eval_after_step}
-use Rattle.star_eval.proofs.Meeting.{meets_same, meets_stop, meets_then, paid_first}
+use Rattle.star_eval.proofs.Meeting.{meets_same, meets_stop, meets_then}
 use Rattle.star_eval.proofs.eval.+eval.Goals as goal
 
 pub act-returns-in_err-operand-in-Unary : goal.act-returns-in_err-operand-in-Unary
@@ -38,7 +36,5 @@ act-returns-in_ok-right-in-Binary t c = λ call.
 
 pub eval_expr-returns : goal.eval_expr-returns
 eval_expr-returns t c = λ call.
-    meets_same value_of _ _ _ _
-    (eval_after_step call (expr_of c.args.file c.args.expr.now) _ _
-    ∙ paid_first 1 (place_in (expr_of c.args.file c.args.expr.now)) (after_step call (expr_of c.args.file c.args.expr.now) _) _)
+    meets_same value_of _ _ _ _ (eval_after_step call c.args.file c.args.expr.now _)
     (meets_then value_of _ _ _ _ _ _ (rw c.place_of-place.ensures at c.in_ok-pay.ensures) (c.act.ensures call))

@@ -1,5 +1,5 @@
 use Rattle.std.proofs.Common.{◌≡◌, Err, rules}
-use Rattle.star_spec.specs.Acts.{on}
+use Rattle.star_spec.specs.Flow.{on}
 use Rattle.star_eval.specs.Meets.{with_steps}
 use Rattle.star_eval.specs.View.{nodes_of}
 use Rattle.star_eval.proofs.Running.{parts_next, parts_stop}

@@ -1,7 +1,7 @@
 use Rattle.std.proofs.Common.{◌≡◌, ◌∷◌, [], drop}
 use Rattle.star_spec.specs.Eval.{starlark}
 use Rattle.star_spec.specs.Language.{Call}
-use Rattle.template_spec.specs.Meaning.{bottom}
+use Rattle.template_spec.specs.Calls.{bottom}
 use Rattle.template_spec.specs.Run.{runs}
 use Rattle.star_eval.specs.Meets.{with_steps}
 use Rattle.star_eval.specs.Parts.{ops_of}

@@ -1,5 +1,5 @@
 use Rattle.std.proofs.Common.{◌∷◌, [], length, List, subst, sym, ap, ◌∙◌}
-use Rattle.star_spec.specs.Acts.{on}
+use Rattle.star_spec.specs.Flow.{on}
 use Rattle.star_spec.specs.Eval.{starlark}
 use Rattle.star_spec.specs.Program.{node_end}
 use Rattle.template_spec.specs.Run.{Node, node_part}

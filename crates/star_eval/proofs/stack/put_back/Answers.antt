@@ -1,5 +1,5 @@
 use Rattle.std.proofs.Common.{ap, sym, ◌∙◌}
-use Rattle.star_spec.specs.Acts.{on}
+use Rattle.star_spec.specs.Flow.{on}
 use Rattle.star_spec.specs.Outcomes.{done}
 use Rattle.star_eval.specs.Meets.{with_steps}
 use Rattle.star_eval.specs.View.{nodes_of}

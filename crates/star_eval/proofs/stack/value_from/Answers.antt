@@ -1,5 +1,5 @@
 use Rattle.std.proofs.Common.{◌≡◌, ◌∷◌, [], length, List, rules, subst, sym}
-use Rattle.star_spec.specs.Acts.{on}
+use Rattle.star_spec.specs.Flow.{on}
 use Rattle.star_spec.specs.Eval.{starlark}
 use Rattle.star_spec.specs.Program.{node_value_from}
 use Rattle.star_tree.specs.View.{expr_of}

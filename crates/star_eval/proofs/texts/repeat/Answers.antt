@@ -13,4 +13,4 @@ returns-in-None c =
     ] in
     let large : 2 ^ 128 ≤ length c.as_str.result.now * (1 + c.if-times-lt0.times) = omega (arith, c.in-None.ensures) in
     let bytes : 2 ^ 128 ≤ length c.args.text.now * (1 + c.if-times-lt0.times) = rw c.as_str.ensures at large in
-    rw c.refusal.ensures (past_every_budget c.args.place c.args.text.now (at_least_zero z) c.args.steps.now (omega arith) (subst (λ n. 2 ^ 128 ≤ length c.args.text.now * (1 + n)) times bytes))
+    rw c.refusal.ensures (past_every_budget c.args.place c.args.text.now z c.args.steps.now (omega arith) (subst (λ n. 2 ^ 128 ≤ length c.args.text.now * (1 + n)) times bytes))
