@@ -5,7 +5,7 @@ ghost use Rattle.std.specs.List.{list_any};
 ghost use Rattle.std.specs.Option.{option_map};
 ghost use Rattle.ytt_outside.specs.Counts.{raised};
 ghost use Rattle.ytt_outside.specs.Files.{FilesCounts, IsWithin, count_after, got_of, has_bytes, kind_of, names_of};
-ghost use Rattle.ytt_outside.specs.MemFiles.{bytes_at, calls_in, entries_in, fails_in, faults_in, is_below, is_free, is_listed, name_below, names_below, standing_in};
+ghost use Rattle.ytt_outside.specs.MemFiles.{bytes_at, calls_in, entries_in, fails_in, faults_in, is_below, is_below_none, is_free, is_listed, name_below, names_below, standing_in};
 ghost use Rattle.ytt_outside.specs.Names.{AreSorted};
 ghost use Rattle.ytt_outside.specs.Standing.{file};
 
@@ -46,6 +46,15 @@ impl MemFiles {
             calls: 0,
             faults: 0,
         }
+    }
+
+    /// Whether a file may be added at the path: nothing stands there yet, and none of the folders that
+    /// it lies in is a file. It takes no memory.
+    pub fn is_free(&self, path: &str) -> bool
+        ensures { result ≡ is_free (entries_in self.now) path.now }
+    {
+        let entries = self.entries.as_slice();
+        matches!(kind_at(entries, path), PathKind::Missing) && is_below_none(entries, path)
     }
 
     /// Adds a file with these bytes. After want of memory the files are as before.
@@ -119,6 +128,17 @@ fn is_folder(entries: &[(Text, Bytes)], path: &str) -> bool
         }
     }
     false
+}
+
+fn is_below_none(entries: &[(Text, Bytes)], path: &str) -> bool
+    ensures { result ≡ is_below_none entries.now path.now }
+{
+    for (name, _) in entries {
+        if is_below(name.as_str().as_bytes(), path.as_bytes()) {
+            return false;
+        }
+    }
+    true
 }
 
 fn kind_at(entries: &[(Text, Bytes)], path: &str) -> PathKind

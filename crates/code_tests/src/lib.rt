@@ -1,7 +1,0 @@
-//! The reader of code on whole texts.
-#![tactic(auto)]
-
-#[cfg(test)]
-mod rows;
-#[cfg(test)]
-mod shown;

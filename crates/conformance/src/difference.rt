@@ -1,0 +1,113 @@
+// What differs from what is due, shown so that a person sees it.
+
+use crate::rows::Row;
+use crate::run::{Ran, run_row, run_text};
+use crate::stop::Stop;
+use std::alloc::{AllocError, Global};
+
+/// How many bytes of a text are shown before and behind the first that differs.
+const BEFORE: usize = 60;
+
+const BEHIND: usize = 140;
+
+/// The first place at which two texts differ.
+fn first_difference(left: &[u8], right: &[u8]) -> usize {
+    left.iter()
+        .zip(right.iter())
+        .position(|(a, b)| a != b)
+        .unwrap_or(left.len().min(right.len()))
+}
+
+fn push_char(alloc: Global, line: &mut String, c: char) -> Result<(), AllocError> {
+    match c {
+        '\n' => line.push_str("\\n"),
+        '\t' => line.push_str("\\t"),
+        '\r' => line.push_str("\\r"),
+        '"' => line.push_str("\\\""),
+        '\\' => line.push_str("\\\\"),
+        c if c.is_control() => {
+            let code = format!(in alloc; "\\x{:02X}", c as u32)?;
+            line.push_str(code.as_str())
+        }
+        c => line.push(c),
+    }
+}
+
+/// A text in double quotes, cut around a place where it is long.
+fn shown(alloc: Global, bytes: &[u8], place: usize) -> Result<String, AllocError> {
+    let start = place.saturating_sub(BEFORE);
+    let end = bytes.len().min(place.saturating_add(BEHIND));
+    let part = bytes.get(start..end).unwrap_or(bytes);
+    let mut line = String::from_str(alloc, if start > 0 { "..\"" } else { "\"" })?;
+    for chunk in part.utf8_chunks() {
+        for c in chunk.valid().chars() {
+            push_char(alloc, &mut line, c)?;
+        }
+        for byte in chunk.invalid() {
+            let code = format!(in alloc; "\\x{byte:02X}")?;
+            line.push_str(code.as_str())?;
+        }
+    }
+    line.push_str(if end < bytes.len() { "\".." } else { "\"" })?;
+    Ok(line)
+}
+
+/// The line for a stream that differs, or nothing.
+fn stream_line(alloc: Global, name: &str, is: &[u8], due: &[u8]) -> Result<String, AllocError> {
+    if is == due {
+        return Ok(String::new(alloc));
+    }
+    let place = first_difference(is, due);
+    let is = shown(alloc, is, place)?;
+    let due = shown(alloc, due, place)?;
+    format!(in alloc; "{name} is {is} and not {due}, from byte {place} on\n")
+}
+
+/// A line for each difference of what a run left from what is due, or nothing.
+fn compared(
+    alloc: Global,
+    ran: &Ran,
+    status: u8,
+    out: &[u8],
+    err: &[u8],
+) -> Result<String, AllocError> {
+    let mut lines = String::new(alloc);
+    if ran.status != status {
+        let line = format!(in alloc; "status is {} and not {status}\n", ran.status)?;
+        lines.push_str(line.as_str())?;
+    }
+    let out = stream_line(alloc, "out", ran.out.bytes(), out)?;
+    lines.push_str(out.as_str())?;
+    let err = stream_line(alloc, "err", ran.err.bytes(), err)?;
+    lines.push_str(err.as_str())?;
+    Ok(lines)
+}
+
+/// Puts each of the lines behind the text, behind a few words.
+fn push_lines(text: &mut String, about: &str, lines: &str) -> Result<(), AllocError> {
+    for line in lines.split_inclusive('\n') {
+        text.push_str(about)?;
+        text.push_str(line)?;
+    }
+    Ok(())
+}
+
+/// What the row gives in place of what is due, a line for each difference.
+pub fn differences(alloc: Global, row: &Row) -> Result<String, Stop> {
+    let (status, out, err) = (row.status, row.out.as_slice(), row.err.as_slice());
+    let enough = row.steps.as_ref().map(|steps| steps.enough);
+    let ran = run_row(alloc, row, enough)?;
+    let mut text = compared(alloc, &ran, status, out, err)?;
+    if let Some(steps) = &row.steps {
+        let ran = run_row(alloc, row, Some(steps.enough.saturating_sub(1)))?;
+        let err = format!(in alloc; "error: Steps at {}\n", steps.place.as_str())?;
+        let lines = compared(alloc, &ran, 1, b"", err.as_bytes())?;
+        push_lines(&mut text, "with one step less ", lines.as_str())?;
+    }
+    if status == 0 {
+        let ran = run_text(alloc, out)?;
+        let lines = compared(alloc, &ran, 0, out, b"")?;
+        push_lines(&mut text, "printed again ", lines.as_str())?;
+    }
+    Ok(text)
+}
