@@ -10,6 +10,7 @@ use Rattle.star_spec.specs.Eval.{starlark}
 use Rattle.star_spec.specs.Language.{Call}
 use Rattle.star_spec.specs.Outcomes.{State, Ending, done, give, then_do}
 use Rattle.star_spec.specs.Program.{Instruction}
+use Rattle.star_spec.specs.Values.{Env}
 use Rattle.star_tree.specs.declared.program.Instr.{Instr}
 use Rattle.star_tree.specs.declared.program.Instr.TheVariants as instr
 use Rattle.star_tree.specs.declared.program.Program.{Program}
@@ -30,18 +31,18 @@ use Rattle.ytt_laws.proofs.Lists.{dropped}
 
 -- ---- one part after another
 
-module _ (call : Call (Unit {0})) (file : ℕ) (code : List Instr) (j : ℕ) (i : Instr) (lt : j < length code) (is : i ≡ get_or code j i) (before : Ending (Unit {0}) (Flow (List Node))) (ns : List Node) (s : State (Unit {0})) where
+module _ (call : Call (Unit {0})) (env : Env) (file : ℕ) (code : List Instr) (j : ℕ) (i : Instr) (lt : j < length code) (is : i ≡ get_or code j i) (before : Ending (Unit {0}) (Flow (List Node))) (ns : List Node) (s : State (Unit {0})) where
   abbrev SoFar : Type 0
-  SoFar = before ≡ runs starlark call (ops_of file (drop j code)) [] ns s
+  SoFar = before ≡ runs starlark call (ops_of file (drop j code)) env ns s
 
-  split : SoFar → before ≡ then_do (node_part starlark call (part_in file i) [] ns s) (go_on (runs starlark call (ops_of file (drop (j + 1) code)) []))
-  split h = h ∙ ap (λ l. runs starlark call (ops_of file l) [] ns s) (dropped code j i lt is)
+  split : SoFar → before ≡ then_do (node_part starlark call (part_in file i) env ns s) (go_on (runs starlark call (ops_of file (drop (j + 1) code)) env))
+  split h = h ∙ ap (λ l. runs starlark call (ops_of file l) env ns s) (dropped code j i lt is)
 
-  pub parts_next : (ms : List Node) (t : State (Unit {0})) → SoFar → node_part starlark call (part_in file i) [] ns s ≡ done (on ms) t → before ≡ runs starlark call (ops_of file (drop (j + 1) code)) [] ms t
-  parts_next ms t h e = split h ∙ ap (λ o. then_do o (go_on (runs starlark call (ops_of file (drop (j + 1) code)) []))) e
+  pub parts_next : (ms : List Node) (t : State (Unit {0})) → SoFar → node_part starlark call (part_in file i) env ns s ≡ done (on ms) t → before ≡ runs starlark call (ops_of file (drop (j + 1) code)) env ms t
+  parts_next ms t h e = split h ∙ ap (λ o. then_do o (go_on (runs starlark call (ops_of file (drop (j + 1) code)) env))) e
 
-  pub parts_stop : {A : Type 0} (view : A → Flow (List Node)) (x : Stop) (n : ℕ) (r : Result (List OpenNode) Stop) → SoFar → Meets view (Err x) n (node_part starlark call (part_in file i) [] ns s) → r ≡ Err x → Meets (λ st. on (nodes_of st)) r n before
-  parts_stop view x n r h m e = meets_same (λ st. on (nodes_of st)) r n _ before (split h) (meets_stop view (λ st. on (nodes_of st)) x n _ _ r m e)
+  pub parts_stop : {A : Type 0} (view : A → Flow (List Node)) (x : Stop) (t : State (Unit {0})) (r : Result (List OpenNode) Stop) → SoFar → Meets view (Err x) t (node_part starlark call (part_in file i) env ns s) → r ≡ Err x → Meets (λ st. on (nodes_of st)) r t before
+  parts_stop view x t r h m e = meets_same (λ st. on (nodes_of st)) r t _ before (split h) (meets_stop view (λ st. on (nodes_of st)) x t _ _ r m e)
 
 -- ---- the whole program
 
@@ -68,10 +69,10 @@ file_run loader files depth p n =
     ∙ (λ i. File loader (no_loads p.file p.code i) (no_names p.file p.code i) (λ env. run_blocks starlark call (Some (ops_of p.file p.code)) env) (with_steps n))
 
 -- it ends with a fault
-pub shows_stop : {A : Type 0} (view : A → Flow (List Node)) (x : Stop) (n : ℕ) (r : Result FlatResult Stop) (o : Ending (Unit {0}) (Flow (List Node))) → Meets view (Err x) n o → r ≡ Err x → Shows r (after_run o)
-shows_stop view (stop.Fault f) n r o h e = subst (λ r. Shows r (after_run o)) (sym e) (subst (λ o. Shows (Err (stop.Fault f)) (after_run o)) (sym h) refl)
-shows_stop view stop.Memory n r o h e = subst (λ r. Shows r (after_run o)) (sym e) tt
+pub shows_stop : {A : Type 0} (view : A → Flow (List Node)) (x : Stop) (s : State (Unit {0})) (r : Result FlatResult Stop) (o : Ending (Unit {0}) (Flow (List Node))) → Meets view (Err x) s o → r ≡ Err x → Shows r (after_run o)
+shows_stop view (stop.Fault f) s r o h e = subst (λ r. Shows r (after_run o)) (sym e) (subst (λ o. Shows (Err (stop.Fault f)) (after_run o)) (sym h) refl)
+shows_stop view stop.Memory s r o h e = subst (λ r. Shows r (after_run o)) (sym e) tt
 
 -- it ends with documents
-pub shows_documents : (r : FlatResult) (n : ℕ) (ns : List Node) (o : Ending (Unit {0}) (Flow (List Node))) → o ≡ done (on ns) (with_steps n) → trees_of r.documents ≡ documents (bottom_children ns) → r.steps_left ≡ n → Shows (Ok r) (after_run o)
-shows_documents r n ns o h d e = subst (λ o. Shows (Ok r) (after_run o)) (sym h) (sym d, sym e)
+pub shows_documents : (r : FlatResult) (s : State (Unit {0})) (ns : List Node) (o : Ending (Unit {0}) (Flow (List Node))) → o ≡ done (on ns) s → trees_of r.documents ≡ documents (bottom_children ns) → r.steps_left ≡ s.steps → Shows (Ok r) (after_run o)
+shows_documents r s ns o h d e = subst (λ o. Shows (Ok r) (after_run o)) (sym h) (sym d, sym e)

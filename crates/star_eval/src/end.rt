@@ -9,7 +9,7 @@ ghost use Rattle.star_spec.specs.Flow.{on};
 ghost use Rattle.star_spec.specs.Eval.{starlark};
 ghost use Rattle.star_spec.specs.Language.{Call};
 ghost use Rattle.star_spec.specs.Program.{node_end};
-ghost use Rattle.star_spec.specs.Values.{Children, one, taken};
+ghost use Rattle.star_spec.specs.Values.{Children, Env, one, taken};
 ghost use Rattle.star_tree.specs.View.{holds_of};
 ghost use Rattle.template_spec.specs.Adding.{add_child, add_taken};
 ghost use Rattle.template_spec.specs.Run.{closed_with};
@@ -49,7 +49,7 @@ fn closed(node: OpenNode) -> BuiltItem
 
 /// The node under one that ends, which is added to its items.
 pub(crate) fn ended(alloc: Global, node: OpenNode, mut under: OpenNode) -> Result<OpenNode, Stop>
-    ensures { (call : Call (Unit {0})) (place : Place) (level : ℕ) (below : List Node) → Tells (λ u. on (node_at level u ∷ below)) result (node_part starlark call (node_end place) [] (node_at (level + 1) node ∷ node_at level under ∷ below)) }
+    ensures { (call : Call (Unit {0})) (env : Env) (place : Place) (level : ℕ) (below : List Node) → Tells (λ u. on (node_at level u ∷ below)) result (node_part starlark call (node_end place) env (node_at (level + 1) node ∷ node_at level under ∷ below)) }
 {
     under.children = add_item(alloc, under.children, closed(node))?;
     Ok(under)
