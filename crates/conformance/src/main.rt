@@ -1,30 +1,16 @@
-//! Runs command lines that are written down as rows of text, and compares what each gives with what is due.
+//! Runs rows: command lines that are written down as text, over files and sinks in memory. It writes a line for each difference
+//! from what is due and a last line that counts, and ends with the status 1 where one differs or an archive has no such form.
 //!
-//! It takes each archive, a file `NAME.txtar` of the folder where it runs, and runs its rows over files and sinks in memory. It
-//! writes a line for each difference, with the archive and the title of the row, and a last line that counts. It ends with the
-//! status 1 where a row differs or an archive has no such form.
+//! **An archive** is a file `NAME.txtar` where it runs, in the form of Go's tools: a comment, and then again and again a line
+//! that is exactly `-- NAME --` and the text below it as it stands. **A row** begins at `-- row TITLE --`. Below it `words` is
+//! the command line, without it `render -f a.yml`; `out`, `err` and `status` what is due, without them nothing and 0; `steps`
+//! holds `N FILE:LINE`, the budget that just suffices and where one step less is short; `fails` what fails, by lines as `files 2`,
+//! `out 1 after 3` and `err room 22`; any other name is a file in memory.
 //!
-//! **An archive** has the form txtar of Go's tools: a comment, and then, again and again, a line that is exactly `-- NAME --` and
-//! the text below it, as it stands, each line with its break. **A row** begins at `-- row TITLE --`, whose text may explain it.
-//! Below it stand, each at most once and in any order:
-//!
-//! | Name | Its text |
-//! |---|---|
-//! | `words` | the command line on one line, its words separated by single spaces; without it `render -f a.yml` |
-//! | `out`, `err` | what is due on the two streams; without it nothing |
-//! | `status` | the exit status that is due; without it 0 |
-//! | `steps` | `N FILE:LINE`: with `--steps N` behind the words the row is as it says; with one step less it is the fault `Steps` there |
-//! | `fails` | what fails, a line for each: `files 2` is the second call of the files; `out 1 after 3` the first write to `out`, after three bytes; `out room 107` one that goes past so many bytes; `err` likewise |
-//! | any other | the file in memory at that path |
-//!
-//! **A text by rule**, below `-- NAME by rule --`, has a rule on each line, and is what they give, one behind the other without
-//! breaks between: `text "a\n"` gives that text; `repeat 3 "a\n"` gives it so many times; `indented 3 "a\n"` too, each time with two
-//! spaces more before it, at first none; `numbered 3 "a{}\n"` with the numbers 0, 1 and 2 for `{}`. **A text from a file**, at
-//! `-- NAME from PATH --`, is that file's of the folder where it runs, and nothing stands below.
-//!
-//! A word in double quotes, in a rule and in `words`, may hold spaces and `\n`, `\t`, `\r`, `\"`, `\\` and `\xHH`.
-//!
-//! What a row with the status 0 prints is run once more as the file `a.yml`, and has to give itself.
+//! Below `-- NAME by rule --` stands a rule on each line, `text "..."`, `repeat N "..."`, `indented N "..."` or `numbered N "..."`,
+//! and `-- NAME from PATH --` takes the text of a file where it runs. In double quotes, in a rule and in `words`, may stand
+//! spaces and `\n`, `\t`, `\r`, `\"`, `\\`, `\xHH`. What a row with the status 0 prints is run once more and has to give itself.
+//! The page `docs/conformance.md` says all of this at length.
 #![tactic(auto)]
 
 mod archive;

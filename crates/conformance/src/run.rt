@@ -41,7 +41,7 @@ pub fn run_words(alloc: Global, row: &Row, words: &[String]) -> Result<Ran, Stop
     let mut files = files(alloc, row)?;
     let mut out = sink(alloc, &row.out_fails, row.out.len())?;
     let mut err = sink(alloc, &row.err_fails, row.err.len())?;
-    let status = ytt_main(alloc, words, &mut files, &mut out, &mut err) as u8;
+    let status = ytt_main(alloc, words, &mut files, &mut out, &mut err).code();
     Ok(Ran { status, out, err })
 }
 

@@ -25,14 +25,15 @@ const PATHS: &[(&str, u64, &str)] = &[
     ("/b.yml", 3, "file; abc"),
     ("/b.yml", 2, "file; too large"),
     // a folder that is read as a file, and a file that is a folder on the way
-    ("", 3, "folder B b.yml link loop é; missing"),
+    ("", 3, "folder B b.yml link loop nothing é; missing"),
     ("/b.yml/c", 3, "missing; missing"),
     ("/b.yml/", 3, "missing; missing"),
     // a link to a file
     ("/link", 3, "file; abc"),
-    // a loop of links fails at each call
-    ("/loop", 3, "failed failed; failed"),
-    ("/loop/a.yml", 3, "failed failed; failed"),
+    // nothing can stand behind a loop of links, and nothing does behind a link to nothing
+    ("/loop", 3, "missing; missing"),
+    ("/loop/a.yml", 3, "missing; missing"),
+    ("/nothing", 3, "missing; missing"),
 ];
 
 #[test]
@@ -44,6 +45,7 @@ fn the_machine_has_its_files(rt: HostRuntime) -> Result<(), Fail> {
     fs::write(&rt, format!(in alloc; "{folder}/B")?, "")?;
     symlink(&rt, "b.yml", format!(in alloc; "{folder}/link")?)?;
     symlink(&rt, "loop", format!(in alloc; "{folder}/loop")?)?;
+    symlink(&rt, "c.yml", format!(in alloc; "{folder}/nothing")?)?;
     let mut files = HostFiles::new(rt);
     let mut all = Vec::new(alloc);
     for (path, limit, want) in PATHS {
@@ -57,6 +59,20 @@ fn the_machine_has_its_files(rt: HostRuntime) -> Result<(), Fail> {
     }
     let told = told(alloc, &mut files, "/dev/zero", 3)?;
     assert_eq!(rt; told.as_str(), "file; too large");
+    Ok(())
+}
+
+/// A name of more bytes than the machine's names have.
+#[test]
+fn a_name_that_is_too_long_is_missing(rt: HostRuntime) -> Result<(), Fail> {
+    let alloc = rt.alloc();
+    let mut path = String::from_str(alloc, "/tmp/")?;
+    for _ in 0..300u32 {
+        path.push('p')?;
+    }
+    let mut files = HostFiles::new(rt);
+    let told = told(alloc, &mut files, path.as_str(), 3)?;
+    assert_eq!(rt; told.as_str(), "missing; missing");
     Ok(())
 }
 

@@ -1,4 +1,4 @@
-//! Texts, trees and faults, files and sinks in memory, and the machine's files and streams.
+//! Texts, trees and faults, files and sinks in memory, and the machine's files, streams and words.
 #![tactic(auto)]
 
 #[cfg(test)]
@@ -9,3 +9,5 @@ mod files;
 mod host;
 #[cfg(test)]
 mod sinks;
+#[cfg(test)]
+mod words;

@@ -4,7 +4,7 @@ use sqlite_items::Items;
 use std::test::Fail;
 use test_shown::{Differing, shown_stop, shown_tree};
 use yaml_lines::cut_lines;
-use yaml_scalar::{ScalarKind, fits_plain, fold, key_text, plain_kind, type_plain};
+use yaml_scalar::{ScalarKind, fold, key_text, plain_kind, type_plain};
 use ytt_base::fault::Place;
 use ytt_base::text::{Text, Texts};
 use ytt_base::tree::Key;
@@ -92,7 +92,6 @@ fn keys_have_their_texts(rt: HostRuntime) -> Result<(), Fail> {
     ] {
         let text = key_text(alloc, &Key::Str(Text::of(alloc, string)?))?;
         wrong.compare(string, text.as_str(), want)?;
-        assert_eq!(rt; fits_plain(string), string == want, "at {string}");
     }
     assert_eq!(rt; key_text(alloc, &Key::Int(-7))?.as_str(), "-7");
     assert_eq!(rt; wrong.as_str(), "");

@@ -25,5 +25,6 @@ pub fn printed_is_plain()
 /// A text reads as at most one list of documents, and two lists of documents have one text only where they are one.
 pub fn reads_one()
     ensures one_list { (bytes : List ℕ) (some others : Trees) → Reads bytes some → Reads bytes others → some ≡ others }
-    ensures one_text { (some others : Trees) → AreTrees some → Writable some → AreTrees others → Writable others → Text some ≡ Text others → some ≡ others }
+    ensures one_text { (some others : Trees) → AreTrees some → Writable some → AreTrees others → Writable others →
+        Text some ≡ Text others → some ≡ others }
 {}

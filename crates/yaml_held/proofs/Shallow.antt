@@ -20,7 +20,7 @@ use Rattle.yaml_spec.specs.Read.{Segment, first_content, document_content, marke
 use Rattle.yaml_spec.specs.Entries.{Entry, is_dash_mark, starts_with_dash, cut_block, over, behind_head, Found, content_of, entry_content, entry, entry_at, entries, Doc}
 use Rattle.std.specs.Result.{IfOk}
 use Rattle.std.proofs.lemmas.Result.{IfOk-at_ok}
-use Rattle.ytt_laws.proofs.Yielded.{yielded_behind, yielded_either, yielded_option, yielded_if, yielded_option, yielded_then}
+use Rattle.ytt_laws.proofs.Yielded.{yielded_behind, yielded_either, yielded_if, yielded_option, yielded_then}
 
 -- ---- in brackets
 

@@ -12,5 +12,6 @@ ghost use Rattle.yaml_spec.specs.Text.{Text};
 pub fn reads_writable()
     ensures held { (file : ℕ) (bytes : List ℕ) (documents : Trees) → read_trees file bytes ≡ Ok documents → AreTrees documents }
     ensures writable { (file : ℕ) (bytes : List ℕ) (documents : Trees) → read_trees file bytes ≡ Ok documents → Writable documents }
-    ensures back { (file : ℕ) (bytes : List ℕ) (documents : Trees) → read_trees file bytes ≡ Ok documents → ReadsAlone (Text documents) documents }
+    ensures back { (file : ℕ) (bytes : List ℕ) (documents : Trees) → read_trees file bytes ≡ Ok documents →
+        ReadsAlone (Text documents) documents }
 {}

@@ -11,5 +11,6 @@ ghost use Rattle.yaml_spec.specs.Rows.{rows};
 /// One pass over a document's lines, with a stack of open blocks, finds what cutting them top down finds: the content
 /// and the comments behind it, or the same first fault.
 pub fn passes_as_cut()
-    ensures { (stop : ℕ) (is_owned : Bool) (comments : List Comment) (lines : List Line) → pass stop is_owned 0 0 comments [] wanting lines ≡ passed_by (rows stop is_owned 0 0 comments lines) }
+    ensures { (stop : ℕ) (is_owned : Bool) (comments : List Comment) (lines : List Line) →
+        pass stop is_owned 0 0 comments [] wanting lines ≡ passed_by (rows stop is_owned 0 0 comments lines) }
 {}

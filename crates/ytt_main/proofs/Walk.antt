@@ -1,13 +1,12 @@
 -- How the options are read, one after another.
-use Rattle.std.proofs.Common.{◌≡◌, ◌≢◌, ℕ, ◌+◌, ◌<◌, Bool, true, false, ◌&&◌, ◌||◌, cond, eqb, List, [], ◌∷◌, ◌++◌, length, map, Option, Some, None, Result, Ok, Err, Bor, is_none, is_some, option_and_then, unwrap_or, refl, ap, sym, subst, ◌∙◌, arith, ⊎_elim, suc, append-nil}
+use Rattle.std.proofs.Common.{◌≡◌, ◌≢◌, ℕ, ◌+◌, ◌<◌, Bool, true, false, cond, eqb, List, [], ◌∷◌, ◌++◌, length, map, Option, Some, None, Result, Ok, Err, Bor, is_some, unwrap_or, refl, ap, sym, subst, ◌∙◌, arith, ⊎_elim, suc, append-nil}
 use Rattle.std.proofs.lemmas.Bool.Decides.{eqb_tells}
 use Rattle.std.specs.List.{after_first, before_first, position_or_len}
-use Rattle.std.specs.Option.{option_map_or}
-use Rattle.ytt_spec.proofs.Options.{asked_next, named_holds, next, values_of-append}
+use Rattle.ytt_spec.proofs.Options.{asked_next, begun_stands, named_holds, next, values_of-append}
 use Rattle.ytt_spec.proofs.WordsRead.{request_read}
 use Rattle.ytt_spec.proofs.WrongWords.{wrong_words}
-use Rattle.ytt_spec.specs.Words.{render, wrong, CommandOption, Given, Often, exactly_once, at_most_once, added, asked, asked_from, begun, command_options, default_steps, equals, file_option, first_of, may_follow, may_have, name_in, named, number_of, path_given, steps_given, steps_option, value_in, values_of}
-use Rattle.ytt_main.specs.Asks.{Asks, AsksFor, HaveRead, one_or_none, text_in, value_behind}
+use Rattle.ytt_spec.specs.Words.{wrong, CommandOption, Given, Often, exactly_once, at_most_once, added, asked, asked_from, begun, command_options, equals, file_option, is_steps, may_follow, name_in, number_of, steps_option, value_in, values_of}
+use Rattle.ytt_main.specs.Asks.{Asks, AsksFor, HaveRead, value_behind}
 use Rattle.ytt_main.specs.declared.words.Request.{Request}
 use Rattle.ytt_main.specs.declared.words.Values.{Values}
 
@@ -37,26 +36,6 @@ cut_some (b ∷ bs) h = ⊎_elim
 
 -- ---- the options that were read
 
-pub file_follows : (path : Option (Bor (List ℕ))) (vs : List (List ℕ)) → vs ≡ one_or_none (text_in path) → is_none path ≡ may_follow exactly_once vs
-file_follows None [] e = refl
-file_follows None (v ∷ vs) e = cc
-file_follows (Some t) [] e = cc
-file_follows (Some t) (v ∷ vs) e = refl
-
-pub steps_follow : (steps : Option ℕ) (vs : List (List ℕ)) → map number_of vs ≡ one_or_none steps → is_none steps ≡ may_follow at_most_once vs
-steps_follow None [] e = refl
-steps_follow None (v ∷ vs) e = cc
-steps_follow (Some n) [] e = cc
-steps_follow (Some n) (v ∷ vs) e = refl
-
--- an option that a word names begins where it may
-pub begins : (gs : List Given) (name : List ℕ) (value : Option (List ℕ)) (o : CommandOption) (b : Bool) → named name command_options ≡ Some o → ((o.is_long || is_none value) && may_follow o.often (values_of o.name gs)) ≡ b
-    → begun gs name value ≡ cond b (Some o) None
-begins gs name value o b found h =
-    let is : o.name ≡ name = (named_holds (λ (x : CommandOption). true) name command_options o found refl).1 in
-    ap (option_and_then (λ x. cond ((x.is_long || is_none value) && may_follow x.often (values_of name gs)) (Some x) None)) found
-    ∙ ap (λ t. cond t (Some o) None) (ap (λ m. (o.is_long || is_none value) && may_follow o.often (values_of m gs)) (sym is) ∙ h)
-
 none_before : (often : Often) (vs : List (List ℕ)) → may_follow often vs ≡ true → vs ≡ []
 none_before exactly_once [] h = refl
 none_before at_most_once [] h = refl
@@ -71,11 +50,15 @@ file_read gs values text is_joined h f = record {
   numbers = ap (map number_of) (values_of-append steps_option.name gs _ ∙ append-nil (values_of steps_option.name gs)) ∙ h.numbers;
 }
 
-pub steps_read : (gs : List Given) (values : Values) (text : List ℕ) (is_joined : Bool) → HaveRead gs values → may_follow at_most_once (values_of steps_option.name gs) ≡ true
-    → HaveRead (added gs steps_option.name text is_joined) (record values { steps = Some (number_of text) })
-steps_read gs values text is_joined h f = record {
+number_read : (text : List ℕ) (n : ℕ) (b : Bool) → Some n ≡ cond b (Some (number_of text)) None → number_of text ≡ n
+number_read text n true e = cc
+number_read text n false e = cc
+
+pub steps_read : (gs : List Given) (values : Values) (text : List ℕ) (n : ℕ) (is_joined : Bool) → Some n ≡ cond (is_steps text) (Some (number_of text)) None → HaveRead gs values
+    → may_follow at_most_once (values_of steps_option.name gs) ≡ true → HaveRead (added gs steps_option.name text is_joined) (record values { steps = Some n })
+steps_read gs values text n is_joined e h f = record {
   paths = values_of-append file_option.name gs _ ∙ append-nil (values_of file_option.name gs) ∙ h.paths;
-  numbers = ap (map number_of) (values_of-append steps_option.name gs _ ∙ ap (λ vs. vs ++ (text ∷ [])) (none_before at_most_once _ f));
+  numbers = ap (map number_of) (values_of-append steps_option.name gs _ ∙ ap (λ vs. vs ++ (text ∷ [])) (none_before at_most_once _ f)) ∙ ap (λ m. m ∷ []) (number_read text n (is_steps text) e);
 }
 
 -- ---- one option more
@@ -94,41 +77,35 @@ value_read n gs name o None (v ∷ words) t e =
     let is : (v, n + 1, words) ≡ t = ap (λ (r : Option Behind). unwrap_or r (v, n + 1, words)) e in
     subst (λ (x : Behind). next n gs name (v ∷ words) (Some o) None ≡ cond (o.is_value x.0) (asked_from (x.1 + 1) (added gs name x.0 false) x.2) (wrong x.1)) is refl
 
-pub no_option : (n : ℕ) (gs : List Given) (word : List ℕ) (words : List (List ℕ)) → begun gs (name_in word) (value_in word) ≡ None → asked_from n gs (word ∷ words) ≡ wrong n
-no_option n gs word words e = asked_next n gs word words ∙ ap (λ o. next n gs (name_in word) words o (value_in word)) e
-
-pub no_value : (n : ℕ) (gs : List Given) (word : List ℕ) (words : List (List ℕ)) (o : CommandOption) → begun gs (name_in word) (value_in word) ≡ Some o → value_behind n (value_in word) words ≡ None → asked_from n gs (word ∷ words) ≡ wrong (n + 1)
-no_value n gs word words o e f = asked_next n gs word words ∙ ap (λ o. next n gs (name_in word) words o (value_in word)) e ∙ by (value_in word) words f
-  where
-    by : (value : Option (List ℕ)) (words : List (List ℕ)) → value_behind n value words ≡ None → next n gs (name_in word) words (Some o) value ≡ wrong (n + 1)
-    by (Some v) words f = cc
-    by None [] f = refl
-    by None (v ∷ words) f = cc
-
 pub one_option : (n : ℕ) (gs : List Given) (word : List ℕ) (words : List (List ℕ)) (o : CommandOption) (t : Behind) (b : Bool) → begun gs (name_in word) (value_in word) ≡ Some o → value_behind n (value_in word) words ≡ Some t → o.is_value t.0 ≡ b
     → asked_from n gs (word ∷ words) ≡ cond b (asked_from (t.1 + 1) (added gs (name_in word) t.0 (is_some (value_in word))) t.2) (wrong t.1)
 one_option n gs word words o t b e f h =
     asked_next n gs word words ∙ ap (λ o. next n gs (name_in word) words o (value_in word)) e ∙ value_read n gs (name_in word) o (value_in word) words t f
     ∙ ap (λ c. cond c (asked_from (t.1 + 1) (added gs (name_in word) t.0 (is_some (value_in word))) t.2) (wrong t.1)) h
 
--- ---- the end of the words
+-- behind an option that was read, the words go on with its value
+pub step_read : (n : ℕ) (gs : List Given) (word : List ℕ) (words : List (List ℕ)) (o : CommandOption) (t : Behind) (values new : Values) (name : List ℕ) (value : Option (List ℕ)) → name ≡ name_in word → value ≡ value_in word → HaveRead gs values
+    → begun gs name value ≡ Some o → value_behind n value words ≡ Some t → o.is_value t.0 ≡ true
+    → ((hs : List Given) (is_joined : Bool) → HaveRead hs values → may_follow o.often (values_of o.name hs) ≡ true → HaveRead (added hs o.name t.0 is_joined) new)
+    → (hs : List Given) × HaveRead hs new × (asked_from (t.1 + 1) hs t.2 ≡ asked_from n gs (word ∷ words))
+step_read n gs word words o t values new name value named_is value_is read starts behind good put =
+    let begins : begun gs (name_in word) (value_in word) ≡ Some o = (λ i. begun gs (sym named_is i) (sym value_is i)) ∙ starts in
+    let at = begun_stands gs (name_in word) (value_in word) o begins in
+    let is : o.name ≡ name_in word = (named_holds (λ (x : CommandOption). true) (name_in word) command_options o at.found refl).1 in
+    let follows : may_follow o.often (values_of o.name gs) ≡ true = ap (λ m. may_follow o.often (values_of m gs)) is ∙ at.follows in
+    let joined = is_some (value_in word) in (
+      added gs (name_in word) t.0 joined,
+      subst (λ (m : List ℕ). HaveRead (added gs m t.0 joined) new) is (put gs joined read follows),
+      sym (one_option n gs word words o t true begins (ap (λ v. value_behind n v words) (sym value_is) ∙ behind) good),
+    )
 
-pub no_path : (n : ℕ) (gs : List Given) (values : Values) → HaveRead gs values → values.path ≡ None → asked_from n gs [] ≡ wrong n
-no_path n gs values h e =
-    ap (λ vs. cond (may_have exactly_once vs && (may_have at_most_once (values_of steps_option.name gs) && true)) (render (path_given gs) (steps_given gs)) (wrong n)) (h.paths ∙ ap (λ p. one_or_none (text_in p)) e)
-
-steps_ended : (steps : Option ℕ) (vs : List (List ℕ)) → map number_of vs ≡ one_or_none steps → (may_have at_most_once vs ≡ true) × (option_map_or number_of (first_of vs) default_steps ≡ unwrap_or steps default_steps)
-steps_ended None [] e = (refl, refl)
-steps_ended None (v ∷ vs) e = cc
-steps_ended (Some n) [] e = cc
-steps_ended (Some n) (v ∷ []) e = let is : number_of v ≡ n = cc in (refl, is)
-steps_ended (Some n) (v ∷ w ∷ vs) e = cc
-
-pub a_path : (n : ℕ) (gs : List Given) (values : Values) (path : Bor (List ℕ)) → HaveRead gs values → values.path ≡ Some path → asked_from n gs [] ≡ render path.now (unwrap_or values.steps default_steps)
-a_path n gs values path h e =
-    let paths : values_of file_option.name gs ≡ path.now ∷ [] = h.paths ∙ ap (λ p. one_or_none (text_in p)) e in
-    let ended = steps_ended values.steps (values_of steps_option.name gs) h.numbers in
-    (λ i. cond (may_have exactly_once (paths i) && (ended.0 i && true)) (render (option_map_or (λ v. v) (first_of (paths i)) []) (ended.1 i)) (wrong n))
+-- the number of the value's word, and the words behind
+pub number_behind : (n : ℕ) (value : Option (List ℕ)) (words : List (List ℕ)) (t : Behind) → value_behind n value words ≡ Some t → t.1 + length t.2 ≡ n + length words
+number_behind n (Some v) words t e = sym (ap (λ (r : Option Behind). (unwrap_or r (v, n, words)).1 + length (unwrap_or r (v, n, words)).2) e)
+number_behind n None [] t e = cc
+number_behind n None (v ∷ words) t e =
+    let is : t.1 + length t.2 ≡ n + 1 + length words = sym (ap (λ (r : Option Behind). (unwrap_or r (v, n + 1, words)).1 + length (unwrap_or r (v, n + 1, words)).2) e) in
+    is ∙ omega arith
 
 -- ---- all words
 

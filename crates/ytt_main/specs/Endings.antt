@@ -1,11 +1,12 @@
 -- What each ending of the top call leaves, and what it comes from.
-use Rattle.std.specs.Prelude.{◌≡◌, ◌⊎◌, ℕ, List}
+use Rattle.std.specs.Prelude.{◌≡◌, ◌⊎◌, ℕ, List, Ok}
 use Rattle.ytt_base.specs.Trees.{Trees}
 use Rattle.ytt_outside.specs.Counts.{Rose}
 use Rattle.ytt_outside.specs.Sink.{Grows, GrowsByFront}
 use Rattle.yaml_spec.specs.ReadsBack.{ReadsAlone}
 use Rattle.yaml_spec.specs.Text.{Text}
 use Rattle.ytt_spec.specs.Due.{out_of_memory_line, write_failed_line}
+use Rattle.ytt_spec.specs.Meaning.{TextMeans}
 use Rattle.ytt_main.specs.Found.{AreMeant, IsFaultLine, IsReadLine, IsUsageLine}
 use Rattle.ytt_main.specs.Seen.{Files, Sink}
 use Rattle.ytt_main.specs.declared.run.Status.{Status}
@@ -34,12 +35,13 @@ HasTried s bytes = HasWritten s bytes ⊎ HasFailed s bytes
 
 -- ---- the endings
 
--- The documents that are meant are on `out`, and read back as them and as no others.
+-- The documents that are meant are on `out`: their text reads back as them and as no others, and rendering it gives it again.
 pub record IsDone (words : List (List ℕ)) (files : Files) (out err : Sink) : Type 0 where
   pub documents : Trees
   pub found : AreMeant words files documents
   pub written : HasWritten out (Text documents)
   pub reads_back : ReadsAlone (Text documents) documents
+  pub renders_itself : (steps : ℕ) → TextMeans steps (Text documents) (Ok documents)
   pub silent : IsUntouched err
 
 -- A line is due on `err` by this cause, and it has the line.

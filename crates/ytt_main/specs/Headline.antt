@@ -1,5 +1,5 @@
 -- What the top call leaves where nothing failed.
-use Rattle.std.specs.Prelude.{◌≡◌, ◌≢◌, ℕ, List, [], Option, IfSome}
+use Rattle.std.specs.Prelude.{◌≡◌, ◌≢◌, ℕ, List, [], IfSome}
 use Rattle.ytt_outside.specs.Counts.{NoneRose}
 use Rattle.ytt_outside.specs.Sink.{Grows}
 use Rattle.ytt_spec.specs.Due.{Due, IsDue, done, fault, usage}
@@ -34,8 +34,8 @@ NothingFailed files out err = NoneRose files.faults_before files.faults_now × N
 
 -- Where the files tell their tree, nothing failed and there was room, the status and all bytes are those of what is due.
 abbrev pub GivesDue : Status → (words : List (List ℕ)) → Files → (out err : Sink) → Type 0
-GivesDue status words files out err =
-    IfSome files.tree (λ tree. NothingFailed files out err → status ≢ status.Memory → (d : Due) × IsDue words tree d × Meets d status out err)
+GivesDue s words files out err =
+    IfSome files.tree (λ tree. NothingFailed files out err → s ≢ status.Memory → (d : Due) × IsDue words tree d × Meets d s out err)
 
 -- a status that stands on all that was asked of the files
 abbrev pub IsWhole : Status → Type 0

@@ -1,6 +1,6 @@
 // What a request means over the files that are handed in.
 ghost use Rattle.std.specs.Prelude.{◌≡◌, ◌^◌, ◌<◌, IfOk, IfSome, length, true};
-ghost use Rattle.ytt_base.specs.Outcomes.{◌>>=◌};
+ghost use Rattle.ytt_base.specs.Outcomes.{and_then};
 ghost use Rattle.ytt_base.specs.Trees.{AreTrees, Writable};
 ghost use Rattle.ytt_base.specs.View.{trees_of};
 ghost use Rattle.yaml_noted.specs.View.{documents_of};
@@ -83,7 +83,7 @@ fn read_failed(alloc: Global, path: &str) -> RenderStop
 
 /// The documents that a template builds with so many steps, or its first fault.
 fn build(alloc: Global, documents: NotedDocs, steps: u64) -> Result<Trees, Stop>
-    ensures { GivesRead (λ r. placed r 1 (documents_of documents) >>= built steps) result }
+    ensures { GivesRead (λ r. and_then (built steps) (placed r 1 (documents_of documents))) result }
 {
     let template = place_flat(alloc, documents, 1)?;
     let program = compile_flat(alloc, &template)?;

@@ -1,5 +1,5 @@
 // The words of a command line.
-ghost use Rattle.std.specs.Prelude.{◌≡◌, ◌≤◌, ◌<◌, ◌^◌, ◌+◌, ◌-◌, [], Bool, IfSome, IsNone, List, length, map, None, Some, true, if◌then◌else◌, string_bytes};
+ghost use Rattle.std.specs.Prelude.{◌≡◌, ◌≤◌, ◌<◌, ◌^◌, ◌+◌, ◌-◌, [], Bool, IfSome, false, IsNone, List, length, map, None, Some, true, if◌then◌else◌, string_bytes};
 ghost use Rattle.std.specs.Option.{option_map};
 ghost use Rattle.std.specs.Str.{all_ascii_digits};
 ghost use Rattle.ytt_spec.specs.Words.{Given, added, asked, asked_from, begun, command_options, is_number, is_path, is_steps, may_follow, name_in, named, number_of, value_in, values_of};

@@ -1,5 +1,5 @@
 -- Words that ask for a path are the words of a request, and all requests are read so.
-use Rattle.std.proofs.Common.{◌≡◌, ℕ, ◌+◌, Bool, true, false, not, ◌&&◌, ◌||◌, cond, List, [], ◌∷◌, ◌++◌, Option, Some, None, is_none, codes, bytes_eq, refl, ap, sym, ◌∙◌, inl, inr, ⊎_elim, append_assoc, append-nil}
+use Rattle.std.proofs.Common.{◌≡◌, ℕ, ◌+◌, Bool, true, false, not, ◌&&◌, ◌||◌, cond, List, [], ◌∷◌, ◌++◌, Option, Some, None, is_none, codes, refl, ap, sym, ◌∙◌, inl, inr, ⊎_elim, append_assoc, append-nil}
 use Rattle.std.proofs.lemmas.Slice.Eq.{bytes_eq-Decides}
 use Rattle.std.specs.Cmp.{first_so, second_so}
 use Rattle.std.specs.List.{list_all}
@@ -129,7 +129,7 @@ is_next gs name value is_joined more h all =
     let every = gs ++ (given name value is_joined ∷ more) in
     let stands = named_holds (λ (x : CommandOption). may_have x.often (values_of x.name every)) name command_options o found all in
     let values : values_of o.name every ≡ values_of name gs ++ (value ∷ values_of name more) =
-        ap (λ m. values_of m every) stands.1 ∙ values_of-append name gs (given name value is_joined ∷ more) ∙ ap (λ vs. values_of name gs ++ vs) (one_value name value is_joined more) in
+    ap (λ m. values_of m every) stands.1 ∙ values_of-append name gs (given name value is_joined ∷ more) ∙ ap (λ vs. values_of name gs ++ vs) (one_value name value is_joined more) in
     record { option = o; found = found; joined = joined; good = good; follows = stands_after o.often (values_of name gs) (values_of name more) value (sym (ap (may_have o.often) values) ∙ stands.0) }
 
 abbrev asks : List Given → Asked

@@ -77,6 +77,7 @@ none_within name = by (named name command_options)
     none : (often : Often) → may_begin often [] ≡ true
     none exactly_once = refl
     none at_most_once = refl
+
     by : (r : Option CommandOption) → IsWithin r []
     by None = tt
     by (Some o) = none o.often
@@ -112,18 +113,18 @@ completes n gs w = by (values_of file_option.name gs) refl (w file_option.name)
   where
     steps_done : may_have at_most_once (values_of steps_option.name gs) ≡ true
     steps_done = steps_fit (values_of steps_option.name gs) (w steps_option.name)
+
     by : (vs : List (List ℕ)) → values_of file_option.name gs ≡ vs → may_begin exactly_once vs ≡ true → Completes (asked_from n gs)
     by [] e h =
         let starts = stands_begun gs file_option.name None file_option (record { found = refl; joined = refl; follows = ap (may_follow exactly_once) e }) in
         let all = added gs file_option.name (codes "a") false in
         let paths : values_of file_option.name all ≡ codes "a" ∷ [] = values_of-append file_option.name gs _ ∙ ap (λ vs. vs ++ (codes "a" ∷ [])) e in
-        let numbers : values_of steps_option.name all ≡ values_of steps_option.name gs = values_of-append steps_option.name gs _ ∙ append-nil (values_of steps_option.name gs) in
-        (
+        let numbers : values_of steps_option.name all ≡ values_of steps_option.name gs = values_of-append steps_option.name gs _ ∙ append-nil (values_of steps_option.name gs) in (
           file_option.name ∷ codes "a" ∷ [],
           path_given all,
           steps_given all,
           asked_next n gs file_option.name (codes "a" ∷ []) ∙ ap (λ o. next n gs file_option.name (codes "a" ∷ []) o None) starts
-          ∙ (λ i. cond (may_have exactly_once (paths i) && ((ap (may_have at_most_once) numbers ∙ steps_done) i && true)) (render (path_given all) (steps_given all)) (wrong (n + 1 + 1))),
+              ∙ (λ i. cond (may_have exactly_once (paths i) && ((ap (may_have at_most_once) numbers ∙ steps_done) i && true)) (render (path_given all) (steps_given all)) (wrong (n + 1 + 1))),
         )
     by (v ∷ []) e h = ([], path_given gs, steps_given gs, λ i. cond (may_have exactly_once (e i) && (steps_done i && true)) (render (path_given gs) (steps_given gs)) (wrong n))
     by (v ∷ u ∷ vs) e h = cc
@@ -168,7 +169,7 @@ by_value n gs o word value words m false w starts v read h e =
 by_next : (n : ℕ) (gs : List Given) (word : List ℕ) (words : List (List ℕ)) (m : ℕ) (o : Option CommandOption) (v : Option (List ℕ)) → Within gs → begun gs (name_in word) (value_in word) ≡ o → value_in word ≡ v
     → ((value : List ℕ) → Within (added gs (name_in word) value true) → asked_from (n + 1) (added gs (name_in word) value true) words ≡ wrong m → Stops (asked_from (n + 1) (added gs (name_in word) value true)) (n + 1) words m)
     → ((q : CommandOption) → named (name_in word) command_options ≡ Some q → may_follow q.often (values_of (name_in word) gs) ≡ true → asked_value (n + 1) gs q (name_in word) words ≡ wrong m
-      → Stops (asked_value (n + 1) gs q (name_in word)) (n + 1) words m)
+    → Stops (asked_value (n + 1) gs q (name_in word)) (n + 1) words m)
     → next n gs (name_in word) words o v ≡ wrong m → Stops (asked_from n gs) n (word ∷ words) m
 by_next n gs word words m None v w starts cut read read_value e =
     let is : m ≡ n = cc in

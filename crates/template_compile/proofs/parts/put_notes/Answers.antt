@@ -1,4 +1,4 @@
-use Rattle.std.proofs.Common.{◌∷◌, refl, sym, ◌∙◌}
+use Rattle.std.proofs.Common.{◌∷◌, refl, sym}
 use Rattle.ytt_base.specs.Outcomes.{place_at}
 use Rattle.star_spec.specs.Program.{part, node_note}
 use Rattle.star_tree.specs.View.{exprs_of}
