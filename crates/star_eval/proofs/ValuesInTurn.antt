@@ -34,6 +34,11 @@ put_last : (vs : List Value) (v : Value) (r : Ending (Unit {0}) Arguments) →
 put_last vs v (done ws s) = ap (λ all. done all s) (sym (behind_last vs v ws))
 put_last vs v (bad f s) = refl
 
+-- behind no values
+pub behind_none : (r : Ending (Unit {0}) Arguments) → r ≡ then_do r (λ rest. give (behind [] rest))
+behind_none (done (arguments vs fs) s) = refl
+behind_none (bad f s) = refl
+
 module _ (call : Call (Unit {0})) (env : Env) (file : ℕ) (args : List Expr) (j : ℕ) (e : Expr) (before : Ending (Unit {0}) Arguments) (vs : List Value) (s : State (Unit {0})) where
   abbrev SoFar : Type 0
   SoFar = before ≡ then_do (eval_arguments call (exprs_of file (drop j args)) env s) (λ rest. give (behind vs rest))
