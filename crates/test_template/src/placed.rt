@@ -3,7 +3,7 @@
 use std::alloc::{AllocError, Global};
 use std::test::Fail;
 use template_tree::{TContent, TItem, TItems, TNode, place_flat};
-use test_shown::{Differing, shown_expr, shown_key, shown_stop, shown_tree};
+use test_shown::{Differing, shown_expr, shown_key, shown_stop};
 use yaml_read::read_noted;
 
 /// The line and the key of a node, and its value expression in angle brackets, or else what is written.
@@ -29,7 +29,7 @@ fn shown_node(alloc: Global, node: &TNode) -> Result<String, AllocError> {
 #[cycle(placed)]
 fn shown_written(alloc: Global, content: &TContent) -> Result<String, AllocError> {
     match content {
-        TContent::Scalar(tree) => shown_tree(alloc, tree),
+        TContent::Scalar(key) => shown_key(alloc, key),
         TContent::List(items) => {
             let inside = shown_nodes(alloc, items)?;
             format!(in alloc; "[{inside}]")
