@@ -1,8 +1,7 @@
 -- Where an item is put.
-use Rattle.std.proofs.Common.{◌≡◌, ℕ, zero, suc, ◌+◌, ◌<◌, Bool, true, false, ◌||◌, List, [], ◌∷◌, ◌++◌, length, drop, get_or, slice_set, Option, Some, None, bytes_eq, codes, refl, sym, ap, ◌∙◌, rules, arith}
+use Rattle.std.proofs.Common.{◌≡◌, ℕ, zero, suc, ◌+◌, ◌<◌, Bool, true, false, ◌||◌, List, [], ◌∷◌, ◌++◌, length, drop, get_or, slice_set, Option, Some, None, bytes_eq, codes, if◌then◌else◌, refl, sym, ap, ◌∙◌, rules, arith}
 use Rattle.ytt_base.specs.declared.fault.Place.{Place}
 use Rattle.ytt_base.specs.Trees.{Scalar}
-use Rattle.star_spec.specs.Operators.{either}
 use Rattle.star_spec.specs.Outcomes.{State, done, then_do, give, ◌>>=◌}
 use Rattle.star_spec.specs.Values.{Child, Children, a_child}
 use Rattle.template_spec.specs.Adding.{add_child, in_place_if, keys_equal, overrides}
@@ -33,10 +32,10 @@ overrides_later ns j n name lt is e h f =
 
 add_step : (item i : BuiltItem) (is : List BuiltItem) (s : State (Unit {0})) →
     add_child (children_of (i ∷ is)) (child_of item) s
-    ≡ either (keys_equal (in_scalar_key i.key) (in_scalar_key item.key)) (in_place_if (overrides (built_notes_of item.notes)) item.place (in_scalar_key item.key) (a_child (child_of item) (children_of is))) (add_child (children_of is) (child_of item) >>= λ all. give (a_child (child_of i) all)) s
+    ≡ (if keys_equal (in_scalar_key i.key) (in_scalar_key item.key) then in_place_if (overrides (built_notes_of item.notes)) item.place (in_scalar_key item.key) (a_child (child_of item) (children_of is)) else (add_child (children_of is) (child_of item) >>= λ all. give (a_child (child_of i) all))) s
 add_step item i is s =
     (λ j. add_child (a_child (child_of-item i j) (children_of is)) (child_of-item item j) s)
-    ∙ (λ j. either (keys_equal (in_scalar_key i.key) (in_scalar_key item.key)) (in_place_if (overrides (built_notes_of item.notes)) item.place (in_scalar_key item.key) (a_child (sym (child_of-item item) j) (children_of is))) (add_child (children_of is) (sym (child_of-item item) j) >>= λ all. give (a_child (sym (child_of-item i) j) all)) s)
+    ∙ (λ j. (if keys_equal (in_scalar_key i.key) (in_scalar_key item.key) then in_place_if (overrides (built_notes_of item.notes)) item.place (in_scalar_key item.key) (a_child (sym (child_of-item item) j) (children_of is)) else (add_child (children_of is) (sym (child_of-item item) j) >>= λ all. give (a_child (sym (child_of-item i) j) all))) s)
 
 none_here : (b : Bool) (o : Option ℕ) → here_or b o ≡ None → (b ≡ false) × (o ≡ None)
 none_here true o e = absurd (search (rules, e))
@@ -49,7 +48,7 @@ add_last item [] e s = refl
 add_last item (i ∷ is) e s =
     let h = none_here (keys_equal (in_scalar_key i.key) (in_scalar_key item.key)) (position_of (in_scalar_key item.key) is) e in
     add_step item i is s
-    ∙ ap (λ b. either b (in_place_if (overrides (built_notes_of item.notes)) item.place (in_scalar_key item.key) (a_child (child_of item) (children_of is))) (add_child (children_of is) (child_of item) >>= λ all. give (a_child (child_of i) all)) s) h.0
+    ∙ ap (λ b. (if b then in_place_if (overrides (built_notes_of item.notes)) item.place (in_scalar_key item.key) (a_child (child_of item) (children_of is)) else (add_child (children_of is) (child_of item) >>= λ all. give (a_child (child_of i) all))) s) h.0
     ∙ ap (λ o. then_do o (λ all. give (a_child (child_of i) all))) (add_last item is h.1 s)
 
 -- in the place of the first that has the key
@@ -64,14 +63,14 @@ at_place : (item i : BuiltItem) (is : List BuiltItem) (b : Bool) (o : Option ℕ
     ((m : ℕ) → position_of (in_scalar_key item.key) is ≡ Some m → AtPlace item is m s) → AtPlace item (i ∷ is) n s
 at_place item i is true o zero f g e s more =
     add_step item i is s
-    ∙ ap (λ b. either b (in_place_if (overrides (built_notes_of item.notes)) item.place (in_scalar_key item.key) (a_child (child_of item) (children_of is))) (add_child (children_of is) (child_of item) >>= λ all. give (a_child (child_of i) all)) s) f
+    ∙ ap (λ b. (if b then in_place_if (overrides (built_notes_of item.notes)) item.place (in_scalar_key item.key) (a_child (child_of item) (children_of is)) else (add_child (children_of is) (child_of item) >>= λ all. give (a_child (child_of i) all))) s) f
 at_place item i is true o (suc n) f g e s more = absurd (search (rules, e))
 at_place item i is false None n f g e s more = absurd (search (rules, e))
 at_place item i is false (Some m) n f g e s more =
     let same : 1 + m ≡ n = search (rules, e) in
     let place : suc m ≡ n = omega (arith, same) in
     add_step item i is s
-    ∙ ap (λ b. either b (in_place_if (overrides (built_notes_of item.notes)) item.place (in_scalar_key item.key) (a_child (child_of item) (children_of is))) (add_child (children_of is) (child_of item) >>= λ all. give (a_child (child_of i) all)) s) f
+    ∙ ap (λ b. (if b then in_place_if (overrides (built_notes_of item.notes)) item.place (in_scalar_key item.key) (a_child (child_of item) (children_of is)) else (add_child (children_of is) (child_of item) >>= λ all. give (a_child (child_of i) all))) s) f
     ∙ ap (λ o. then_do o (λ all. give (a_child (child_of i) all))) (more m g)
     ∙ in_place_on (overrides (built_notes_of item.notes)) item.place (in_scalar_key item.key) (child_of i) (children_of (slice_set is m item)) s
     ∙ ap (λ k. in_place_if (overrides (built_notes_of item.notes)) item.place (in_scalar_key item.key) (children_of (slice_set (i ∷ is) k item)) s) place

@@ -7,16 +7,16 @@ use Rattle.star_spec.specs.Numbers.{at_least_zero}
 use Rattle.ytt_base.specs.declared.fault.FaultKind.TheVariants as kind
 use Rattle.ytt_base.specs.declared.fault.Place.{Place}
 use Rattle.ytt_base.specs.Outcomes.{fault_at}
-use Rattle.star_spec.specs.Outcomes.{bad, paid_if, give}
+use Rattle.star_spec.specs.Outcomes.{State, bad, then_do, take_if, give}
 use Rattle.star_spec.specs.Operators.{repeat_text, repeated}
 use Rattle.star_spec.specs.Values.{text_value}
-use Rattle.star_eval.specs.Meets.{with_steps}
 
 past : (n steps : ℕ) → steps < 2 ^ 64 → 2 ^ 128 ≤ n → nat_le (n / 16) steps ≡ false
 past n steps h k = grind arith
 
-pub past_every_budget : (p : Place) (t : List ℕ) (n steps : ℕ) → steps < 2 ^ 64 → 2 ^ 128 ≤ length t * (1 + n) → repeat_text p t n (with_steps steps) ≡ bad (fault_at kind.Steps p) (with_steps steps)
-past_every_budget p t n steps h k = ap (λ b. paid_if b (length t * (1 + n) / 16) p (give (text_value (repeated n t))) (with_steps steps)) (past (length t * (1 + n)) steps h k)
+pub past_every_budget : (p : Place) (t : List ℕ) (z : ℤ) (s : State (Unit {0})) → s.steps < 2 ^ 64 → 2 ^ 128 ≤ length t * (1 + at_least_zero z) → repeat_text p t z s ≡ bad (fault_at kind.Steps p) s
+past_every_budget p t z s h k =
+    ap (λ b. then_do (take_if b (length t * (1 + at_least_zero z) / 16) p s) (λ u. give (text_value (repeated (at_least_zero z) t)))) (past (length t * (1 + at_least_zero z)) s.steps h k)
 
 -- ---- how often a text is repeated, as a number from 0 on
 

@@ -1,12 +1,11 @@
 -- What becomes of the first of items: a tree, a pair, or a document unless it is null.
-use Rattle.std.proofs.Common.{◌≡◌, Bool, true, false, List, ◌∷◌, Option, Some, None, if◌then◌else◌, refl, sym, ap, ◌∙◌}
+use Rattle.std.proofs.Common.{◌≡◌, List, ◌∷◌, Option, Some, None, if◌then◌else◌, sym, ap, ◌∙◌}
 use Rattle.ytt_base.specs.declared.tree.Key.{Key}
 use Rattle.ytt_base.specs.declared.tree.Tree.{Tree}
 use Rattle.ytt_base.specs.Trees.{Trees, tree, Pairs, pair, is_null}
 use Rattle.ytt_base.specs.View.{key_of, tree_of}
 use Rattle.star_spec.specs.Values.{child, a_child}
-use Rattle.star_tree.specs.View.{item_kind_of}
-use Rattle.template_spec.specs.Meaning.{documents, unless_null}
+use Rattle.template_spec.specs.Meaning.{documents}
 use Rattle.template_spec.specs.Take.{body_tree, children_pairs, children_trees}
 use Rattle.star_eval.specs.declared.built.BuiltItem.{BuiltItem}
 use Rattle.star_eval.specs.Positions.{in_scalar_key}
@@ -22,18 +21,14 @@ pairs_in is = children_pairs (children_of is)
 abbrev pub documents_in : List BuiltItem → Trees
 documents_in is = documents (children_of is)
 
-unless-if : (b : Bool) (ts us : Trees) → unless_null b us ts ≡ (if b then ts else us)
-unless-if true ts us = refl
-unless-if false ts us = refl
-
 module _ (i : BuiltItem) (is : List BuiltItem) where
   pub tree_first : (t : Tree) → tree_of t ≡ body_tree (body_of i.value) → trees_in (i ∷ is) ≡ tree (tree_of t) (trees_in is)
   tree_first t e = ap (λ c. children_trees (a_child c (children_of is))) (child_of-item i) ∙ ap (λ u. tree u (trees_in is)) (sym e)
 
-  with_key : (k : Option Key) → i.key ≡ k → pairs_in (i ∷ is) ≡ children_pairs (a_child (child i.place (item_kind_of i.kind) (built_notes_of i.notes) (in_scalar_key k) (body_of i.value)) (children_of is))
+  with_key : (k : Option Key) → i.key ≡ k → pairs_in (i ∷ is) ≡ children_pairs (a_child (child i.place (built_notes_of i.notes) (in_scalar_key k) (body_of i.value)) (children_of is))
   with_key k e =
       ap (λ c. children_pairs (a_child c (children_of is))) (child_of-item i)
-      ∙ ap (λ (o : Option Key). children_pairs (a_child (child i.place (item_kind_of i.kind) (built_notes_of i.notes) (in_scalar_key o) (body_of i.value)) (children_of is))) e
+      ∙ ap (λ (o : Option Key). children_pairs (a_child (child i.place (built_notes_of i.notes) (in_scalar_key o) (body_of i.value)) (children_of is))) e
 
   pub pair_first : (k l : Key) (t : Tree) → i.key ≡ Some k → l ≡ k → tree_of t ≡ body_tree (body_of i.value) → pairs_in (i ∷ is) ≡ pair (key_of l) (tree_of t) (pairs_in is)
   pair_first k l t f g e = with_key (Some k) f ∙ (λ x. pair (key_of (sym g x)) (sym e x) (pairs_in is))
@@ -44,5 +39,4 @@ module _ (i : BuiltItem) (is : List BuiltItem) where
   pub document_first : (t : Tree) → tree_of t ≡ body_tree (body_of i.value) → documents_in (i ∷ is) ≡ (if is_null (tree_of t) then documents_in is else tree (tree_of t) (documents_in is))
   document_first t e =
       ap (λ c. documents (a_child c (children_of is))) (child_of-item i)
-      ∙ (λ x. unless_null (is_null (sym e x)) (tree (sym e x) (documents_in is)) (documents_in is))
-      ∙ unless-if (is_null (tree_of t)) (documents_in is) (tree (tree_of t) (documents_in is))
+      ∙ (λ x. if is_null (sym e x) then documents_in is else tree (sym e x) (documents_in is))

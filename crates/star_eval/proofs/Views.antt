@@ -3,7 +3,6 @@ use Rattle.std.proofs.Common.{◌≡◌, List, rules}
 use Rattle.ytt_base.specs.declared.tree.Tree.{Tree}
 use Rattle.ytt_base.specs.View.{tree_of}
 use Rattle.star_spec.specs.Values.{child, one, map_of, list_of}
-use Rattle.star_tree.specs.View.{item_kind_of}
 use Rattle.star_eval.specs.declared.built.BuiltItem.{BuiltItem}
 use Rattle.star_eval.specs.declared.built.BuiltValue as held
 use Rattle.star_eval.specs.declared.built.BuiltValue.{the_lemmas}
@@ -19,5 +18,5 @@ body_of-Map is = search (rules, the_lemmas)
 pub body_of-List : (is : List BuiltItem) → body_of (held.List is) ≡ list_of (children_of is)
 body_of-List is = search (rules, the_lemmas)
 
-pub child_of-item : (i : BuiltItem) → child_of i ≡ child i.place (item_kind_of i.kind) (built_notes_of i.notes) (in_scalar_key i.key) (body_of i.value)
+pub child_of-item : (i : BuiltItem) → child_of i ≡ child i.place (built_notes_of i.notes) (in_scalar_key i.key) (body_of i.value)
 child_of-item i = search (rules, the_lemmas)

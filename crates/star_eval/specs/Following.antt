@@ -1,6 +1,9 @@
--- Values behind others.
-use Rattle.star_spec.specs.Values.{Values, no_values, a_value}
+-- Arguments behind values.
+use Rattle.std.specs.Prelude.{List, map as each}
+use Rattle.star_spec.specs.Eval.{with_values}
+use Rattle.star_spec.specs.Values.{Arguments}
+use Rattle.star_eval.specs.declared.value.Value.{Value}
+use Rattle.star_eval.specs.View.{value_of}
 
-abbrev pub and_values : Values → Values → Values
-and_values no_values ws = ws
-and_values (a_value v vs) ws = a_value v (and_values vs ws)
+abbrev pub behind : List Value → Arguments → Arguments
+behind vs rest = with_values (each value_of vs) rest

@@ -6,10 +6,10 @@ use Rattle.ytt_base.specs.View.{trees_of}
 use Rattle.star_spec.specs.Blocks.{Ops, op_part, no_ops, an_op}
 use Rattle.star_spec.specs.Outcomes.{Ending, done, bad}
 use Rattle.star_spec.specs.Program.{NodePart}
-use Rattle.star_spec.specs.Values.{Children}
 use Rattle.star_tree.specs.declared.program.Instr.{Instr}
 use Rattle.star_tree.specs.declared.program.Instr.TheVariants as instr
 use Rattle.star_tree.specs.View.{part_of}
+use Rattle.template_spec.specs.Files.{FileResult}
 use Rattle.template_spec.specs.Meaning.{documents}
 use Rattle.star_eval.specs.declared.run.FlatResult.{FlatResult}
 
@@ -24,9 +24,9 @@ ops_of file (i ∷ is) = an_op (op_part (part_in file i)) (ops_of file is)
 
 -- What a call returned is how a run ends: the same documents and as many steps left, or the same fault; want of memory
 -- says nothing.
-abbrev pub Shows : Result FlatResult Stop → Ending (Unit {0}) Children → Type 0
-Shows (Ok r) (done cs s) = (documents cs ≡ trees_of r.documents) × (s.steps ≡ r.steps_left)
+abbrev pub Shows : Result FlatResult Stop → Ending (Unit {0}) FileResult → Type 0
+Shows (Ok r) (done x s) = (documents x.documents ≡ trees_of r.documents) × (s.steps ≡ r.steps_left)
 Shows (Ok r) (bad f s) = ⊥
 Shows (Err (stop.Fault f)) (bad e s) = e ≡ f
-Shows (Err (stop.Fault f)) (done cs s) = ⊥
+Shows (Err (stop.Fault f)) (done x s) = ⊥
 Shows (Err stop.Memory) ending = Unit {0}

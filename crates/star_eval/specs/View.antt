@@ -22,9 +22,13 @@ abbrev pub values_of : List Value → plain.Values
 values_of [] = no_values
 values_of (v ∷ vs) = a_value (value_of v) (values_of vs)
 
+-- arguments by position
+abbrev pub arguments_of : List Value → plain.Arguments
+arguments_of vs = arguments (values_of vs) no_fields
+
 abbrev pub built_notes_of : List BuiltNote → plain.BuiltNotes
 built_notes_of [] = no_built
-built_notes_of (n ∷ ns) = a_built n.name (arguments (values_of n.args) no_fields) (built_notes_of ns)
+built_notes_of (n ∷ ns) = a_built n.name (arguments_of n.args) (built_notes_of ns)
 
 abbrev pub in_children : List plain.Child → plain.Children
 in_children [] = no_children
@@ -38,7 +42,7 @@ value_step (BuiltValue-F.Map is) = map_of (in_children is)
 value_step (BuiltValue-F.List is) = list_of (in_children is)
 
 abbrev pub item_step : BuiltItem-F plain.Body plain.Child → plain.Child
-item_step i = child i.place (item_kind_of i.kind) (built_notes_of i.notes) (in_scalar_key i.key) i.value
+item_step i = child i.place (built_notes_of i.notes) (in_scalar_key i.key) i.value
 
 -- ---- all levels
 

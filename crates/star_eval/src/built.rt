@@ -2,7 +2,6 @@
 
 use crate::value::Value;
 use sqlite_items::Items;
-use star_tree::ItemKind;
 use ytt_base::fault::Place;
 use ytt_base::text::Text;
 use ytt_base::tree::{Key, Tree};
@@ -25,7 +24,6 @@ pub(crate) type BuiltNotes = Items<BuiltNote>;
 #[derive(Drop)]
 pub(crate) struct BuiltItem {
     pub place: Place,
-    pub kind: ItemKind,
     pub notes: BuiltNotes,
     pub key: Option<Key>,
     pub value: BuiltValue,

@@ -5,14 +5,14 @@ ghost use Rattle.ytt_base.specs.View.{tree_of};
 ghost use Rattle.star_eval.specs.Meets.{Tells};
 ghost use Rattle.star_eval.specs.Positions.{in_scalar_key};
 ghost use Rattle.star_eval.specs.View.{body_of, built_notes_of, child_of, children_of, node_at};
-ghost use Rattle.star_spec.specs.Acts.{on};
+ghost use Rattle.star_spec.specs.Flow.{on};
 ghost use Rattle.star_spec.specs.Eval.{starlark};
 ghost use Rattle.star_spec.specs.Language.{Call};
 ghost use Rattle.star_spec.specs.Program.{node_end};
-ghost use Rattle.star_spec.specs.Values.{Children, one, taken};
-ghost use Rattle.star_tree.specs.View.{holds_of, item_kind_of};
+ghost use Rattle.star_spec.specs.Values.{Children, Env, one, taken};
+ghost use Rattle.star_tree.specs.View.{holds_of};
 ghost use Rattle.template_spec.specs.Adding.{add_child, add_taken};
-ghost use Rattle.template_spec.specs.Build.{closed_with};
+ghost use Rattle.template_spec.specs.Run.{closed_with};
 ghost use Rattle.template_spec.specs.Run.{Node, node_part};
 
 use crate::add::add_item;
@@ -37,11 +37,10 @@ fn held(holds: Holds, value: Tree, children: Built) -> BuiltValue
 
 /// The item that a node is built into.
 fn closed(node: OpenNode) -> BuiltItem
-    ensures { (children : Children) → add_taken {H = Unit {0}} children node.place (item_kind_of node.kind) (built_notes_of node.notes) (in_scalar_key node.key) (closed_with (holds_of node.holds) (taken (one (tree_of node.value))) (children_of node.children.items)) ≡ add_child children (child_of result) }
+    ensures { (children : Children) → add_taken {H = Unit {0}} children node.place (built_notes_of node.notes) (in_scalar_key node.key) (closed_with (holds_of node.holds) (taken (one (tree_of node.value))) (children_of node.children.items)) ≡ add_child children (child_of result) }
 {
     BuiltItem {
         place: node.place,
-        kind: node.kind,
         notes: node.notes,
         key: node.key,
         value: held(node.holds, node.value, node.children.items),
@@ -50,7 +49,7 @@ fn closed(node: OpenNode) -> BuiltItem
 
 /// The node under one that ends, which is added to its items.
 pub(crate) fn ended(alloc: Global, node: OpenNode, mut under: OpenNode) -> Result<OpenNode, Stop>
-    ensures { (call : Call (Unit {0})) (place : Place) (level : ℕ) (below : List Node) → Tells (λ u. on (node_at level u ∷ below)) result (node_part starlark call (node_end place) [] (node_at (level + 1) node ∷ node_at level under ∷ below)) }
+    ensures { (call : Call (Unit {0})) (env : Env) (place : Place) (level : ℕ) (below : List Node) → Tells (λ u. on (node_at level u ∷ below)) result (node_part starlark call (node_end place) env (node_at (level + 1) node ∷ node_at level under ∷ below)) }
 {
     under.children = add_item(alloc, under.children, closed(node))?;
     Ok(under)

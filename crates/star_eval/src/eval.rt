@@ -1,13 +1,15 @@
 // Expressions.
 ghost use Rattle.star_eval.specs.AfterStep.{after_step, place_in};
-ghost use Rattle.star_eval.specs.Meets.{Meets, with_steps};
+ghost use Rattle.star_eval.specs.Meets.{Meets, state_of};
 ghost use Rattle.star_eval.specs.View.{value_of};
 ghost use Rattle.std.specs.Prelude.{[], ◌≡◌};
 ghost use Rattle.star_spec.specs.Eval.{eval};
 ghost use Rattle.star_spec.specs.Language.{Call};
+ghost use Rattle.star_spec.specs.Values.{Env};
 ghost use Rattle.star_tree.specs.View.{expr_of};
 
 use crate::operate::{operate, operate_on};
+use crate::session::Session;
 use crate::steps::pay;
 use crate::value::Value;
 use star_tree::Expr;
@@ -20,13 +22,13 @@ pub(crate) fn eval_expr(
     alloc: Global,
     file: u32,
     expr: &Expr,
-    steps: &mut u64,
+    session: &mut Session,
 ) -> Result<Value, Stop>
-    ensures { (call : Call (Unit {0})) → Meets value_of result steps.new (eval call (expr_of file expr.now) [] (with_steps steps.old)) }
+    ensures { (call : Call (Unit {0})) (env : Env) → Meets value_of result (state_of session.new) (eval call (expr_of file expr.now) env (state_of session.old)) }
 {
     let place = place_of(file, expr);
-    pay(alloc, place, 1, steps)?;
-    act(alloc, file, expr, steps)
+    pay(alloc, place, 1, session)?;
+    act(alloc, file, expr, session)
 }
 
 fn place_of(file: u32, expr: &Expr) -> Place
@@ -42,26 +44,26 @@ fn place_of(file: u32, expr: &Expr) -> Place
 }
 
 #[cycle(eval)]
-fn act(alloc: Global, file: u32, expr: &Expr, steps: &mut u64) -> Result<Value, Stop>
-    ensures { (call : Call (Unit {0})) → Meets value_of result steps.new (after_step call (expr_of file expr.now) [] (with_steps steps.old)) }
+fn act(alloc: Global, file: u32, expr: &Expr, session: &mut Session) -> Result<Value, Stop>
+    ensures { (call : Call (Unit {0})) (env : Env) → Meets value_of result (state_of session.new) (after_step call (expr_of file expr.now) env (state_of session.old)) }
 {
     match expr {
         Expr::Int(_, n) => Ok(Value::Int(*n)),
         Expr::Text(_, text) => Ok(Value::Text(text.copy()?)),
         Expr::Unary(line, op, a) => {
-            let operand = eval_expr(alloc, file, a.get(), steps)?;
+            let operand = eval_expr(alloc, file, a.get(), session)?;
             operate_on(alloc, Place { file, line: *line }, *op, &operand)
         }
         Expr::Binary(line, op, a, b) => {
-            let left = eval_expr(alloc, file, a.get(), steps)?;
-            let right = eval_expr(alloc, file, b.get(), steps)?;
+            let left = eval_expr(alloc, file, a.get(), session)?;
+            let right = eval_expr(alloc, file, b.get(), session)?;
             operate(
                 alloc,
                 Place { file, line: *line },
                 *op,
                 &left,
                 &right,
-                steps,
+                session,
             )
         }
     }

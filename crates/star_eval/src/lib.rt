@@ -17,6 +17,7 @@ mod node;
 mod numbers;
 mod operate;
 mod run;
+mod session;
 mod stack;
 mod steps;
 mod texts;

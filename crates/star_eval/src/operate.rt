@@ -1,11 +1,12 @@
 // The table of operators.
-ghost use Rattle.star_eval.specs.Meets.{Meets, Tells, with_steps};
+ghost use Rattle.star_eval.specs.Meets.{Meets, Tells, state_of};
 ghost use Rattle.star_eval.specs.View.{value_of};
 ghost use Rattle.star_spec.specs.Operators.{binary_row, difference_row, product_row, quotient_row, sum_row, unary_row};
 ghost use Rattle.star_spec.specs.Values.{int_value};
 ghost use Rattle.star_tree.specs.View.{binary_operator_of, unary_operator_of};
 
 use crate::numbers::{floor_divide, int_or_overflow};
+use crate::session::Session;
 use crate::steps::refusal;
 use crate::texts::{join, repeat};
 use crate::value::Value;
@@ -38,14 +39,14 @@ pub(crate) fn operate(
     op: BinOp,
     left: &Value,
     right: &Value,
-    steps: &mut u64,
+    session: &mut Session,
 ) -> Result<Value, Stop>
-    ensures { Meets value_of result steps.new (binary_row place (binary_operator_of op) (value_of left.now) (value_of right.now) (with_steps steps.old)) }
+    ensures { Meets value_of result (state_of session.new) (binary_row place (binary_operator_of op) (value_of left.now) (value_of right.now) (state_of session.old)) }
 {
     match op {
-        BinOp::Add => add(alloc, place, left, right, steps),
+        BinOp::Add => add(alloc, place, left, right, session),
         BinOp::Subtract => subtract(alloc, place, left, right),
-        BinOp::Multiply => multiply(alloc, place, left, right, steps),
+        BinOp::Multiply => multiply(alloc, place, left, right, session),
         BinOp::FloorDivide => divide(alloc, place, left, right),
     }
 }
@@ -55,9 +56,9 @@ fn add(
     place: Place,
     left: &Value,
     right: &Value,
-    steps: &mut u64,
+    session: &mut Session,
 ) -> Result<Value, Stop>
-    ensures { Meets value_of result steps.new (sum_row place (value_of left.now) (value_of right.now) (with_steps steps.old)) }
+    ensures { Meets value_of result (state_of session.new) (sum_row place (value_of left.now) (value_of right.now) (state_of session.old)) }
 {
     match left {
         Value::Int(a) => match right {
@@ -66,7 +67,7 @@ fn add(
         },
         Value::Text(a) => match right {
             Value::Int(_) => Err(refusal(alloc, FaultKind::ValueKind, place)),
-            Value::Text(b) => join(alloc, place, a, b, steps),
+            Value::Text(b) => join(alloc, place, a, b, session),
         },
     }
 }
@@ -88,17 +89,17 @@ fn multiply(
     place: Place,
     left: &Value,
     right: &Value,
-    steps: &mut u64,
+    session: &mut Session,
 ) -> Result<Value, Stop>
-    ensures { Meets value_of result steps.new (product_row place (value_of left.now) (value_of right.now) (with_steps steps.old)) }
+    ensures { Meets value_of result (state_of session.new) (product_row place (value_of left.now) (value_of right.now) (state_of session.old)) }
 {
     match left {
         Value::Int(a) => match right {
             Value::Int(b) => int_or_overflow(alloc, place, a.checked_mul(*b)),
-            Value::Text(b) => repeat(alloc, place, b, *a, steps),
+            Value::Text(b) => repeat(alloc, place, b, *a, session),
         },
         Value::Text(a) => match right {
-            Value::Int(b) => repeat(alloc, place, a, *b, steps),
+            Value::Int(b) => repeat(alloc, place, a, *b, session),
             Value::Text(_) => Err(refusal(alloc, FaultKind::ValueKind, place)),
         },
     }

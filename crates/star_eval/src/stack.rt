@@ -4,13 +4,14 @@ ghost use Rattle.ytt_base.specs.declared.fault.FaultKind.TheVariants as kind;
 ghost use Rattle.ytt_base.specs.declared.fault.Place.{Place};
 ghost use Rattle.ytt_base.specs.declared.fault.Stop.TheVariants as stop;
 ghost use Rattle.ytt_base.specs.Outcomes.{fault_of};
-ghost use Rattle.star_eval.specs.Meets.{Meets, with_steps};
+ghost use Rattle.star_eval.specs.Meets.{Meets, state_of};
 ghost use Rattle.star_eval.specs.View.{node_at, nodes_of};
-ghost use Rattle.star_spec.specs.Acts.{Flow, on};
+ghost use Rattle.star_spec.specs.Flow.{Flow, on};
 ghost use Rattle.star_spec.specs.Eval.{starlark};
 ghost use Rattle.star_spec.specs.Language.{Call};
-ghost use Rattle.star_spec.specs.Outcomes.{Ending};
+ghost use Rattle.star_spec.specs.Outcomes.{Ending, State};
 ghost use Rattle.star_spec.specs.Program.{node_end, node_start, node_value_from};
+ghost use Rattle.star_spec.specs.Values.{Env};
 ghost use Rattle.star_tree.specs.View.{expr_of, holds_of, item_kind_of, part_of};
 ghost use Rattle.template_spec.specs.Run.{Node, node_part};
 
@@ -18,6 +19,7 @@ use crate::end::ended;
 use crate::fill::{computed, keyed, noted, valued};
 use crate::list::push;
 use crate::node::{OpenNode, Stack};
+use crate::session::Session;
 use crate::steps::pay;
 use star_tree::{Expr, Holds, ItemKind, NodeOp};
 use std::alloc::Global;
@@ -37,7 +39,7 @@ fn ill_formed(alloc: Global) -> Stop
 
 /// Puts the node that a call gave on the stack.
 fn put_back(stack: &mut Stack, node: Result<OpenNode, Stop>) -> Result<(), Stop>
-    ensures { (left : ℕ) (ending : Ending (Unit {0}) (Flow (List Node))) → Meets (λ n. on (node_at (length stack.old) n ∷ nodes_of stack.old)) node left ending → Meets (λ u. on (nodes_of stack.new)) result left ending }
+    ensures { (state : State (Unit {0})) (ending : Ending (Unit {0}) (Flow (List Node))) → Meets (λ n. on (node_at (length stack.old) n ∷ nodes_of stack.old)) node state ending → Meets (λ u. on (nodes_of stack.new)) result state ending }
 {
     push(stack, node?)?;
     Ok(())
@@ -51,11 +53,11 @@ fn start(
     place: Place,
     kind: ItemKind,
     holds: Holds,
-    steps: &mut u64,
+    session: &mut Session,
 ) -> Result<(), Stop>
-    ensures { (call : Call (Unit {0})) → Meets (λ u. on (nodes_of stack.new)) result steps.new (node_part starlark call (node_start place (item_kind_of kind) (holds_of holds)) [] (node_at (length stack.old) node ∷ nodes_of stack.old) (with_steps steps.old)) }
+    ensures { (call : Call (Unit {0})) (env : Env) → Meets (λ u. on (nodes_of stack.new)) result (state_of session.new) (node_part starlark call (node_start place (item_kind_of kind) (holds_of holds)) env (node_at (length stack.old) node ∷ nodes_of stack.old) (state_of session.old)) }
 {
-    pay(alloc, place, 1, steps)?;
+    pay(alloc, place, 1, session)?;
     push(stack, node)?;
     push(stack, OpenNode::new(alloc, place, kind, holds))?;
     Ok(())
@@ -68,19 +70,19 @@ fn value_from(
     stack: &mut Stack,
     node: OpenNode,
     expr: &Expr,
-    steps: &mut u64,
+    session: &mut Session,
 ) -> Result<(), Stop>
-    ensures { (call : Call (Unit {0})) (place : Place) → Meets (λ u. on (nodes_of stack.new)) result steps.new (node_part starlark call (node_value_from place (expr_of file expr.now)) [] (node_at (length stack.old) node ∷ nodes_of stack.old) (with_steps steps.old)) }
+    ensures { (call : Call (Unit {0})) (env : Env) (place : Place) → Meets (λ u. on (nodes_of stack.new)) result (state_of session.new) (node_part starlark call (node_value_from place (expr_of file expr.now)) env (node_at (length stack.old) node ∷ nodes_of stack.old) (state_of session.old)) }
 {
     if stack.is_empty() {
         return Err(ill_formed(alloc));
     }
-    put_back(stack, computed(alloc, file, node, expr, steps))
+    put_back(stack, computed(alloc, file, node, expr, session))
 }
 
 /// A node ends, and is added to the node under it.
 fn end(alloc: Global, stack: &mut Stack, node: OpenNode) -> Result<(), Stop>
-    ensures { (call : Call (Unit {0})) (place : Place) (left : ℕ) → Meets (λ u. on (nodes_of stack.new)) result left (node_part starlark call (node_end place) [] (node_at (length stack.old) node ∷ nodes_of stack.old) (with_steps left)) }
+    ensures { (call : Call (Unit {0})) (env : Env) (place : Place) (state : State (Unit {0})) → Meets (λ u. on (nodes_of stack.new)) result state (node_part starlark call (node_end place) env (node_at (length stack.old) node ∷ nodes_of stack.old) state) }
 {
     match stack.pop() {
         None => Err(ill_formed(alloc)),
@@ -88,19 +90,20 @@ fn end(alloc: Global, stack: &mut Stack, node: OpenNode) -> Result<(), Stop>
     }
 }
 
-/// One part of a node, in a file of this number.
+/// One part of a node, in a file of this number. Where it is refused, the node that was taken from the
+/// stack isn't put back: the stack is then only dropped.
 pub(crate) fn step(
     alloc: Global,
     file: u32,
     stack: &mut Stack,
     op: &NodeOp,
-    steps: &mut u64,
+    session: &mut Session,
 ) -> Result<(), Stop>
-    ensures { (call : Call (Unit {0})) → Meets (λ u. on (nodes_of stack.new)) result steps.new (node_part starlark call (part_of file op.now) [] (nodes_of stack.old) (with_steps steps.old)) }
+    ensures { (call : Call (Unit {0})) (env : Env) → Meets (λ u. on (nodes_of stack.new)) result (state_of session.new) (node_part starlark call (part_of file op.now) env (nodes_of stack.old) (state_of session.old)) }
 {
     match stack.pop() {
         None => Err(ill_formed(alloc)),
-        Some(node) => step_at(alloc, file, stack, node, op, steps),
+        Some(node) => step_at(alloc, file, stack, node, op, session),
     }
 }
 
@@ -110,20 +113,20 @@ fn step_at(
     stack: &mut Stack,
     node: OpenNode,
     op: &NodeOp,
-    steps: &mut u64,
+    session: &mut Session,
 ) -> Result<(), Stop>
-    ensures { (call : Call (Unit {0})) → Meets (λ u. on (nodes_of stack.new)) result steps.new (node_part starlark call (part_of file op.now) [] (node_at (length stack.old) node ∷ nodes_of stack.old) (with_steps steps.old)) }
+    ensures { (call : Call (Unit {0})) (env : Env) → Meets (λ u. on (nodes_of stack.new)) result (state_of session.new) (node_part starlark call (part_of file op.now) env (node_at (length stack.old) node ∷ nodes_of stack.old) (state_of session.old)) }
 {
     match op {
         NodeOp::Start(place, kind, holds) => start(
-            alloc, stack, node, *place, *kind, *holds, steps,
+            alloc, stack, node, *place, *kind, *holds, session,
         ),
         NodeOp::Note(place, name, args) => {
-            put_back(stack, noted(alloc, file, node, *place, name, args, steps))
+            put_back(stack, noted(alloc, file, node, *place, name, args, session))
         }
         NodeOp::Key(_, key) => put_back(stack, keyed(node, key)),
         NodeOp::Value(_, value) => put_back(stack, valued(node, value)),
-        NodeOp::ValueFrom(_, expr) => value_from(alloc, file, stack, node, expr, steps),
+        NodeOp::ValueFrom(_, expr) => value_from(alloc, file, stack, node, expr, session),
         NodeOp::End(_) => end(alloc, stack, node),
     }
 }

@@ -2,9 +2,10 @@
 ghost use Rattle.std.specs.Prelude.{◌≡◌};
 ghost use Rattle.ytt_base.specs.declared.fault.Stop.TheVariants as stop;
 ghost use Rattle.ytt_base.specs.Outcomes.{fault_at};
-ghost use Rattle.star_spec.specs.Outcomes.{give, paid_by};
-ghost use Rattle.star_eval.specs.Meets.{Meets, with_steps};
+ghost use Rattle.star_spec.specs.Outcomes.{take_steps};
+ghost use Rattle.star_eval.specs.Meets.{Meets, state_of};
 
+use crate::session::Session;
 use std::alloc::Global;
 use ytt_base::fault::{Fault, FaultKind, Place, Stop};
 use ytt_base::text::Text;
@@ -21,12 +22,12 @@ pub(crate) fn refusal(alloc: Global, kind: FaultKind, place: Place) -> Stop
 }
 
 /// Takes so many steps at a place, or refuses with `Steps` where fewer are left.
-pub(crate) fn pay(alloc: Global, place: Place, cost: u128, steps: &mut u64) -> Result<(), Stop>
-    ensures { Meets (λ u. u) result steps.new (paid_by cost place (give tt) (with_steps steps.old)) }
+pub(crate) fn pay(alloc: Global, place: Place, cost: u128, session: &mut Session) -> Result<(), Stop>
+    ensures { Meets (λ u. u) result (state_of session.new) (take_steps cost place (state_of session.old)) }
 {
-    if u128::from(*steps) < cost {
+    if u128::from(session.steps) < cost {
         return Err(refusal(alloc, FaultKind::Steps, place));
     }
-    *steps -= cost as u64;
+    session.steps -= cost as u64;
     Ok(())
 }

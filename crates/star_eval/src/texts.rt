@@ -2,10 +2,10 @@
 ghost use Rattle.std.specs.Prelude.{◌≡◌, ◌++◌, IfOk, string_bytes};
 ghost use Rattle.star_spec.specs.Values.{text_value};
 ghost use Rattle.star_spec.specs.Operators.{repeat_text, repeated, sum_row};
-ghost use Rattle.star_spec.specs.Numbers.{at_least_zero};
-ghost use Rattle.star_eval.specs.Meets.{Meets, with_steps};
+ghost use Rattle.star_eval.specs.Meets.{Meets, state_of};
 ghost use Rattle.star_eval.specs.View.{value_of};
 
+use crate::session::Session;
 use crate::steps::{pay, refusal};
 use crate::value::Value;
 use std::alloc::Global;
@@ -26,12 +26,12 @@ pub(crate) fn join(
     place: Place,
     left: &Text,
     right: &Text,
-    steps: &mut u64,
+    session: &mut Session,
 ) -> Result<Value, Stop>
-    ensures { Meets value_of result steps.new (sum_row place (text_value left.now) (text_value right.now) (with_steps steps.old)) }
+    ensures { Meets value_of result (state_of session.new) (sum_row place (text_value left.now) (text_value right.now) (state_of session.old)) }
 {
     let bytes = 2 * (left.as_str().len() as u128 + right.as_str().len() as u128);
-    pay(alloc, place, bytes / 16, steps)?;
+    pay(alloc, place, bytes / 16, session)?;
     Ok(Value::Text(joined(alloc, left.as_str(), right.as_str())?))
 }
 
@@ -55,19 +55,19 @@ pub(crate) fn repeat(
     place: Place,
     text: &Text,
     times: i128,
-    steps: &mut u64,
+    session: &mut Session,
 ) -> Result<Value, Stop>
-    ensures { Meets value_of result steps.new (repeat_text place text.now (at_least_zero times) (with_steps steps.old)) }
+    ensures { Meets value_of result (state_of session.new) (repeat_text place text.now times (state_of session.old)) }
 {
     let times = if times < 0 { 0 } else { times as u128 };
     match (text.as_str().len() as u128).checked_mul(1 + times) {
         // No budget has so many steps.
         None => {
-            let _budget = *steps;
+            let _budget = session.steps;
             Err(refusal(alloc, FaultKind::Steps, place))
         }
         Some(bytes) => {
-            pay(alloc, place, bytes / 16, steps)?;
+            pay(alloc, place, bytes / 16, session)?;
             Ok(Value::Text(many(alloc, text.as_str(), times)?))
         }
     }

@@ -1,6 +1,6 @@
 -- What the grammar allows is read.
 use Rattle.std.proofs.Common.{◌≡◌, ℕ, suc, ◌≤◌, max, List, [], ◌∷◌, refl, ◌∙◌, arith}
-use Rattle.star_spec.specs.Code.{BinaryOperator, negation}
+use Rattle.star_spec.specs.Grammar.{BinaryOperator, negation}
 use Rattle.star_spec.specs.Tokens.{Token, token, minus, opening, closing}
 use Rattle.star_spec.specs.Tokens as plain
 use Rattle.star_spec.specs.Grammar.{Source, int, text, unary, binary, group, binary_kind, spell, height, binary_level, level, IsWhole}

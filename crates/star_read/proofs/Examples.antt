@@ -3,7 +3,7 @@ use Rattle.std.proofs.Common.{◌≡◌, pos, [], ◌∷◌, Some, None, refl, a
 use Rattle.std.specs.Prelude.{codes}
 use Rattle.ytt_base.specs.Outcomes.{place_at}
 use Rattle.star_spec.specs.Code as code
-use Rattle.star_spec.specs.Code.{negation, addition, subtraction, multiplication, floor_division}
+use Rattle.star_spec.specs.Grammar.{negation, addition, subtraction, multiplication, floor_division}
 use Rattle.star_spec.specs.Grammar.{int, text, unary, binary, group}
 use Rattle.star_spec.specs.Reading.{IsExpr}
 use Rattle.star_spec.specs.Tokens as plain
@@ -44,7 +44,7 @@ spaced_text = refl
 -- ---- expressions
 
 pub left_to_right : IsExpr (place_at 2 7) (codes "1-2*\"x\"-(3)")
-    (code.binary (place_at 2 7) subtraction (code.binary (place_at 2 7) subtraction (code.int (place_at 2 7) (pos 1)) (code.binary (place_at 2 7) multiplication (code.int (place_at 2 7) (pos 2)) (code.text (place_at 2 7) (codes "x"))))
+    (code.binary (place_at 2 7) code.subtraction (code.binary (place_at 2 7) code.subtraction (code.int (place_at 2 7) (pos 1)) (code.binary (place_at 2 7) code.multiplication (code.int (place_at 2 7) (pos 2)) (code.text (place_at 2 7) (codes "x"))))
     (code.int (place_at 2 7) (pos 3)))
 left_to_right = record {
   found = _;
@@ -59,7 +59,7 @@ left_to_right = record {
   };
 }
 
-pub minus_binds_most : IsExpr (place_at 1 1) (codes "- -1//2") (code.binary (place_at 1 1) floor_division (code.unary (place_at 1 1) negation (code.unary (place_at 1 1) negation (code.int (place_at 1 1) (pos 1)))) (code.int (place_at 1 1) (pos 2)))
+pub minus_binds_most : IsExpr (place_at 1 1) (codes "- -1//2") (code.binary (place_at 1 1) code.floor_division (code.unary (place_at 1 1) code.negation (code.unary (place_at 1 1) code.negation (code.int (place_at 1 1) (pos 1)))) (code.int (place_at 1 1) (pos 2)))
 minus_binds_most = record {
   found = _;
   cut = refl;

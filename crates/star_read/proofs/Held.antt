@@ -1,6 +1,6 @@
 -- The program's tree of a source.
 use Rattle.std.proofs.Common.{◌≡◌, ℕ, ◌≤◌, List, refl, ap, ◌∙◌, arith}
-use Rattle.star_spec.specs.Code.{UnaryOperator, negation, BinaryOperator, addition, subtraction, multiplication, floor_division}
+use Rattle.star_spec.specs.Grammar.{UnaryOperator, negation, unary_of, BinaryOperator, addition, subtraction, multiplication, floor_division, binary_of}
 use Rattle.star_spec.specs.Code as code
 use Rattle.star_spec.specs.Grammar.{Source, int, text, unary, binary, group, binary_kind, binary_level, level, tree}
 use Rattle.ytt_base.specs.Outcomes.{place_at}
@@ -32,13 +32,13 @@ held (binary op l a b) = expr.Binary l (binary_held op) (held a) (held b)
 held (group l r a) = held a
 
 both : (file l : ℕ) (op : BinaryOperator) (a b : Source) → expr_of file (held a) ≡ tree file a → expr_of file (held b) ≡ tree file b
-    → code.binary (place_at file l) op (expr_of file (held a)) (expr_of file (held b)) ≡ code.binary (place_at file l) op (tree file a) (tree file b)
+    → code.binary (place_at file l) (binary_of op) (expr_of file (held a)) (expr_of file (held b)) ≡ code.binary (place_at file l) (binary_of op) (tree file a) (tree file b)
 both file l op a b p q = cc
 
 pub held-tree : (file : ℕ) (s : Source) → expr_of file (held s) ≡ tree file s
 held-tree file (int l z) = expr_of-Int file l z
 held-tree file (text l s) = expr_of-Text file l s
-held-tree file (unary negation l a) = expr_of-Unary file l Minus (held a) ∙ ap (code.unary (place_at file l) negation) (held-tree file a)
+held-tree file (unary negation l a) = expr_of-Unary file l Minus (held a) ∙ ap (code.unary (place_at file l) code.negation) (held-tree file a)
 held-tree file (binary addition l a b) = expr_of-Binary file l Add (held a) (held b) ∙ both file l addition a b (held-tree file a) (held-tree file b)
 held-tree file (binary subtraction l a b) = expr_of-Binary file l Subtract (held a) (held b) ∙ both file l subtraction a b (held-tree file a) (held-tree file b)
 held-tree file (binary multiplication l a b) = expr_of-Binary file l Multiply (held a) (held b) ∙ both file l multiplication a b (held-tree file a) (held-tree file b)

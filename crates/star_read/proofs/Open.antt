@@ -1,6 +1,6 @@
 -- The sources that a state of the machine has begun, and how they may go on.
 use Rattle.std.proofs.Common.{◌≡◌, ℕ, pos, ◌≤◌, List, [], ◌∷◌, refl, ap, ◌∙◌, arith}
-use Rattle.star_spec.specs.Code.{UnaryOperator, BinaryOperator}
+use Rattle.star_spec.specs.Grammar.{UnaryOperator, BinaryOperator}
 use Rattle.star_spec.specs.Tokens.{Token, token, opening, closing}
 use Rattle.star_spec.specs.Grammar.{Source, int, unary, binary, group, unary_kind, binary_kind, spell, height, binary_level, level, IsWhole}
 use Rattle.star_read.specs.declared.frame.Frame.{Frame}

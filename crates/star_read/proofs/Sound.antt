@@ -1,7 +1,7 @@
 -- What the machine has read is spelled so.
 use Rattle.std.proofs.Common.{◌≡◌, ℕ, ◌<◌, ◌≤◌, List, [], ◌∷◌, Option, Some, None, refl, sym, ap, ◌∙◌, subst, ⊎_elim, arith}
 use Rattle.std.proofs.lemmas.Bool.{cond-true, cond-false, le-leb, lt-leb, cases_lt}
-use Rattle.star_spec.specs.Code.{BinaryOperator, negation, addition, subtraction, multiplication, floor_division}
+use Rattle.star_spec.specs.Grammar.{BinaryOperator, negation, addition, subtraction, multiplication, floor_division}
 use Rattle.star_spec.specs.Tokens as plain
 use Rattle.star_spec.specs.Tokens.{Kind, Token, token}
 use Rattle.star_spec.specs.Grammar.{Source, int, text, unary, binary, group, binary_kind, spell, height, binary_level, level, IsWhole}

@@ -1,40 +1,53 @@
 -- How the arguments of a call are bound to parameters.
-use Rattle.std.specs.Prelude.{List, [], ◌∷◌, ◌++◌, Option, Some, None, bytes_eq}
+use Rattle.std.specs.Prelude.{Bool, true, false, ◌||◌, List, [], ◌∷◌, ◌++◌, Option, Some, None, if◌then◌else◌, bytes_eq}
 use Rattle.ytt_base.specs.declared.fault.FaultKind.TheVariants as kind
 use Rattle.ytt_base.specs.declared.fault.Place.{Place}
-use Rattle.star_spec.specs.Code.{Name, Parameters, no_parameters, required, defaulted}
-use Rattle.star_spec.specs.Values.{Value, Values, no_values, a_value, Fields, no_fields, a_field, Arguments, arguments, Env, of_box}
-use Rattle.star_spec.specs.Outcomes.{Computation, give, or_fail, ◌>>=◌}
-use Rattle.star_spec.specs.Operators.{either}
-use Rattle.star_spec.specs.Store.{new_object, with_boxes}
+use Rattle.star_spec.specs.Code.{Name, Parameters, no_parameters, required, defaulted, bare_star, starred_parameter, double_starred_parameter}
+use Rattle.star_spec.specs.Values.{Value, text_value, tuple_value, dict_value, Values, no_values, a_value, Fields, no_fields, a_field, Arguments, arguments, Env, of_dict, of_box}
+use Rattle.star_spec.specs.Outcomes.{Computation, give, or_fail, new_object, ◌>>=◌}
+use Rattle.star_spec.specs.Names.{with_boxes}
 
--- names with their values
-abbrev pub Bound : Type 0
-Bound = List (Name × Value)
+-- ---- arguments by name
 
 abbrev pub field_of : Name → Fields → Option Value
 field_of x no_fields = None
-field_of x (a_field y v fs) = either (bytes_eq x y) (Some v) (field_of x fs)
+field_of x (a_field y v fs) = if bytes_eq x y then Some v else field_of x fs
 
 abbrev pub without_field : Name → Fields → Fields
 without_field x no_fields = no_fields
-without_field x (a_field y v fs) = either (bytes_eq x y) fs (a_field y v (without_field x fs))
+without_field x (a_field y v fs) = if bytes_eq x y then fs else a_field y v (without_field x fs)
+
+abbrev pub has_field : Name → Fields → Bool
+has_field x no_fields = false
+has_field x (a_field y v fs) = bytes_eq x y || has_field x fs
+
+-- a name is given twice
+abbrev pub has_twice : Fields → Bool
+has_twice no_fields = false
+has_twice (a_field x v fs) = has_field x fs || has_twice fs
 
 abbrev pub or_default : Option Value → Option Value → Option Value
 or_default None d = d
 or_default (Some v) d = Some v
 
-abbrev pub in_front : Name → Option Value → Option Bound → Option Bound
-in_front x (Some v) (Some more) = Some ((x, v) ∷ more)
+-- ---- parameters
+
+-- what a parameter gets: a value, or a dict of the arguments by name that are left
+pub data Given : Type 0 where
+  given : Value → Given
+  rest_given : Fields → Given
+
+abbrev pub in_front : Name → Option Value → Option (List (Name × Given)) → Option (List (Name × Given))
+in_front x (Some v) (Some more) = Some ((x, given v) ∷ more)
 in_front x _ _ = None
 
 -- an argument by position, which none by name may repeat
 abbrev pub unless_named : Name → Value → Fields → Option Value
-unless_named x v fs = elim (field_of x fs) [ None ↦ Some v | Some w ↦ None ]
+unless_named x v fs = if has_field x fs then None else Some v
 
--- the parameters with their values: arguments by position first, then those by name, then defaults; nothing where one
--- has no value or an argument has no parameter
-abbrev pub bound : Parameters → (defaults : List Value) → Values → Fields → Option Bound
+-- The parameters with what they get: arguments by position first, then those by name, then defaults; nothing where one
+-- gets none or an argument has no parameter. A star takes the positions that are left, or none may be left.
+abbrev pub bound : Parameters → (defaults : List Value) → Values → Fields → Option (List (Name × Given))
 bound no_parameters ds no_values no_fields = Some []
 bound no_parameters ds _ _ = None
 bound (required x ps) ds (a_value v vs) fs = in_front x (unless_named x v fs) (bound ps ds vs fs)
@@ -42,25 +55,39 @@ bound (required x ps) ds no_values fs = in_front x (field_of x fs) (bound ps ds 
 bound (defaulted x e ps) [] vs fs = None
 bound (defaulted x e ps) (d ∷ ds) (a_value v vs) fs = in_front x (unless_named x v fs) (bound ps ds vs fs)
 bound (defaulted x e ps) (d ∷ ds) no_values fs = in_front x (or_default (field_of x fs) (Some d)) (bound ps ds no_values (without_field x fs))
+bound (bare_star ps) ds (a_value v vs) fs = None
+bound (bare_star ps) ds no_values fs = bound ps ds no_values fs
+bound (starred_parameter x ps) ds vs fs = in_front x (Some (tuple_value vs)) (bound ps ds no_values fs)
+bound (double_starred_parameter x ps) ds (a_value v vs) fs = None
+bound (double_starred_parameter x ps) ds no_values fs = Some ((x, rest_given fs) ∷ [])
+
+-- no name may be given twice
+abbrev pub all_bound : Parameters → (defaults : List Value) → Arguments → Option (List (Name × Given))
+all_bound ps ds (arguments vs fs) = if has_twice fs then None else bound ps ds vs fs
+
+-- ---- scopes
+
+abbrev pub text_pairs : Fields → List (Value × Value)
+text_pairs no_fields = []
+text_pairs (a_field x v fs) = (text_value x, v) ∷ text_pairs fs
+
+abbrev pub value_given : {H : Type 0} → Given → Computation H Value
+value_given (given v) = give v
+value_given (rest_given fs) = new_object (of_dict (text_pairs fs)) >>= λ r. give (dict_value r)
 
 -- a box for each
-abbrev pub boxes_of : {H : Type 0} → Bound → Computation H Env
+abbrev pub boxes_of : {H : Type 0} → List (Name × Given) → Computation H Env
 boxes_of [] = give []
 boxes_of (b ∷ bs) = do
-  r ← new_object (of_box (Some b.1))
+  v ← value_given b.1
+  r ← new_object (of_box (Some v))
   env ← boxes_of bs
   give ((b.0, r) ∷ env)
 
-abbrev pub values_of : Arguments → Values
-values_of (arguments vs fs) = vs
-
-abbrev pub fields_of : Arguments → Fields
-fields_of (arguments vs fs) = fs
-
 -- the scope of a call: boxes for its parameters and for the names that its block binds, before the function's own scope
 abbrev pub scope_of_call : {H : Type 0} → Place → Parameters → (names : List Name) → (defaults : List Value) → Arguments → Env → Computation H Env
-scope_of_call p ps names ds given env = do
-  bs ← or_fail kind.ArgBind p (bound ps ds (values_of given) (fields_of given))
+scope_of_call p ps names ds vs env = do
+  bs ← or_fail kind.ArgBind p (all_bound ps ds vs)
   own ← boxes_of bs
   all ← with_boxes names own
   give (all ++ env)

@@ -2,9 +2,28 @@
 use Rattle.std.specs.Prelude.{◌≡◌, ℤ, ℕ, suc, ◌<◌, ◌≤◌, max, List, [], ◌∷◌, ◌++◌, Result, Ok, Err}
 use Rattle.ytt_base.specs.Outcomes.{place_at}
 use Rattle.star_spec.specs.Code as code
-use Rattle.star_spec.specs.Code.{Expr, UnaryOperator, negation, BinaryOperator, addition, subtraction, multiplication, floor_division}
+use Rattle.star_spec.specs.Code.{Expr}
 use Rattle.star_spec.specs.Tokens as kind
 use Rattle.star_spec.specs.Tokens.{Kind, Token, token}
+
+-- the operators that are read so far
+pub data UnaryOperator : Type 0 where
+  negation : UnaryOperator
+
+pub data BinaryOperator : Type 0 where
+  addition : BinaryOperator
+  subtraction : BinaryOperator
+  multiplication : BinaryOperator
+  floor_division : BinaryOperator
+
+abbrev pub unary_of : UnaryOperator → code.UnaryOperator
+unary_of negation = code.negation
+
+abbrev pub binary_of : BinaryOperator → code.BinaryOperator
+binary_of addition = code.addition
+binary_of subtraction = code.subtraction
+binary_of multiplication = code.multiplication
+binary_of floor_division = code.floor_division
 
 -- An expression as it is written: brackets are in it, and the line of each token.
 pub data Source : Type 0 where
@@ -35,8 +54,8 @@ spell (group l r a) ts = token kind.opening l ∷ spell a (token kind.closing r 
 abbrev pub tree : (file : ℕ) → Source → Expr
 tree file (int l z) = code.int (place_at file l) z
 tree file (text l t) = code.text (place_at file l) t
-tree file (unary op l a) = code.unary (place_at file l) op (tree file a)
-tree file (binary op l a b) = code.binary (place_at file l) op (tree file a) (tree file b)
+tree file (unary op l a) = code.unary (place_at file l) (unary_of op) (tree file a)
+tree file (binary op l a b) = code.binary (place_at file l) (binary_of op) (tree file a) (tree file b)
 tree file (group l r a) = tree file a
 
 -- its height, in which a pair of brackets is a level

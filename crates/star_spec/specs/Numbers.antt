@@ -1,5 +1,5 @@
--- Integers of 128 bits.
-use Rattle.std.specs.Prelude.{ℕ, suc, ◌+◌, ◌/◌, ◌^◌, ℤ, pos, negsuc, neg_ℤ, Bool, false, nat_lt, ◌==◌}
+-- Integers of 128 bits, and the numbers of ranges.
+use Rattle.std.specs.Prelude.{ℕ, zero, suc, ◌+◌, ◌-◌, ◌/◌, ◌^◌, ℤ, pos, negsuc, neg_ℤ, ◌+ℤ◌, ◌-ℤ◌, Bool, false, nat_lt, ◌==◌, List, [], ◌∷◌}
 
 -- the integer has 128 bits
 abbrev pub fits : ℤ → Bool
@@ -21,3 +21,20 @@ floor_quotient (pos a) (pos b) = pos (a / b)
 floor_quotient (pos a) (negsuc b) = neg_ℤ (pos ((a + b) / suc b))
 floor_quotient (negsuc a) (pos b) = negsuc (a / b)
 floor_quotient (negsuc a) (negsuc b) = pos (suc a / suc b)
+
+-- ---- ranges
+
+-- how many steps of this length lead past 0 to a number or beyond it
+abbrev pub steps_up : ℤ → ℕ → ℕ
+steps_up (pos n) step = (n + (step - 1)) / step
+steps_up (negsuc n) step = 0
+
+-- how many numbers a range has: from the start on, and before its stop
+abbrev pub range_count : (start stop step : ℤ) → ℕ
+range_count start stop (pos step) = steps_up (stop -ℤ start) step
+range_count start stop (negsuc step) = steps_up (start -ℤ stop) (suc step)
+
+-- so many numbers, from this one on
+abbrev pub progression : ℕ → (start step : ℤ) → List ℤ
+progression zero start step = []
+progression (suc n) start step = start ∷ progression n (start +ℤ step) step

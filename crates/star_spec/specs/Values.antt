@@ -1,20 +1,30 @@
 -- What code computes: values, the annotated children that items are built into, and the objects of a store.
-use Rattle.std.specs.Prelude.{ℕ, ℤ, Bool, List, Option}
+use Rattle.std.specs.Prelude.{ℕ, ℤ, Bool, List, [], ◌∷◌, Option}
 use Rattle.ytt_base.specs.declared.fault.Place.{Place}
 use Rattle.ytt_base.specs.Trees.{Scalar, Tree}
 use Rattle.star_spec.specs.Code.{Name}
 use Rattle.star_spec.specs.Program.{ItemKind}
 
 mutual
-  -- a text is its bytes in UTF-8; a function is the position of its object; a fragment is items that a function built;
-  -- a native function has its number, and the values that it holds; the last is what `template.replace` gives
+  -- A text is its bytes in UTF-8. A list, a dict and a function are the positions of their objects. A fragment is items
+  -- that a function built. The language's own functions are known by their names, its methods by their names and what
+  -- they are of, those that a host answers by their names and what they hold; the last is what `template.replace` gives.
   pub data Value : Type 0 where
     none_value : Value
+    bool_value : Bool → Value
     int_value : ℤ → Value
     text_value : List ℕ → Value
-    function_value : (position : ℕ) → Value
+    tuple_value : Values → Value
+    range_value : (start stop step : ℤ) → Value
+    struct_value : Fields → Value
     fragment_value : ItemKind → Children → Value
-    native_value : (number : ℕ) → Values → Value
+    list_value : (position : ℕ) → Value
+    dict_value : (position : ℕ) → Value
+    function_value : (position : ℕ) → Value
+    module_value : Name → Fields → Value
+    builtin_value : Name → Value
+    method_value : Name → Value → Value
+    native_value : Name → Values → Value
     replace_value : Value → Value
 
   pub data Values : Type 0 where
@@ -29,9 +39,9 @@ mutual
   pub data Arguments : Type 0 where
     arguments : Values → Fields → Arguments
 
-  -- what an item is built into: its place, its kind, its notes, its key if it is a pair, and what it holds
+  -- what an item is built into: its place, its notes, its key if it is a pair, and what it holds
   pub data Child : Type 0 where
-    child : Place → ItemKind → BuiltNotes → Option Scalar → Body → Child
+    child : Place → BuiltNotes → Option Scalar → Body → Child
 
   pub data Children : Type 0 where
     no_children : Children
@@ -52,17 +62,50 @@ pub data Taken : Type 0 where
   taken : Body → Taken
   many : Children → Taken
 
+-- ---- objects
+
 -- the names of a scope, each with the position of its box
 abbrev pub Env : Type 0
 Env = List (Name × ℕ)
 
--- a box with a value or none; a function with its file, its number there, its scope and its defaults
+-- a function: the name that it shows, its file, its number there, its scope and its defaults
+pub record Function : Type 0 where
+  pub name : Name
+  pub file : ℕ
+  pub number : ℕ
+  pub env : Env
+  pub defaults : List Value
+
+-- the members of a list, the pairs of a dict, a box with a value or none, a function
 pub data Contents : Type 0 where
+  of_list : List Value → Contents
+  of_dict : List (Value × Value) → Contents
   of_box : Option Value → Contents
-  of_function : (file number : ℕ) → Env → List Value → Contents
+  of_function : Function → Contents
 
 -- an object: frozen or not, and so many loops walk it
 pub record Object : Type 0 where
   pub contents : Contents
   pub frozen : Bool
   pub loops : ℕ
+
+-- the objects, in the order in which they were made
+abbrev pub Store : Type 0
+Store = List Object
+
+-- ---- lists of values
+
+abbrev pub values_in : Values → List Value
+values_in no_values = []
+values_in (a_value v vs) = v ∷ values_in vs
+
+abbrev pub values_from : List Value → Values
+values_from [] = no_values
+values_from (v ∷ vs) = a_value v (values_from vs)
+
+abbrev pub fields_in : Fields → List (Name × Value)
+fields_in no_fields = []
+fields_in (a_field x v fs) = (x, v) ∷ fields_in fs
+
+abbrev pub one_value : Value → Arguments
+one_value v = arguments (a_value v no_values) no_fields

@@ -1,12 +1,11 @@
 // Items as instructions.
 ghost use Rattle.std.specs.Prelude.{◌≡◌, IfOk, OnOk};
-ghost use Rattle.star_spec.specs.Program.{document_item};
 ghost use Rattle.star_tree.specs.View.{item_kind_of, program_of};
 ghost use Rattle.template_compile.specs.Emits.{Emits};
 ghost use Rattle.template_spec.specs.Compiled.{compiled, content_code, item_code, items_code};
-ghost use Rattle.template_spec.specs.Meaning.{RunsAsBuilt};
-ghost use Rattle.template_spec.specs.WellNested.{Straight, WellNested};
-ghost use Rattle.template_tree.specs.View.{content_of, in_content, items_as, items_of, node_of};
+ghost use Rattle.template_spec.specs.Placed.{AllowedItems, Placed};
+ghost use Rattle.template_spec.specs.WellNested.{WellNested};
+ghost use Rattle.template_tree.specs.View.{content_of, in_content, items_as, node_of, template_of};
 
 use crate::parts::{holds, put, put_key, put_notes};
 use sqlite_items::Items;
@@ -17,13 +16,14 @@ use ytt_base::fault::Place;
 use ytt_base::text::Memory;
 
 /// The program of a template, in the file of the template's number: a part of a node for each start, note,
-/// key, value and end, in the order of the text. It runs as the template is built. Where pairs alone have
-/// keys, it is well nested. `Memory` comes where there was no room.
+/// key, value and end, in the order of the text. So it runs as the template is built, for every host and
+/// every state of it, by the law `compiled_runs_as_built`, whose premise is the clause `code`. Where the
+/// template is placed and its names are as they may be, the program is well nested. `Memory` comes where
+/// there was no room.
 pub fn compile_flat(alloc: Global, template: &Template) -> Result<Program, Memory>
-    ensures code { IfOk result (λ p. program_of p ≡ compiled (items_of template.now.file template.now.items)) }
+    ensures code { IfOk result (λ p. program_of p ≡ compiled (template_of template.now)) }
     ensures file { IfOk result (λ p. p.file ≡ template.now.file) }
-    ensures meaning { IfOk result (λ p. RunsAsBuilt (program_of p) (items_of template.now.file template.now.items)) }
-    ensures well_nested { IfOk result (λ p. Straight document_item (items_of template.now.file template.now.items) → WellNested (program_of p)) }
+    ensures well_nested { IfOk result (λ p. Placed (template_of template.now) → AllowedItems (template_of template.now) → WellNested (program_of p)) }
 {
     let mut code = Items::new(alloc);
     put_items(

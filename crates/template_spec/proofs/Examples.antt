@@ -10,12 +10,12 @@ use Rattle.yaml_spec.specs.Scalars.{form}
 use Rattle.yaml_spec.specs.Text.{fits_plain}
 use Rattle.star_spec.specs.Code.{Expr, int, text, unary, binary, negation, addition, multiplication, floor_division}
 use Rattle.star_spec.specs.Program.{document_item, pair_item}
-use Rattle.star_spec.specs.Values.{Children}
 use Rattle.star_spec.specs.Outcomes.{State, Ending, done, bad}
 use Rattle.star_spec.specs.Calls.{no_natives}
 use Rattle.star_spec.specs.Eval.{starlark}
 use Rattle.template_spec.specs.Template.{Items, no_items, an_item, node, no_notes, no_key, written_key, Content, written_value, value_from, pairs}
 use Rattle.template_spec.specs.Compiled.{compiled}
+use Rattle.template_spec.specs.Files.{FileResult, nothing_to_load}
 use Rattle.template_spec.specs.Meaning.{BuildFile, RunFile, documents}
 
 -- what is left to see of an ending: documents with the steps that are left, or a fault
@@ -23,8 +23,8 @@ pub data Seen : Type 0 where
   gives : Trees → (steps : ℕ) → Seen
   faults : Fault → Seen
 
-abbrev seen : Ending (Unit {0}) Children → Seen
-seen (done cs s) = gives (documents cs) s.steps
+abbrev seen : Ending (Unit {0}) FileResult → Seen
+seen (done r s) = gives (documents r.documents) s.steps
 seen (bad f s) = faults f
 
 abbrev at_start : ℕ → State (Unit {0})
@@ -32,10 +32,10 @@ at_start steps = record { store = []; steps = steps; host = tt }
 
 -- a template alone in file 1, with so many steps
 abbrev built_with : ℕ → Items → Seen
-built_with steps t = seen (BuildFile starlark no_natives (λ f. t) 10 t (at_start steps))
+built_with steps t = seen (BuildFile starlark no_natives nothing_to_load (λ f. t) 10 t (at_start steps))
 
 abbrev run_with : ℕ → Items → Seen
-run_with steps t = seen (RunFile starlark no_natives (λ f. compiled t) 10 (compiled t) (at_start steps))
+run_with steps t = seen (RunFile starlark no_natives nothing_to_load (λ f. compiled t) 10 (compiled t) (at_start steps))
 
 abbrev document : Content → Items → Items
 document c more = an_item (node (place_at 1 1) document_item no_notes no_key c) more

@@ -1,36 +1,13 @@
--- Acts that do the same over what they build: g takes what the one builds to what the other builds.
-use Rattle.std.proofs.Common.{◌≡◌, ℕ, ◌+◌, ◌-◌, List, [], ◌∷◌, Option, Some, None, Bool, true, false, refl, ap, ◌∙◌, nat_le}
+-- Parts of blocks that do the same over what they build: g takes what the one builds to what the other builds.
+use Rattle.std.proofs.Common.{◌≡◌, List, [], ◌∷◌, Option, Some, None, Bool, true, false, if◌then◌else◌, refl, ap, ◌∙◌}
 use Rattle.ytt_base.specs.declared.fault.Place.{Place}
 use Rattle.star_spec.specs.Code.{Expr}
 use Rattle.star_spec.specs.Values.{Value, Env}
-use Rattle.star_spec.specs.Outcomes.{State, Ending, done, bad, then_do, Computation, ◌>>=◌, give, paid_if, paid, finally}
-use Rattle.star_spec.specs.Store.{change_loops}
+use Rattle.star_spec.specs.Outcomes.{State, Ending, done, bad, then_do, Computation, ◌>>=◌, give, take_steps, paid, finally, on_store}
+use Rattle.star_spec.specs.Store.{begin_loop, end_loop}
 use Rattle.star_spec.specs.Language.{Call, Language, Word, breaks, continues, returns}
-use Rattle.star_spec.specs.Acts.{Flow, on, out, Act, worded, plain, pick, when, next_turn, turns, walk, loop}
-
--- laws of `then_do`
-pub then_assoc : {H A B C : Type 0} (r : Ending H A) (f : A → Computation H B) (g : B → Computation H C) → then_do (then_do r f) g ≡ then_do r (λ a s. then_do (f a s) g)
-then_assoc (done a s) f g = refl
-then_assoc (bad e s) f g = refl
-
-pub then_ext : {H A B : Type 0} (r : Ending H A) (f g : A → Computation H B) → ((a : A) (s : State H) → f a s ≡ g a s) → then_do r f ≡ then_do r g
-then_ext (done a s) f g h = h a s
-then_ext (bad e s) f g h = refl
-
--- what follows, behind steps that are taken
-pub paid_if_then : {H A B : Type 0} (b : Bool) (n : ℕ) (p : Place) (m : Computation H A) (f : A → Computation H B) (s : State H) → then_do (paid_if b n p m s) f ≡ paid_if b n p (m >>= f) s
-paid_if_then true n p m f s = refl
-paid_if_then false n p m f s = refl
-
-pub paid_then : {H A B : Type 0} (p : Place) (m : Computation H A) (f : A → Computation H B) (s : State H) → then_do (paid p m s) f ≡ paid p (m >>= f) s
-paid_then p m f s = paid_if_then (nat_le 1 s.steps) 1 p m f s
-
-paid_if_ext : {H A : Type 0} (b : Bool) (n : ℕ) (p : Place) (m m' : Computation H A) (s : State H) → ((s : State H) → m s ≡ m' s) → paid_if b n p m s ≡ paid_if b n p m' s
-paid_if_ext true n p m m' s h = h (record s { steps = s.steps - n })
-paid_if_ext false n p m m' s h = refl
-
-pub paid_ext : {H A : Type 0} (p : Place) (m m' : Computation H A) (s : State H) → ((s : State H) → m s ≡ m' s) → paid p m s ≡ paid p m' s
-paid_ext p m m' s h = paid_if_ext (nat_le 1 s.steps) 1 p m m' s h
+use Rattle.star_spec.specs.Members.{walked_in}
+use Rattle.star_spec.specs.Flow.{Flow, on, out, Part, worded, plain, when, next_turn, turns, walk, loop}
 
 abbrev pub flow_map : {K L : Type 0} → (K → L) → Flow K → Flow L
 flow_map g (on k) = on (g k)
@@ -39,20 +16,16 @@ flow_map g (out w k) = out w (g k)
 abbrev pub mapped : {H K L : Type 0} → (K → L) → Ending H (Flow K) → Ending H (Flow L)
 mapped g r = then_do r (λ f. give (flow_map g f))
 
-pub record Follows {H K L : Type 0} (g : K → L) (a : Act H K) (b : Act H L) : Type 0 where
+pub record Follows {H K L : Type 0} (g : K → L) (a : Part H K) (b : Part H L) : Type 0 where
   pub by : (k : K) (s : State H) → b (g k) s ≡ mapped g (a k s)
 
-mapped_paid : {H K L : Type 0} (g : K → L) (b : Bool) (n : ℕ) (p : Place) (m : Computation H (Flow K)) (m' : Computation H (Flow L)) (s : State H) → ((s : State H) → m' s ≡ mapped g (m s)) → paid_if b n p m' s ≡ mapped g (paid_if b n p m s)
-mapped_paid g true n p m m' s h = h (record s { steps = s.steps - n })
-mapped_paid g false n p m m' s h = refl
-
-pub paid_follows : {H K L : Type 0} (g : K → L) (p : Place) (m : Computation H (Flow K)) (m' : Computation H (Flow L)) (s : State H) → ((s : State H) → m' s ≡ mapped g (m s)) → paid p m' s ≡ mapped g (paid p m s)
-paid_follows g p m m' s h = mapped_paid g (nat_le 1 s.steps) 1 p m m' s h
-
--- a value, and then acts that follow
+-- a value, and then parts that follow
 pub value_follows : {H A K L : Type 0} (g : K → L) (r : Ending H A) (f : A → Computation H (Flow K)) (f' : A → Computation H (Flow L)) → ((a : A) (s : State H) → f' a s ≡ mapped g (f a s)) → then_do r f' ≡ mapped g (then_do r f)
 value_follows g (done a s) f f' h = h a s
 value_follows g (bad e s) f f' h = refl
+
+pub paid_follows : {H K L : Type 0} (g : K → L) (p : Place) (m : Computation H (Flow K)) (m' : Computation H (Flow L)) (s : State H) → ((s : State H) → m' s ≡ mapped g (m s)) → paid p m' s ≡ mapped g (paid p m s)
+paid_follows g p m m' s h = value_follows g (take_steps 1 p s) (λ u. m) (λ u. m') (λ u s. h s)
 
 worded_map : {H K L : Type 0} (g : K → L) (w : Option Word) (s : State H) (k : K) → done (worded (g k) w) s ≡ done (flow_map g (worded k w)) s
 worded_map g None s k = refl
@@ -61,14 +34,14 @@ worded_map g (Some w) s k = refl
 pub plain_follows : {H K L : Type 0} (g : K → L) (m : Computation H (Option Word)) → Follows g (plain m) (plain m)
 plain_follows g m = record { by = λ k s. value_follows g (m s) (λ w. give (worded k w)) (λ w. give (worded (g k) w)) (λ w s. worded_map g w s k) }
 
-pub pick_follows : {H K L : Type 0} (g : K → L) (b : Bool) (x y : Act H K) (x' y' : Act H L) → Follows g x x' → Follows g y y' → Follows g (pick b x y) (pick b x' y')
-pick_follows g true x y x' y' hx hy = hx
-pick_follows g false x y x' y' hx hy = hy
+pub choice_follows : {H K L : Type 0} (g : K → L) (b : Bool) (x y : Part H K) (x' y' : Part H L) → Follows g x x' → Follows g y y' → Follows g (if b then x else y) (if b then x' else y')
+choice_follows g true x y x' y' hx hy = hx
+choice_follows g false x y x' y' hx hy = hy
 
-pub when_follows : {H K L : Type 0} (g : K → L) (test : Computation H Bool) (x y : Act H K) (x' y' : Act H L) → Follows g x x' → Follows g y y' → Follows g (when test x y) (when test x' y')
-when_follows g test x y x' y' hx hy = record { by = λ k s. value_follows g (test s) _ _ (λ v s. (pick_follows g v x y x' y' hx hy).by k s) }
+pub when_follows : {H K L : Type 0} (g : K → L) (test : Computation H Bool) (x y : Part H K) (x' y' : Part H L) → Follows g x x' → Follows g y y' → Follows g (when test x y) (when test x' y')
+when_follows g test x y x' y' hx hy = record { by = λ k s. value_follows g (test s) _ _ (λ v s. (choice_follows g v x y x' y' hx hy).by k s) }
 
-next_follows : {H K L : Type 0} (g : K → L) (x : Act H K) (x' : Act H L) → Follows g x x' → (f : Flow K) (s : State H) → next_turn x' (flow_map g f) s ≡ mapped g (next_turn x f s)
+next_follows : {H K L : Type 0} (g : K → L) (x : Part H K) (x' : Part H L) → Follows g x x' → (f : Flow K) (s : State H) → next_turn x' (flow_map g f) s ≡ mapped g (next_turn x f s)
 next_follows g x x' h (on k) s = h.by k s
 next_follows g x x' h (out breaks k) s = refl
 next_follows g x x' h (out continues k) s = h.by k s
@@ -79,7 +52,7 @@ flow_follows : {H K L : Type 0} (g : K → L) (r : Ending H (Flow K)) (f : Flow 
 flow_follows g (done a s) f f' h = h a s
 flow_follows g (bad e s) f f' h = refl
 
-pub turns_follow : {H K L : Type 0} (g : K → L) (p : Place) (x : Value → Act H K) (x' : Value → Act H L) → ((v : Value) → Follows g (x v) (x' v)) → (vs : List Value) → Follows g (turns p x vs) (turns p x' vs)
+pub turns_follow : {H K L : Type 0} (g : K → L) (p : Place) (x : Value → Part H K) (x' : Value → Part H L) → ((v : Value) → Follows g (x v) (x' v)) → (vs : List Value) → Follows g (turns p x vs) (turns p x' vs)
 turns_follow g p x x' h [] = record { by = λ k s. refl }
 turns_follow g p x x' h (v ∷ vs) = record {
   by = λ k s.
@@ -91,18 +64,18 @@ finally_mapped : {H K L : Type 0} (g : K → L) (r : Ending H (Flow K)) (f : Sta
 finally_mapped g (done a s) f = refl
 finally_mapped g (bad e s) f = refl
 
-pub walk_follows : {H K L : Type 0} (g : K → L) (language : Language H) (v : Value) (x : Act H K) (x' : Act H L) → Follows g x x' → Follows g (walk language v x) (walk language v x')
-walk_follows g language v x x' h = record {
+pub walk_follows : {H K L : Type 0} (g : K → L) (v : Value) (x : Part H K) (x' : Part H L) → Follows g x x' → Follows g (walk v x) (walk v x')
+walk_follows g v x x' h = record {
   by = λ k s.
-      ap (λ r. finally r (change_loops (λ n. n - 1) (language.walked v))) (h.by k (change_loops (λ n. n + 1) (language.walked v) s))
-      ∙ finally_mapped g (x k (change_loops (λ n. n + 1) (language.walked v) s)) (change_loops (λ n. n - 1) (language.walked v));
+      ap (λ r. finally r (on_store (end_loop (walked_in v)))) (h.by k (on_store (begin_loop (walked_in v)) s))
+      ∙ finally_mapped g (x k (on_store (begin_loop (walked_in v)) s)) (on_store (end_loop (walked_in v)));
 }
 
-pub loop_follows : {H K L : Type 0} (g : K → L) (language : Language H) (call : Call H) (p : Place) (x e : Expr) (env : Env) (b : Act H K) (b' : Act H L) → Follows g b b' → Follows g (loop language call p x e env b) (loop language call p x e env b')
+pub loop_follows : {H K L : Type 0} (g : K → L) (language : Language H) (call : Call H) (p : Place) (x e : Expr) (env : Env) (b : Part H K) (b' : Part H L) → Follows g b b' → Follows g (loop language call p x e env b) (loop language call p x e env b')
 loop_follows g language call p x e env b b' h = record {
   by = λ k s. paid_follows g p _ _ s (λ s.
       value_follows g (language.eval call e env s) _ _ (λ v s.
       value_follows g (language.members p v s) _ _ (λ vs s.
-      (walk_follows g language v _ _ (turns_follow g p (λ w j. language.assign call p x w env >>= λ u. b j) (λ w j. language.assign call p x w env >>= λ u. b' j)
+      (walk_follows g v _ _ (turns_follow g p (λ w j. language.assign call p x w env >>= λ u. b j) (λ w j. language.assign call p x w env >>= λ u. b' j)
       (λ w. record { by = λ j s. value_follows g (language.assign call p x w env s) _ _ (λ u s. h.by j s) }) vs)).by k s)));
 }

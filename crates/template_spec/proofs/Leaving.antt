@@ -1,16 +1,17 @@
--- In a placed template no control word leaves a node.
-use Rattle.std.proofs.Common.{ℕ, ◌+◌, ◌-◌, List, [], ◌∷◌, Option, Some, None, Bool, true, false, nat_le}
+-- In a template whose control words stand where they may, none leaves a node.
+use Rattle.std.proofs.Common.{ℕ, List, [], ◌∷◌, Option, Some, None, Bool, true, false, if◌then◌else◌}
 use Rattle.ytt_base.specs.declared.fault.Place.{Place}
-use Rattle.star_spec.specs.Code.{Name, Expr, Parameters, Statement, evaluate, assign, return, break, continue, pass}
+use Rattle.star_spec.specs.Code.{Name, Expr, Parameters, Statement, evaluate, assign, augment, load, return, break, continue, pass}
 use Rattle.template_spec.specs.Template.{Item, node, code, if_block, for_block, def_block, Items, no_items, an_item, Branches, no_branch, else_branch, elif_branch}
 use Rattle.star_spec.specs.Values.{Value, Children, Env}
-use Rattle.star_spec.specs.Outcomes.{State, Ending, done, bad, then_do, Computation, ◌>>=◌, give, paid_if, paid, finally}
-use Rattle.star_spec.specs.Store.{change_loops}
-use Rattle.star_spec.specs.Language.{Call, Language, execute, define, Word, breaks, continues, returns}
-use Rattle.star_spec.specs.Acts.{Flow, on, out, Act, go_on, worded, plain, pick, test_of, next_turn, turns, loop}
+use Rattle.star_spec.specs.Outcomes.{State, Ending, done, bad, then_do, Computation, ◌>>=◌, give, take_steps, paid, finally, on_store}
+use Rattle.star_spec.specs.Store.{begin_loop, end_loop}
+use Rattle.star_spec.specs.Language.{Call, Language, new_function, execute, define, Word, breaks, continues, returns}
+use Rattle.star_spec.specs.Members.{walked_in}
+use Rattle.star_spec.specs.Flow.{Flow, on, out, Part, go_on, worded, plain, test_of, next_turn, turns, loop}
 use Rattle.template_spec.specs.Build.{notes_meaning, build, builds, choose, content, key_meaning}
 use Rattle.template_spec.specs.Adding.{add_taken}
-use Rattle.template_spec.specs.Placed.{Around, free, in_loop, in_node, within_loop, MayStand, PlacedItem, Placed, PlacedBranches}
+use Rattle.template_spec.specs.ControlWords.{Around, free, in_loop, in_node, within_loop, MayStand, ItemWordsStand, WordsStand, BranchWordsStand}
 
 -- a fact of the value, if there is one
 abbrev pub IfDone : {H A : Type 0} → (A → Type 0) → Ending H A → Type 0
@@ -28,12 +29,8 @@ any_then : {H A B : Type 0} (Q : B → Type 0) (r : Ending H A) (k : A → Compu
 any_then Q (done a s) k f = f a s
 any_then Q (bad e s) k f = record { by = tt }
 
-on_paid_if : {H A : Type 0} (P : A → Type 0) (b : Bool) (n : ℕ) (p : Place) (m : Computation H A) (s : State H) → ((s : State H) → OnDone P (m s)) → OnDone P (paid_if b n p m s)
-on_paid_if P true n p m s h = h (record s { steps = s.steps - n })
-on_paid_if P false n p m s h = record { by = tt }
-
 on_paid : {H A : Type 0} (P : A → Type 0) (p : Place) (m : Computation H A) (s : State H) → ((s : State H) → OnDone P (m s)) → OnDone P (paid p m s)
-on_paid P p m s h = on_paid_if P (nat_le 1 s.steps) 1 p m s h
+on_paid P p m s h = any_then P (take_steps 1 p s) (λ u. m) (λ u s. h s)
 
 on_finally : {H A : Type 0} (P : A → Type 0) (r : Ending H A) (f : State H → State H) → OnDone P r → OnDone P (finally r f)
 on_finally P (done a s) f h = record { by = h.by }
@@ -62,6 +59,8 @@ no_word w (bad e s) = record { by = tt }
 execute_fits : {H : Type 0} (language : Language H) (call : Call H) (w : Around) (x : Statement) (env : Env) (s : State H) → MayStand w x → OnDone (OptFits w) (execute language call x env s)
 execute_fits language call w (evaluate p e) env s h = on_paid (OptFits w) p _ s (λ s. no_word w (language.eval call e env s))
 execute_fits language call w (assign p x e) env s h = on_paid (OptFits w) p _ s (λ s. any_then (OptFits w) (language.eval call e env s) _ (λ v s. no_word w (language.assign call p x v env s)))
+execute_fits language call w (augment p o q x e) env s h = on_paid (OptFits w) p _ s (λ s. no_word w (language.augment call p o q x e env s))
+execute_fits language call w (load p path xs) env s h = on_paid (OptFits w) p _ s (λ s. record { by = tt })
 execute_fits language call w (pass p) env s h = on_paid (OptFits w) p _ s (λ s. record { by = tt })
 execute_fits language call free (return p e) env s h = on_paid (OptFits free) p _ s (λ s. any_then (OptFits free) (language.eval call e env s) _ (λ v s. record { by = tt }))
 execute_fits language call in_loop (return p e) env s h = absurd h
@@ -81,17 +80,17 @@ plain_good : {H K : Type 0} (w : Around) (m : Computation H (Option Word)) → (
 plain_good w m h k s = on_then (OptFits w) (Fits w) (m s) (λ o. give (worded k o)) (h s) (λ o s e. record { by = worded_fits w k o e })
 
 define_fits : {H : Type 0} (language : Language H) (call : Call H) (w : Around) (p : Place) (n : ℕ) (x : Name) (ps : Parameters) (env : Env) (s : State H) → OnDone (OptFits w) (define language call p n x ps env s)
-define_fits language call w p n x ps env s = on_paid (OptFits w) p _ s (λ s. any_then (OptFits w) (language.defaults call ps env s) _ (λ ds s. no_word w _))
+define_fits language call w p n x ps env s = on_paid (OptFits w) p _ s (λ s. any_then (OptFits w) (new_function language call p x n ps env s) _ (λ f s. no_word w (language.bind_name p x f env s)))
 
-go_fits : {H K : Type 0} (w : Around) (b : Act H K) → ((k : K) (s : State H) → OnDone (Fits w) (b k s)) → (f : Flow K) (s : State H) → Fits w f → OnDone (Fits w) (go_on b f s)
+go_fits : {H K : Type 0} (w : Around) (b : Part H K) → ((k : K) (s : State H) → OnDone (Fits w) (b k s)) → (f : Flow K) (s : State H) → Fits w f → OnDone (Fits w) (go_on b f s)
 go_fits w b h (on k) s e = h k s
 go_fits w b h (out x k) s e = record { by = e }
 
-pick_good : {H K : Type 0} (w : Around) (b : Bool) (x y : Act H K) → ((k : K) (s : State H) → OnDone (Fits w) (x k s)) → ((k : K) (s : State H) → OnDone (Fits w) (y k s)) → (k : K) (s : State H) → OnDone (Fits w) (pick b x y k s)
-pick_good w true x y hx hy = hx
-pick_good w false x y hx hy = hy
+choice_good : {H K : Type 0} (w : Around) (b : Bool) (x y : Part H K) → ((k : K) (s : State H) → OnDone (Fits w) (x k s)) → ((k : K) (s : State H) → OnDone (Fits w) (y k s)) → (k : K) (s : State H) → OnDone (Fits w) ((if b then x else y) k s)
+choice_good w true x y hx hy = hx
+choice_good w false x y hx hy = hy
 
-turn_fits : {H K : Type 0} (w : Around) (b : Act H K) → ((k : K) (s : State H) → OnDone (Fits w) (b k s)) → (f : Flow K) (s : State H) → Fits (within_loop w) f → OnDone (Fits w) (next_turn b f s)
+turn_fits : {H K : Type 0} (w : Around) (b : Part H K) → ((k : K) (s : State H) → OnDone (Fits w) (b k s)) → (f : Flow K) (s : State H) → Fits (within_loop w) f → OnDone (Fits w) (next_turn b f s)
 turn_fits w b h (on k) s e = h k s
 turn_fits w b h (out breaks k) s e = record { by = tt }
 turn_fits w b h (out continues k) s e = h k s
@@ -99,14 +98,14 @@ turn_fits free b h (out (returns v) k) s e = record { by = tt }
 turn_fits in_loop b h (out (returns v) k) s e = absurd e
 turn_fits in_node b h (out (returns v) k) s e = absurd e
 
-turns_good : {H K : Type 0} (w : Around) (p : Place) (b : Value → Act H K) → ((v : Value) (k : K) (s : State H) → OnDone (Fits (within_loop w)) (b v k s)) → (vs : List Value) (k : K) (s : State H) → OnDone (Fits w) (turns p b vs k s)
+turns_good : {H K : Type 0} (w : Around) (p : Place) (b : Value → Part H K) → ((v : Value) (k : K) (s : State H) → OnDone (Fits (within_loop w)) (b v k s)) → (vs : List Value) (k : K) (s : State H) → OnDone (Fits w) (turns p b vs k s)
 turns_good w p b h [] k s = record { by = tt }
 turns_good w p b h (v ∷ vs) k s = on_then (Fits (within_loop w)) (Fits w) (paid p (b v k) s) (next_turn (turns p b vs)) (on_paid (Fits (within_loop w)) p (b v k) s (h v k)) (turn_fits w (turns p b vs) (turns_good w p b h vs))
 
-loop_good : {H K : Type 0} (w : Around) (language : Language H) (call : Call H) (p : Place) (x e : Expr) (env : Env) (b : Act H K) → ((k : K) (s : State H) → OnDone (Fits (within_loop w)) (b k s)) → (k : K) (s : State H) → OnDone (Fits w) (loop language call p x e env b k s)
+loop_good : {H K : Type 0} (w : Around) (language : Language H) (call : Call H) (p : Place) (x e : Expr) (env : Env) (b : Part H K) → ((k : K) (s : State H) → OnDone (Fits (within_loop w)) (b k s)) → (k : K) (s : State H) → OnDone (Fits w) (loop language call p x e env b k s)
 loop_good w language call p x e env b h k s = on_paid (Fits w) p _ s (λ s. any_then (Fits w) (language.eval call e env s) _ (λ v s. any_then (Fits w) (language.members p v s) _ (λ vs s.
-    on_finally (Fits w) (turns p (λ v j. language.assign call p x v env >>= λ u. b j) vs k (change_loops (λ n. n + 1) (language.walked v) s)) (change_loops (λ n. n - 1) (language.walked v))
-    (turns_good w p (λ v j. language.assign call p x v env >>= λ u. b j) (λ v j s. any_then (Fits (within_loop w)) (language.assign call p x v env s) _ (λ u s. h j s)) vs k (change_loops (λ n. n + 1) (language.walked v) s)))))
+    on_finally (Fits w) (turns p (λ v j. language.assign call p x v env >>= λ u. b j) vs k (on_store (begin_loop (walked_in v)) s)) (on_store (end_loop (walked_in v)))
+    (turns_good w p (λ v j. language.assign call p x v env >>= λ u. b j) (λ v j s. any_then (Fits (within_loop w)) (language.assign call p x v env s) _ (λ u s. h j s)) vs k (on_store (begin_loop (walked_in v)) s)))))
 
 four_fit : {H A B C K : Type 0} (w : Around) (n : Computation H C) (a : Computation H A) (b : Computation H B) (c : C → A → B → Computation H K) (s : State H) → OnDone (Fits w) (then_do (n s) (λ m. a >>= λ x. b >>= λ y. c m x y >>= λ z. give (on z)))
 four_fit w n a b c s = any_then (Fits w) (n s) (λ m. a >>= λ x. b >>= λ y. c m x y >>= λ z. give (on z)) (λ m s. any_then (Fits w) (a s) (λ x. b >>= λ y. c m x y >>= λ z. give (on z)) (λ x s.
@@ -114,20 +113,20 @@ four_fit w n a b c s = any_then (Fits w) (n s) (λ m. a >>= λ x. b >>= λ y. c 
 
 module _ {H : Type 0} (language : Language H) where
   mutual
-    item_good : (call : Call H) (n : ℕ) (w : Around) (i : Item) (env : Env) → PlacedItem w i → (k : Children) (s : State H) → OnDone (Fits w) (build language call n i env k s)
-    item_good call n w (node p j ns x c) env h k s = on_paid (Fits w) p _ s (four_fit w (notes_meaning language call ns env) (key_meaning language call p x env) (content language call n p j c env) (λ notes key got. add_taken k p j notes key got))
+    item_good : (call : Call H) (n : ℕ) (w : Around) (i : Item) (env : Env) → ItemWordsStand w i → (k : Children) (s : State H) → OnDone (Fits w) (build language call n i env k s)
+    item_good call n w (node p j ns x c) env h k s = on_paid (Fits w) p _ s (four_fit w (notes_meaning language call ns env) (key_meaning language call p x env) (content language call n p j c env) (λ notes key got. add_taken k p notes key got))
     item_good call n w (code x) env h k s = plain_good w (execute language call x env) (λ s. execute_fits language call w x env s h) k s
     item_good call n w (if_block p e body more) env h k s =
-        on_paid (Fits w) p _ s (λ s. any_then (Fits w) (test_of language call e env s) _ (λ v s. pick_good w v (builds language call n body env) (choose language call n more env) (items_good call n w body env h.0) (branches_good call n w more env h.1) k s))
-    item_good call n w (for_block p x e body q) env h k s = loop_good w language call p x e env (builds language call n body env) (items_good call n (within_loop w) body env h) k s
-    item_good call n w (def_block p m x ps j body q) env h k s = plain_good w (define language call p m x ps env) (define_fits language call w p m x ps env) k s
+        on_paid (Fits w) p _ s (λ s. any_then (Fits w) (test_of language call e env s) _ (λ v s. choice_good w v (builds language call n body env) (choose language call n more env) (items_good call n w body env h.0) (branches_good call n w more env h.1) k s))
+    item_good call n w (for_block p x e body) env h k s = loop_good w language call p x e env (builds language call n body env) (items_good call n (within_loop w) body env h) k s
+    item_good call n w (def_block p m x ps j body) env h k s = plain_good w (define language call p m x ps env) (define_fits language call w p m x ps env) k s
 
-    pub items_good : (call : Call H) (n : ℕ) (w : Around) (t : Items) (env : Env) → Placed w t → (k : Children) (s : State H) → OnDone (Fits w) (builds language call n t env k s)
+    pub items_good : (call : Call H) (n : ℕ) (w : Around) (t : Items) (env : Env) → WordsStand w t → (k : Children) (s : State H) → OnDone (Fits w) (builds language call n t env k s)
     items_good call n w no_items env h k s = record { by = tt }
     items_good call n w (an_item i is) env h k s = on_then (Fits w) (Fits w) (build language call n i env k s) (go_on (builds language call n is env)) (item_good call n w i env h.0 k s) (go_fits w (builds language call n is env) (items_good call n w is env h.1))
 
-    branches_good : (call : Call H) (n : ℕ) (w : Around) (b : Branches) (env : Env) → PlacedBranches w b → (k : Children) (s : State H) → OnDone (Fits w) (choose language call n b env k s)
-    branches_good call n w (no_branch q) env h k s = record { by = tt }
-    branches_good call n w (else_branch p is q) env h k s = items_good call n w is env h k s
+    branches_good : (call : Call H) (n : ℕ) (w : Around) (b : Branches) (env : Env) → BranchWordsStand w b → (k : Children) (s : State H) → OnDone (Fits w) (choose language call n b env k s)
+    branches_good call n w no_branch env h k s = record { by = tt }
+    branches_good call n w (else_branch p is) env h k s = items_good call n w is env h k s
     branches_good call n w (elif_branch p e is more) env h k s =
-        any_then (Fits w) (test_of language call e env s) _ (λ v s. pick_good w v (builds language call n is env) (choose language call n more env) (items_good call n w is env h.0) (branches_good call n w more env h.1) k s)
+        any_then (Fits w) (test_of language call e env s) _ (λ v s. choice_good w v (builds language call n is env) (choose language call n more env) (items_good call n w is env h.0) (branches_good call n w more env h.1) k s)

@@ -1,11 +1,15 @@
+pub mod BuildKeeps
 pub mod Examples
 pub mod Follows
 pub mod Functions
 pub mod Leaving
 pub mod NamesAgree
 pub mod Nested
+pub mod NestedWords
 pub mod Nesting
+pub mod Numbers
 pub mod PlacingExamples
-pub mod PlacingStraight
+pub mod PlacingPlaced
 pub mod Runs
+pub mod TakeKeeps
 pub mod Theorem

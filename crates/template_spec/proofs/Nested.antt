@@ -22,16 +22,16 @@ abbrev mutual
       an_op (op_part (node_start p k (holds_of c))) (notes_ops ns (key_ops p x (content_ops p c (an_op (op_part (node_end p)) os))))
   item_ops (code s) os = an_op (op_statement s) os
   item_ops (if_block p e body more) os = an_op (op_if p (arm e (items_ops body no_ops) (arms more))) os
-  item_ops (for_block p x e body q) os = an_op (op_for p x e (items_ops body no_ops)) os
-  item_ops (def_block p n x ps k body q) os = an_op (op_def p n (fragment_of k body) x ps (items_ops body no_ops)) os
+  item_ops (for_block p x e body) os = an_op (op_for p x e (items_ops body no_ops)) os
+  item_ops (def_block p n x ps k body) os = an_op (op_def p n (fragment_of k body) x ps (items_ops body no_ops)) os
 
   pub items_ops : Items → Ops → Ops
   items_ops no_items os = os
   items_ops (an_item i is) os = item_ops i (items_ops is os)
 
   pub arms : Branches → Arms
-  arms (no_branch q) = no_arm
-  arms (else_branch p body q) = else_arm (items_ops body no_ops)
+  arms no_branch = no_arm
+  arms (else_branch p body) = else_arm (items_ops body no_ops)
   arms (elif_branch p e body more) = arm e (items_ops body no_ops) (arms more)
 
   pub content_ops : Place → Content → Ops → Ops
@@ -82,22 +82,22 @@ mutual
       (content_blocks p c (part (node_end p) ∷ is) ∙ ap (over (content_ops p c)) (put_over (op_part (node_end p)) (parse is)) ∙ over_over (content_ops p c) (an_op (op_part (node_end p))) (parse is))))
   item_blocks (code s) is = put_over (op_statement s) (parse is)
   item_blocks (if_block p e body more) is =
-      ap (open_if p e) (items_blocks body (branches_code more is) ∙ ap (over (items_ops body)) (branches_blocks more is))
+      ap (open_if p e) (items_blocks body (branches_code p more is) ∙ ap (over (items_ops body)) (branches_blocks p more is))
       ∙ put_over (op_if p (arm e (items_ops body no_ops) (arms more))) (parse is)
-  item_blocks (for_block p x e body q) is =
-      ap (open_block (op_for p x e)) (items_blocks body (close q ∷ is)) ∙ put_over (op_for p x e (items_ops body no_ops)) (parse is)
-  item_blocks (def_block p n x ps k body q) is =
-      ap (open_block (op_def p n (fragment_of k body) x ps)) (items_blocks body (close q ∷ is)) ∙ put_over (op_def p n (fragment_of k body) x ps (items_ops body no_ops)) (parse is)
+  item_blocks (for_block p x e body) is =
+      ap (open_block (op_for p x e)) (items_blocks body (close p ∷ is)) ∙ put_over (op_for p x e (items_ops body no_ops)) (parse is)
+  item_blocks (def_block p n x ps k body) is =
+      ap (open_block (op_def p n (fragment_of k body) x ps)) (items_blocks body (close p ∷ is)) ∙ put_over (op_def p n (fragment_of k body) x ps (items_ops body no_ops)) (parse is)
 
   pub items_blocks : (t : Items) (is : List Instruction) → parse (items_code t is) ≡ over (items_ops t) (parse is)
   items_blocks no_items is = over_same (parse is)
   items_blocks (an_item i more) is =
       item_blocks i (items_code more is) ∙ ap (over (item_ops i)) (items_blocks more is) ∙ over_over (item_ops i) (items_ops more) (parse is)
 
-  pub branches_blocks : (b : Branches) (is : List Instruction) → parse (branches_code b is) ≡ inside no_ops (arms b) (parse is)
-  branches_blocks (no_branch q) is = refl
-  branches_blocks (else_branch p body q) is = ap last_arm (items_blocks body (close q ∷ is))
-  branches_blocks (elif_branch p e body more) is = ap (next_arm e) (items_blocks body (branches_code more is) ∙ ap (over (items_ops body)) (branches_blocks more is))
+  pub branches_blocks : (q : Place) (b : Branches) (is : List Instruction) → parse (branches_code q b is) ≡ inside no_ops (arms b) (parse is)
+  branches_blocks q no_branch is = refl
+  branches_blocks q (else_branch p body) is = ap last_arm (items_blocks body (close q ∷ is))
+  branches_blocks q (elif_branch p e body more) is = ap (next_arm e) (items_blocks body (branches_code q more is) ∙ ap (over (items_ops body)) (branches_blocks q more is))
 
   pub content_blocks : (p : Place) (c : Content) (is : List Instruction) → parse (content_code p c is) ≡ over (content_ops p c) (parse is)
   content_blocks p (written_value t) is = put_over (op_part (node_value p t)) (parse is)

@@ -10,7 +10,7 @@ holds_of (value_from e) = holds_one
 holds_of (pairs is) = if is_void is then holds_void else holds_map
 holds_of (elements is) = if is_void is then holds_void else holds_list
 
--- a function whose block holds items outside inner functions is a fragment function
+-- the function of a block in which a part of a node stands is a fragment function
 abbrev pub fragment_of : ItemKind → Items → Option ItemKind
 fragment_of kind is = if has_nodes is then Some kind else None
 
@@ -24,22 +24,23 @@ key_code p no_key is = is
 key_code p (written_key x) is = part (node_key p x) ∷ is
 key_code p (key_from e) is = part (node_key_from p e) ∷ is
 
+-- a block is closed at its own place
 abbrev mutual
   pub item_code : Item → List Instruction → List Instruction
   item_code (node p kind ns key c) is = part (node_start p kind (holds_of c)) ∷ notes_code ns (key_code p key (content_code p c (part (node_end p) ∷ is)))
   item_code (code s) is = statement s ∷ is
-  item_code (if_block p e body more) is = begin_if p e ∷ items_code body (branches_code more is)
-  item_code (for_block p x e body q) is = begin_for p x e ∷ items_code body (close q ∷ is)
-  item_code (def_block p number x ps kind body q) is = begin_def p number (fragment_of kind body) x ps ∷ items_code body (close q ∷ is)
+  item_code (if_block p e body more) is = begin_if p e ∷ items_code body (branches_code p more is)
+  item_code (for_block p x e body) is = begin_for p x e ∷ items_code body (close p ∷ is)
+  item_code (def_block p number x ps kind body) is = begin_def p number (fragment_of kind body) x ps ∷ items_code body (close p ∷ is)
 
   pub items_code : Items → List Instruction → List Instruction
   items_code no_items is = is
   items_code (an_item i more) is = item_code i (items_code more is)
 
-  pub branches_code : Branches → List Instruction → List Instruction
-  branches_code (no_branch q) is = close q ∷ is
-  branches_code (else_branch p body q) is = begin_else p ∷ items_code body (close q ∷ is)
-  branches_code (elif_branch p e body more) is = begin_elif p e ∷ items_code body (branches_code more is)
+  pub branches_code : (block_place : Place) → Branches → List Instruction → List Instruction
+  branches_code q no_branch is = close q ∷ is
+  branches_code q (else_branch p body) is = begin_else p ∷ items_code body (close q ∷ is)
+  branches_code q (elif_branch p e body more) is = begin_elif p e ∷ items_code body (branches_code q more is)
 
   pub content_code : Place → Content → List Instruction → List Instruction
   content_code p (written_value x) is = part (node_value p x) ∷ is

@@ -1,8 +1,12 @@
 pub mod Adding
 pub mod Build
+pub mod Calls
 pub mod Compiled
+pub mod ControlWords
+pub mod Files
 pub mod Meaning
 pub mod Names
+pub mod Numbered
 pub mod Placed
 pub mod Placing
 pub mod Run

@@ -1,32 +1,25 @@
 -- The names that a file or a function's block binds, in text order; those of inner functions not.
 use Rattle.std.specs.Prelude.{List, [], ◌∷◌, ◌++◌}
-use Rattle.star_spec.specs.Code.{Name, Expr, name, Statement, assign}
+use Rattle.star_spec.specs.Code.{Name}
+use Rattle.star_spec.specs.Names.{target_names, statement_names}
 use Rattle.star_spec.specs.Blocks.{Op, op_part, op_statement, op_if, op_for, op_def, Ops, no_ops, an_op, Arms, no_arm, else_arm, arm}
 use Rattle.template_spec.specs.Template.{Item, node, code, if_block, for_block, def_block, Items, no_items, an_item, Branches, no_branch, else_branch, elif_branch, Content, written_value, value_from, pairs, elements}
-
-abbrev pub target_names : Expr → List Name
-target_names (name p x) = x ∷ []
-target_names _ = []
-
-abbrev pub statement_names : Statement → List Name
-statement_names (assign p x e) = target_names x
-statement_names _ = []
 
 abbrev mutual
   pub item_names : Item → List Name
   item_names (node p kind ns key c) = content_names c
   item_names (code s) = statement_names s
   item_names (if_block p e body more) = items_names body ++ branches_names more
-  item_names (for_block p x e body q) = target_names x ++ items_names body
-  item_names (def_block p number x ps kind body q) = x ∷ []
+  item_names (for_block p x e body) = target_names x ++ items_names body
+  item_names (def_block p number x ps kind body) = x ∷ []
 
   pub items_names : Items → List Name
   items_names no_items = []
   items_names (an_item i is) = item_names i ++ items_names is
 
   pub branches_names : Branches → List Name
-  branches_names (no_branch q) = []
-  branches_names (else_branch p body q) = items_names body
+  branches_names no_branch = []
+  branches_names (else_branch p body) = items_names body
   branches_names (elif_branch p e body more) = items_names body ++ branches_names more
 
   pub content_names : Content → List Name

@@ -1,46 +1,75 @@
--- Where `break`, `continue` and `return` may stand: none leaves a node open.
-use Rattle.star_spec.specs.Code.{Statement, return, break, continue}
-use Rattle.template_spec.specs.Template.{Item, node, code, if_block, for_block, def_block, Items, no_items, an_item, Branches, no_branch, else_branch, elif_branch, Content, written_value, value_from, pairs, elements}
+-- What placing gives: nodes of the kind of their collection, keys on pairs alone, words and loads where they may stand;
+-- and names in code as they may be.
+use Rattle.std.specs.Prelude.{◌≡◌, IsTrue}
+use Rattle.star_spec.specs.Allowed.{AllowedExpr, AllowedExprs, AllowedTarget, AllowedStatement, AllowedFunction}
+use Rattle.star_spec.specs.Program.{ItemKind, document_item, pair_item, element_item}
+use Rattle.template_spec.specs.Template.{Notes, no_notes, note, Key, no_key, written_key, key_from, Item, node, code, if_block, for_block, def_block, Items, no_items, an_item, Branches, no_branch, else_branch, elif_branch, Content, written_value, value_from, pairs, elements, fragment_kind}
+use Rattle.template_spec.specs.WellNested.{Ways, in_a_file, in_a_node, in_a_branch, in_a_loop, in_a_function, stands}
 
--- which words may leave the place: any, those of a loop, or none
-pub data Around : Type 0 where
-  free : Around
-  in_loop : Around
-  in_node : Around
-
-abbrev pub within_loop : Around → Around
-within_loop free = free
-within_loop in_loop = in_loop
-within_loop in_node = in_loop
-
-abbrev pub MayStand : Around → Statement → Type 0
-MayStand free s = Unit {0}
-MayStand in_loop (return p e) = ⊥
-MayStand in_loop _ = Unit {0}
-MayStand in_node (return p e) = ⊥
-MayStand in_node (break p) = ⊥
-MayStand in_node (continue p) = ⊥
-MayStand in_node _ = Unit {0}
+-- pairs have a key, and nothing else has one
+abbrev pub KeyFits : ItemKind → Key → Type 0
+KeyFits pair_item no_key = ⊥
+KeyFits pair_item k = Unit {0}
+KeyFits kind no_key = Unit {0}
+KeyFits kind _ = ⊥
 
 abbrev mutual
-  pub PlacedItem : Around → Item → Type 0
-  PlacedItem w (node p kind ns key c) = PlacedContent c
-  PlacedItem w (code s) = MayStand w s
-  PlacedItem w (if_block p e body more) = Placed w body × PlacedBranches w more
-  PlacedItem w (for_block p x e body q) = Placed (within_loop w) body
-  PlacedItem w (def_block p number x ps kind body q) = Placed free body
+  pub PlacedItem : Ways → ItemKind → Item → Type 0
+  PlacedItem w kind (node p k ns key c) = (k ≡ kind) × KeyFits kind key × PlacedContent w c
+  PlacedItem w kind (code s) = IsTrue (stands w s)
+  PlacedItem w kind (if_block p e body more) = PlacedItems (in_a_branch w) kind body × PlacedBranches (in_a_branch w) kind more
+  PlacedItem w kind (for_block p x e body) = PlacedItems (in_a_loop w) kind body
+  PlacedItem w kind (def_block p number x ps k body) = (k ≡ kind) × PlacedItems (in_a_function (fragment_kind k body)) kind body
 
-  pub Placed : Around → Items → Type 0
-  Placed w no_items = Unit {0}
-  Placed w (an_item i is) = PlacedItem w i × Placed w is
+  pub PlacedItems : Ways → ItemKind → Items → Type 0
+  PlacedItems w kind no_items = Unit {0}
+  PlacedItems w kind (an_item i is) = PlacedItem w kind i × PlacedItems w kind is
 
-  pub PlacedBranches : Around → Branches → Type 0
-  PlacedBranches w (no_branch q) = Unit {0}
-  PlacedBranches w (else_branch p body q) = Placed w body
-  PlacedBranches w (elif_branch p e body more) = Placed w body × PlacedBranches w more
+  pub PlacedBranches : Ways → ItemKind → Branches → Type 0
+  PlacedBranches w kind no_branch = Unit {0}
+  PlacedBranches w kind (else_branch p body) = PlacedItems w kind body
+  PlacedBranches w kind (elif_branch p e body more) = PlacedItems w kind body × PlacedBranches w kind more
 
-  pub PlacedContent : Content → Type 0
-  PlacedContent (written_value x) = Unit {0}
-  PlacedContent (value_from e) = Unit {0}
-  PlacedContent (pairs is) = Placed in_node is
-  PlacedContent (elements is) = Placed in_node is
+  pub PlacedContent : Ways → Content → Type 0
+  PlacedContent w (written_value x) = Unit {0}
+  PlacedContent w (value_from e) = Unit {0}
+  PlacedContent w (pairs is) = PlacedItems (in_a_node w) pair_item is
+  PlacedContent w (elements is) = PlacedItems (in_a_node w) element_item is
+
+-- the template of a file, whose items are documents
+abbrev pub Placed : Items → Type 0
+Placed t = PlacedItems in_a_file document_item t
+
+-- ---- names
+
+abbrev pub AllowedNotes : Notes → Type 0
+AllowedNotes no_notes = Unit {0}
+AllowedNotes (note p x es ns) = AllowedExprs es × AllowedNotes ns
+
+abbrev pub AllowedKey : Key → Type 0
+AllowedKey no_key = Unit {0}
+AllowedKey (written_key x) = Unit {0}
+AllowedKey (key_from e) = AllowedExpr e
+
+abbrev mutual
+  pub AllowedItem : Item → Type 0
+  AllowedItem (node p k ns key c) = AllowedNotes ns × AllowedKey key × AllowedContent c
+  AllowedItem (code s) = AllowedStatement s
+  AllowedItem (if_block p e body more) = AllowedExpr e × AllowedItems body × AllowedBranches more
+  AllowedItem (for_block p x e body) = AllowedTarget x × AllowedExpr e × AllowedItems body
+  AllowedItem (def_block p number x ps k body) = AllowedFunction x ps × AllowedItems body
+
+  pub AllowedItems : Items → Type 0
+  AllowedItems no_items = Unit {0}
+  AllowedItems (an_item i is) = AllowedItem i × AllowedItems is
+
+  pub AllowedBranches : Branches → Type 0
+  AllowedBranches no_branch = Unit {0}
+  AllowedBranches (else_branch p body) = AllowedItems body
+  AllowedBranches (elif_branch p e body more) = AllowedExpr e × AllowedItems body × AllowedBranches more
+
+  pub AllowedContent : Content → Type 0
+  AllowedContent (written_value x) = Unit {0}
+  AllowedContent (value_from e) = AllowedExpr e
+  AllowedContent (pairs is) = AllowedItems is
+  AllowedContent (elements is) = AllowedItems is

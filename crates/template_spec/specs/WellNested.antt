@@ -1,9 +1,9 @@
 -- Which programs are well nested.
 use Rattle.std.specs.Prelude.{◌≡◌, List, [], ◌∷◌, Option, Some, None, Bool, true, false, IsTrue}
-use Rattle.star_spec.specs.Code.{Statement, return, break, continue}
-use Rattle.star_spec.specs.Program.{ItemKind, document_item, pair_item, element_item, Holds, holds_one, holds_map, holds_list, holds_void, NodePart, node_start, node_note, node_key, node_key_from, node_value, node_value_from, node_end, Instruction}
+use Rattle.star_spec.specs.Code.{Statement, return, break, continue, load}
+use Rattle.star_spec.specs.Allowed.{AllowedExpr, AllowedExprs, AllowedTarget, AllowedStatement, AllowedFunction}
+use Rattle.star_spec.specs.Program.{ItemKind, document_item, pair_item, element_item, Holds, holds_one, holds_map, holds_list, holds_void, NodePart, node_start, node_note, node_key, node_key_from, node_value, node_value_from, node_end, Instruction, part, statement, begin_if, begin_elif, begin_else, begin_for, begin_def, close}
 use Rattle.star_spec.specs.Blocks.{Op, op_part, op_statement, op_if, op_for, op_def, Ops, no_ops, an_op, Arms, no_arm, else_arm, arm, blocks}
-use Rattle.template_spec.specs.Template.{Item, node, code, if_block, for_block, def_block, Items, no_items, an_item, Key, no_key, Content, written_value, value_from, pairs, elements}
 use Rattle.template_spec.specs.Take.{same_kind}
 
 -- ---- the stages of an open node
@@ -74,31 +74,40 @@ after_part _ _ = None
 
 -- ---- words
 
--- which words may leave the place
+-- which words may leave the place, and whether it stands outside every block, where a load may
 pub record Ways : Type 0 where
   pub may_return : Bool
   pub may_break : Bool
+  pub may_load : Bool
 
-abbrev pub no_way : Ways
-no_way = record { may_return = false; may_break = false }
+-- in a file, outside every block
+abbrev pub in_a_file : Ways
+in_a_file = record { may_return = false; may_break = false; may_load = true }
 
--- none leaves a node open
+-- no word leaves a node open
+abbrev pub in_a_node : Ways → Ways
+in_a_node w = record { may_return = false; may_break = false; may_load = w.may_load }
+
 abbrev pub ways_at : Ways → List Stage → Ways
 ways_at w (s ∷ []) = w
-ways_at w _ = no_way
+ways_at w _ = in_a_node w
+
+abbrev pub in_a_branch : Ways → Ways
+in_a_branch w = record { may_return = w.may_return; may_break = w.may_break; may_load = false }
 
 abbrev pub in_a_loop : Ways → Ways
-in_a_loop w = record w { may_break = true }
+in_a_loop w = record { may_return = w.may_return; may_break = true; may_load = false }
 
 -- a function that builds items is not returned from
 abbrev pub in_a_function : Option ItemKind → Ways
-in_a_function None = record { may_return = true; may_break = false }
-in_a_function (Some k) = no_way
+in_a_function None = record { may_return = true; may_break = false; may_load = false }
+in_a_function (Some k) = record { may_return = false; may_break = false; may_load = false }
 
 abbrev pub stands : Ways → Statement → Bool
 stands w (return p e) = w.may_return
 stands w (break p) = w.may_break
 stands w (continue p) = w.may_break
+stands w (load p path xs) = w.may_load
 stands w s = true
 
 -- ---- blocks
@@ -129,7 +138,7 @@ abbrev mutual
   pub NestedOp : Ways → Op → (List Stage → Type 0) → List Stage → Type 0
   NestedOp w (op_part o) more open_nodes = IfAny (after_part o open_nodes) more
   NestedOp w (op_statement s) more open_nodes = IsTrue (is_open (innermost open_nodes)) × IsTrue (stands (ways_at w open_nodes) s) × more (below_innermost open_nodes)
-  NestedOp w (op_if p branches) more open_nodes = IsTrue (is_open (innermost open_nodes)) × NestedArms (ways_at w open_nodes) (innermost open_nodes) branches × more (below_innermost open_nodes)
+  NestedOp w (op_if p branches) more open_nodes = IsTrue (is_open (innermost open_nodes)) × NestedArms (in_a_branch (ways_at w open_nodes)) (innermost open_nodes) branches × more (below_innermost open_nodes)
   NestedOp w (op_for p x e body) more open_nodes =
       IsTrue (is_open (innermost open_nodes)) × Nested (in_a_loop (ways_at w open_nodes)) (innermost open_nodes ∷ []) body (innermost open_nodes ∷ []) × more (below_innermost open_nodes)
   NestedOp w (op_def p number fragment x ps body) more open_nodes =
@@ -142,35 +151,35 @@ abbrev mutual
 
 abbrev pub WellNestedBlocks : Option Ops → Type 0
 WellNestedBlocks None = ⊥
-WellNestedBlocks (Some os) = Nested no_way (place_of document_item ∷ []) os (place_of document_item ∷ [])
+WellNestedBlocks (Some os) = Nested in_a_file (place_of document_item ∷ []) os (place_of document_item ∷ [])
 
--- each block is closed, and the file's nodes are documents
-abbrev pub WellNested : List Instruction → Type 0
-WellNested is = WellNestedBlocks (blocks is)
+-- ---- names
 
--- ---- straight templates
+abbrev pub AllowedPart : NodePart → Type 0
+AllowedPart (node_start p kind holds) = Unit {0}
+AllowedPart (node_note p x es) = AllowedExprs es
+AllowedPart (node_key p x) = Unit {0}
+AllowedPart (node_key_from p e) = AllowedExpr e
+AllowedPart (node_value p x) = Unit {0}
+AllowedPart (node_value_from p e) = AllowedExpr e
+AllowedPart (node_end p) = Unit {0}
 
-abbrev pub KeyFits : ItemKind → Key → Type 0
-KeyFits pair_item no_key = ⊥
-KeyFits pair_item k = Unit {0}
-KeyFits k no_key = Unit {0}
-KeyFits k _ = ⊥
+abbrev pub AllowedInstruction : Instruction → Type 0
+AllowedInstruction (part o) = AllowedPart o
+AllowedInstruction (statement s) = AllowedStatement s
+AllowedInstruction (begin_if p e) = AllowedExpr e
+AllowedInstruction (begin_elif p e) = AllowedExpr e
+AllowedInstruction (begin_else p) = Unit {0}
+AllowedInstruction (begin_for p x e) = AllowedTarget x × AllowedExpr e
+AllowedInstruction (begin_def p number fragment x ps) = AllowedFunction x ps
+AllowedInstruction (close p) = Unit {0}
 
--- all items are nodes of their kind, and pairs alone have keys
-abbrev mutual
-  pub Straight : ItemKind → Items → Type 0
-  Straight kind no_items = Unit {0}
-  Straight kind (an_item i is) = StraightItem kind i × Straight kind is
+-- the names in code, targets and parameters are as they may be
+abbrev pub AllowedProgram : List Instruction → Type 0
+AllowedProgram [] = Unit {0}
+AllowedProgram (i ∷ is) = AllowedInstruction i × AllowedProgram is
 
-  pub StraightItem : ItemKind → Item → Type 0
-  StraightItem kind (node p k ns key c) = (k ≡ kind) × KeyFits kind key × StraightContent c
-  StraightItem kind (code s) = ⊥
-  StraightItem kind (if_block p e body more) = ⊥
-  StraightItem kind (for_block p x e body q) = ⊥
-  StraightItem kind (def_block p number x ps k body q) = ⊥
-
-  pub StraightContent : Content → Type 0
-  StraightContent (written_value x) = Unit {0}
-  StraightContent (value_from e) = Unit {0}
-  StraightContent (pairs is) = Straight pair_item is
-  StraightContent (elements is) = Straight element_item is
+-- each block is closed, the file's nodes are documents, and names are as they may be
+pub record WellNested (is : List Instruction) : Type 0 where
+  pub nested : WellNestedBlocks (blocks is)
+  pub names : AllowedProgram is

@@ -12,9 +12,10 @@ use Rattle.yaml_noted.specs.declared.noted.RawComment.{RawComment}
 use Rattle.star_spec.specs.Program.{document_item, pair_item}
 use Rattle.star_spec.specs.Reading.{Reader}
 use Rattle.star_tree.specs.declared.expr.Expr.{Expr}
+use Rattle.template_spec.specs.Placed.{PlacedContent, PlacedItem, PlacedItems}
 use Rattle.template_spec.specs.Placing.{content_beside, map_in, own_place, placed_document, placed_pair, placed_pairs, scalar_in}
 use Rattle.template_spec.specs.Template.{Content, Items, no_key, no_notes, node, pairs, written_key, written_value}
-use Rattle.template_spec.specs.WellNested.{Straight, StraightContent, StraightItem}
+use Rattle.template_spec.specs.WellNested.{Ways, in_a_node}
 use Rattle.template_tree.specs.declared.tree.TContent as content
 use Rattle.template_tree.specs.declared.tree.TItem as item
 use Rattle.template_tree.specs.declared.tree.TItem.{TItem}
@@ -36,12 +37,12 @@ pub pair_is : (file : ℕ) (n : TNode) (place : Place) (k : Key) (value : Option
     → pair_of file (item.Node n) ≡ node place pair_item no_notes (written_key (key_of k)) (in_content file value (written_value (key_of s)))
 pair_is file n place k value s here key bare says holds = rw (pair_of-Node file n, here, key, bare, says, holds, content_of-Scalar file s) refl
 
-value_straight : (file : ℕ) (value : Option Expr) (s : Scalar) → StraightContent (in_content file value (written_value s))
-value_straight file None s = tt
-value_straight file (Some e) s = tt
+value_placed : (file : ℕ) (value : Option Expr) (s : Scalar) (w : Ways) → PlacedContent w (in_content file value (written_value s))
+value_placed file None s w = tt
+value_placed file (Some e) s w = tt
 
-pub pair_straight : (file : ℕ) (n : TNode) (k : Key) (s : Scalar) → n.key ≡ Some k → content_of file n.content ≡ written_value s → StraightItem pair_item (pair_of file (item.Node n))
-pair_straight file n k s key e = rw (pair_of-Node file n, key, e) (refl, tt, value_straight file n.value s)
+pub pair_placed : (file : ℕ) (n : TNode) (k : Key) (s : Scalar) (w : Ways) → n.key ≡ Some k → content_of file n.content ≡ written_value s → PlacedItem w pair_item (pair_of file (item.Node n))
+pair_placed file n k s w key e = rw (pair_of-Node file n, key, e) (refl, tt, value_placed file n.value s w)
 
 -- ---- documents
 
@@ -66,5 +67,6 @@ pub document_is : (file : ℕ) (n : TNode) (place : Place) (is : List TItem) →
     → document_of file (item.Node n) ≡ node place document_item no_notes no_key (pairs (pairs_of file is))
 document_is file n place is here key bare says holds = rw (document_of-Node file n, here, key, bare, says, holds, content_of-Map file is) refl
 
-pub document_straight : (file : ℕ) (n : TNode) (is : List TItem) → n.key ≡ None → n.value ≡ None → n.content ≡ content.Map is → Straight pair_item (pairs_of file is) → StraightItem document_item (document_of file (item.Node n))
-document_straight file n is key says holds h = rw (document_of-Node file n, key, says, holds, content_of-Map file is) (refl, tt, h)
+pub document_placed : (file : ℕ) (n : TNode) (is : List TItem) (w : Ways) → n.key ≡ None → n.value ≡ None → n.content ≡ content.Map is → ((v : Ways) → PlacedItems v pair_item (pairs_of file is))
+    → PlacedItem w document_item (document_of file (item.Node n))
+document_placed file n is w key says holds h = rw (document_of-Node file n, key, says, holds, content_of-Map file is) (refl, tt, h (in_a_node w))

@@ -12,9 +12,10 @@ use Rattle.yaml_noted.specs.View.{note_of, noted_of}
 use Rattle.yaml_noted.proofs.Views.{noted_of-item}
 use Rattle.star_spec.specs.Program.{ItemKind}
 use Rattle.star_spec.specs.Reading.{IsReader, Reader}
+use Rattle.template_spec.specs.Placed.{PlacedItem, PlacedItems}
 use Rattle.template_spec.specs.Placing.{before_items, placed_each}
 use Rattle.template_spec.specs.Template.{Item, Items, no_items, an_item}
-use Rattle.template_spec.specs.WellNested.{Straight, StraightItem}
+use Rattle.template_spec.specs.WellNested.{Ways}
 use Rattle.template_tree.specs.declared.tree.TItem.{TItem}
 use Rattle.template_tree.specs.View.{item_of, items_as}
 
@@ -33,7 +34,7 @@ Places = Reader → Note → noted.Content → Outcome Item
 -- these items are placed, and with them in front, what those that are left give, from the last one back, is what all give
 pub record IsPlacing (place : Places) (kind : ItemKind) (file : ℕ) (all : List NotedItem) (done : List TItem) (left : List NotedItem) : Type 0 where
   pub gives : (r : Reader) → IsReader r → (placed_each (place r) (held.items_of (reverse left)) >>= joins (items_as kind file done)) ≡ placed_each (place r) (held.items_of all)
-  pub straight : Straight kind (items_as kind file done)
+  pub placed : (w : Ways) → PlacedItems w kind (items_as kind file done)
 
 -- ---- items one behind another
 
@@ -45,9 +46,9 @@ joined-snoc : (kind : ItemKind) (file : ℕ) (is : List TItem) (i : TItem) (js :
 joined-snoc kind file [] i js = refl
 joined-snoc kind file (h ∷ is) i js = ap (an_item (item_of file h kind)) (joined-snoc kind file is i js)
 
-straight-snoc : (kind : ItemKind) (file : ℕ) (is : List TItem) (i : TItem) → Straight kind (items_as kind file is) → StraightItem kind (item_of file i kind) → Straight kind (items_as kind file (is ++ i ∷ []))
-straight-snoc kind file [] i h g = (g, tt)
-straight-snoc kind file (k ∷ is) i h g = (h.0, straight-snoc kind file is i h.1 g)
+placed-snoc : (w : Ways) (kind : ItemKind) (file : ℕ) (is : List TItem) (i : TItem) → PlacedItems w kind (items_as kind file is) → PlacedItem w kind (item_of file i kind) → PlacedItems w kind (items_as kind file (is ++ i ∷ []))
+placed-snoc w kind file [] i h g = (g, tt)
+placed-snoc w kind file (k ∷ is) i h g = (h.0, placed-snoc w kind file is i h.1 g)
 
 -- ---- outcomes
 
@@ -66,7 +67,7 @@ next left rest i e = rw (e, reverse-append) (ap (λ (p : held.Noted). noted.item
 -- ---- one item
 
 pub start : (place : Places) (kind : ItemKind) (file : ℕ) (all left : List NotedItem) → left ≡ reverse all → IsPlacing place kind file all [] left
-start place kind file all left e = record { gives = λ r reads. rw (e, reverse-reverse) (nothing-joins (placed_each (place r) (held.items_of all))); straight = tt }
+start place kind file all left e = record { gives = λ r reads. rw (e, reverse-reverse) (nothing-joins (placed_each (place r) (held.items_of all))); placed = λ w. tt }
 
 pub refused : (place : Places) (kind : ItemKind) (file : ℕ) (all : List NotedItem) (done : List TItem) (left rest : List NotedItem) (i : NotedItem) (s : Stop) → IsPlacing place kind file all done left
     → left ≡ rest ++ i ∷ [] → ((r : Reader) → IsReader r → Gives (λ t. item_of file t kind) (Err s) (place r (note_of i) (held.content_of i.content)))
@@ -75,14 +76,14 @@ refused place kind file all done left rest i (stop.Fault f) p e h r reads = sym 
 refused place kind file all done left rest i stop.Memory p e h r reads = tt
 
 pub taken : (place : Places) (kind : ItemKind) (file : ℕ) (all : List NotedItem) (done : List TItem) (left rest : List NotedItem) (i : NotedItem) (t : TItem) (more : List TItem) → IsPlacing place kind file all done left
-    → left ≡ rest ++ i ∷ [] → ((r : Reader) → IsReader r → place r (note_of i) (held.content_of i.content) ≡ Ok (item_of file t kind)) → StraightItem kind (item_of file t kind)
+    → left ≡ rest ++ i ∷ [] → ((r : Reader) → IsReader r → place r (note_of i) (held.content_of i.content) ≡ Ok (item_of file t kind)) → ((w : Ways) → PlacedItem w kind (item_of file t kind))
     → more ≡ done ++ t ∷ [] → IsPlacing place kind file all more rest
 taken place kind file all done left rest i t more p e h g m = rw m record {
   gives = λ r reads.
       let whole : (placed_each (place r) (held.items_of (reverse rest)) >>= before_items (item_of file t kind) >>= joins (items_as kind file done)) ≡ placed_each (place r) (held.items_of all)
       = rw (next left rest i e, h r reads) at (p.gives r reads) in
       sym (before-joins kind file done t _) ∙ whole;
-  straight = straight-snoc kind file done t p.straight g;
+  placed = λ w. placed-snoc w kind file done t (p.placed w) (g w);
 }
 
 pub ended : (place : Places) (kind : ItemKind) (file : ℕ) (all : List NotedItem) (done : List TItem) (left : List NotedItem) → IsPlacing place kind file all done left → left ≡ []

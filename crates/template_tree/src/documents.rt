@@ -5,9 +5,9 @@ ghost use Rattle.yaml_noted.specs.View as held;
 ghost use Rattle.yaml_noted.specs.View.{documents_of, note_of};
 ghost use Rattle.star_spec.specs.Program.{document_item};
 ghost use Rattle.star_spec.specs.Reading.{IsReader, Reader};
-ghost use Rattle.template_spec.specs.Placed.{Placed, free};
+ghost use Rattle.template_spec.specs.Placed.{Placed, PlacedItem, PlacedItems};
 ghost use Rattle.template_spec.specs.Placing.{map_in, placed, placed_document, placed_documents};
-ghost use Rattle.template_spec.specs.WellNested.{Straight, StraightItem};
+ghost use Rattle.template_spec.specs.WellNested.{Ways};
 ghost use Rattle.template_tree.specs.Parts.{document_of};
 ghost use Rattle.template_tree.specs.View.{items_of, template_of};
 
@@ -34,7 +34,7 @@ fn map_in(content: Content) -> Option<NotedItems>
 /// NotBuilt at its line.
 fn place_document(alloc: Global, item: NotedItem, file: u32) -> Result<TItem, Stop>
     ensures template { (r : Reader) → IsReader r → Gives (document_of file) result (placed_document r file (note_of item) (held.content_of item.content)) }
-    ensures straight { IfOk result (λ i. StraightItem document_item (document_of file i)) }
+    ensures placed { IfOk result (λ i. (w : Ways) → PlacedItem w document_item (document_of file i)) }
 {
     let place = place_of(alloc, &item, file)?;
     if item.key.is_some() || item.trailing.is_some() {
@@ -56,7 +56,7 @@ fn place_document(alloc: Global, item: NotedItem, file: u32) -> Result<TItem, St
 #[tactic(auto, using(crate::proofs::Placing::placing))]
 fn place_documents(alloc: Global, items: NotedItems, file: u32) -> Result<TItems, Stop>
     ensures template { (r : Reader) → IsReader r → Gives (items_of file) result (placed_documents r file (held.items_of items)) }
-    ensures straight { IfOk result (λ is. Straight document_item (items_of file is)) }
+    ensures placed { IfOk result (λ is. (w : Ways) → PlacedItems w document_item (items_of file is)) }
 {
     let mut left = turned(alloc, items)?;
     let mut documents: TItems = Items::new(alloc);
@@ -79,12 +79,10 @@ fn place_documents(alloc: Global, items: NotedItems, file: u32) -> Result<TItems
 /// other item at its own line. The first one in the order of the text decides. Want of memory is
 /// `Stop::Memory`.
 ///
-/// Items of the template are documents that hold pairs alone, and each pair has a key.
-#[tactic(auto, using(template_spec::proofs::PlacingStraight::straight_placed))]
+/// The template is placed: its items are documents that hold pairs alone, and each pair has a key.
 pub fn place_flat(alloc: Global, docs: NotedDocs, file: u32) -> Result<Template, Stop>
     ensures template { (r : Reader) → IsReader r → Gives template_of result (placed r file (documents_of docs)) }
-    ensures straight { IfOk result (λ t. Straight document_item (template_of t)) }
-    ensures stands { IfOk result (λ t. Placed free (template_of t)) }
+    ensures placed { IfOk result (λ t. Placed (template_of t)) }
     ensures file { IfOk result (λ t. t.file ≡ file) }
 {
     let items = place_documents(alloc, docs.items, file)?;

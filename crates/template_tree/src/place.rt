@@ -7,9 +7,10 @@ ghost use Rattle.yaml_noted.specs.View as held;
 ghost use Rattle.yaml_noted.specs.View.{comment_of, note_of};
 ghost use Rattle.star_spec.specs.Program.{pair_item};
 ghost use Rattle.star_spec.specs.Reading.{IsReader, Reader};
+ghost use Rattle.template_spec.specs.Placed.{PlacedItem, PlacedItems};
 ghost use Rattle.template_spec.specs.Placing.{content_beside, own_place, placed_pair, placed_pairs, scalar_in};
 ghost use Rattle.template_spec.specs.Template as plain;
-ghost use Rattle.template_spec.specs.WellNested.{Straight, StraightItem};
+ghost use Rattle.template_spec.specs.WellNested.{Ways};
 ghost use Rattle.template_tree.specs.Parts.{content_with, pair_of, pairs_of, same_place};
 
 use crate::code::{not_built, read_value};
@@ -101,7 +102,7 @@ fn read_trailing(
 /// a comment beside it that is no code of an expression.
 fn place_pair(alloc: Global, item: NotedItem, file: u32) -> Result<TItem, Stop>
     ensures template { (r : Reader) → IsReader r → Gives (pair_of file) result (placed_pair r file (note_of item) (held.content_of item.content)) }
-    ensures straight { IfOk result (λ i. StraightItem pair_item (pair_of file i)) }
+    ensures placed { IfOk result (λ i. (w : Ways) → PlacedItem w pair_item (pair_of file i)) }
 {
     let place = place_of(alloc, &item, file)?;
     let NotedItem {
@@ -129,7 +130,7 @@ fn place_pair(alloc: Global, item: NotedItem, file: u32) -> Result<TItem, Stop>
 /// The pairs of the items of a map, or the first refusal.
 pub fn place_pairs(alloc: Global, items: NotedItems, file: u32) -> Result<TItems, Stop>
     ensures template { (r : Reader) → IsReader r → Gives (pairs_of file) result (placed_pairs r file (held.items_of items)) }
-    ensures straight { IfOk result (λ is. Straight pair_item (pairs_of file is)) }
+    ensures placed { IfOk result (λ is. (w : Ways) → PlacedItems w pair_item (pairs_of file is)) }
 {
     let mut left = turned(alloc, items)?;
     let mut pairs: TItems = Items::new(alloc);

@@ -1,5 +1,5 @@
--- The literals of code are integers of 128 bits and texts of letters and digits.
-use Rattle.std.proofs.Common.{◌≡◌, pos, ℕ, zero, suc, ◌+◌, ◌-◌, Bool, true, false, ◌&&◌, ◌||◌, ◌==◌, nat_le, if◌then◌else◌, leb-true, List, [], ◌∷◌, length, take, drop, slice_index, Option, Some, None, FitsSigned, refl, arith}
+-- The literals of code are what the program holds: integers of 128 bits, and texts in UTF-8.
+use Rattle.std.proofs.Common.{◌≡◌, pos, ℕ, zero, suc, ◌+◌, ◌-◌, Bool, true, false, ◌&&◌, ◌||◌, ◌==◌, nat_le, if◌then◌else◌, leb-true, List, [], ◌∷◌, length, take, drop, slice_index, Option, Some, None, FitsSigned, IsUtf8, refl, arith}
 use Rattle.std.proofs.lemmas.Bool.{and_parts}
 use Rattle.std.specs.Int.{w128}
 use Rattle.std.specs.Char.{is_ascii_alphanumeric}
@@ -8,9 +8,10 @@ use Rattle.std.specs.Option.{option_map}
 use Rattle.std.specs.Str.Parse.{digits_value}
 use Rattle.ytt_base.specs.declared.fault.Place.{Place}
 use Rattle.yaml_spec.specs.Bytes.{is_letter_or_digit}
-use Rattle.star_spec.specs.Code as code
+use Rattle.yaml_spec.proofs.Runs.{run_utf8}
 use Rattle.star_spec.specs.Code.{Expr}
 use Rattle.star_spec.specs.Grammar.{Source, int, text, unary, binary, group, binary_kind, spell, tree}
+use Rattle.star_spec.specs.Held.{HeldExpr}
 use Rattle.star_spec.specs.Reading.{IsExpr}
 use Rattle.star_spec.specs.Tokens as token
 use Rattle.star_spec.specs.Tokens.{Kind, Token, Piece, digits, front_piece, greatest_integer, integer_piece, is_decimal, run_size, space_piece, text_piece, token_piece, tokens, tokens_from, with_token}
@@ -18,10 +19,10 @@ use Rattle.ytt_spec.proofs.Holding.{Found, found_either, found_is, found_mapped,
 
 -- ---- tokens
 
--- a literal is an integer of 128 bits or a text of letters and digits
+-- a literal is an integer of 128 bits or a text in UTF-8
 abbrev IsPlainKind : Kind → Type 0
 IsPlainKind (token.int z) = FitsSigned w128 z
-IsPlainKind (token.text t) = list_all is_letter_or_digit t ≡ true
+IsPlainKind (token.text t) = IsUtf8 t
 IsPlainKind _ = Unit {0}
 
 abbrev ArePlainTokens : List Token → Type 0
@@ -63,7 +64,7 @@ plain_integer : (ds : List ℕ) → Found IsPlainPiece (integer_piece ds)
 plain_integer ds = found_either IsPlainPiece _ _ _ (λ h. plain_kind (token.int (pos (digits_value 10 ds))) (length ds) (integer_fits (digits_value 10 ds) (and_parts (is_decimal ds) (nat_le (digits_value 10 ds) greatest_integer) h).1)) (found_none IsPlainPiece)
 
 plain_text : (t : List ℕ) → Found IsPlainPiece (text_piece t)
-plain_text t = found_either IsPlainPiece _ _ _ (λ h. plain_kind (token.text (take (run_size t) t)) (run_size t + 2) (run_passes t)) (found_none IsPlainPiece)
+plain_text t = found_either IsPlainPiece _ _ _ (λ h. plain_kind (token.text (take (run_size t) t)) (run_size t + 2) (run_utf8 (take (run_size t) t) (run_passes t))) (found_none IsPlainPiece)
 
 plain_space : Found IsPlainPiece space_piece
 plain_space = found_some IsPlainPiece _ (found_none IsPlainKind)
@@ -94,16 +95,8 @@ plain_tokens zero line (b ∷ bs) =
 
 -- ---- expressions
 
--- each literal is an integer of 128 bits or a text of letters and digits, and no name stands in it
-abbrev pub IsPlainExpr : Expr → Type 0
-IsPlainExpr (code.int p z) = FitsSigned w128 z
-IsPlainExpr (code.text p t) = list_all is_letter_or_digit t ≡ true
-IsPlainExpr (code.name p x) = ⊥
-IsPlainExpr (code.unary p o a) = IsPlainExpr a
-IsPlainExpr (code.binary p o a b) = IsPlainExpr a × IsPlainExpr b
-
--- an expression is plain where the tokens that spell it are
-spelled : (file : ℕ) (s : Source) (ts : List Token) → ArePlainTokens (spell s ts) → IsPlainExpr (tree file s) × ArePlainTokens ts
+-- an expression is what the program holds where the tokens that spell it are
+spelled : (file : ℕ) (s : Source) (ts : List Token) → ArePlainTokens (spell s ts) → HeldExpr (tree file s) × ArePlainTokens ts
 spelled file (int l z) ts h = h
 spelled file (text l t) ts h = h
 spelled file (unary op l a) ts h = spelled file a ts h.1
@@ -112,8 +105,8 @@ spelled file (binary op l a b) ts h =
     let right = spelled file b ts left.1.1 in ((left.0, right.0), right.1)
 spelled file (group l r a) ts h = let inner = spelled file a (token.token token.closing r ∷ ts) h.1 in (inner.0, inner.1.1)
 
--- an expression that a text is, is plain
-pub plain_expr : (place : Place) (t : List ℕ) (e : Expr) → IsExpr place t e → IsPlainExpr e
+-- so is an expression that a text is
+pub plain_expr : (place : Place) (t : List ℕ) (e : Expr) → IsExpr place t e → HeldExpr e
 plain_expr place t e h =
     let p = h.parsed in
     let all : ArePlainTokens h.found = found_is ArePlainTokens (tokens place.line t) h.found (plain_tokens 0 place.line t) h.cut in

@@ -9,11 +9,11 @@ use Rattle.ytt_base.specs.Trees.{Trees}
 use Rattle.ytt_outside.specs.Standing.{Standing, nothing, file, folder}
 use Rattle.yaml_spec.specs.Noted.{Documents, has_code}
 use Rattle.yaml_spec.specs.Read.{Read, plain_trees}
-use Rattle.star_spec.specs.Calls.{no_natives}
+use Rattle.star_spec.specs.Calls.{Host, no_natives}
 use Rattle.star_spec.specs.Eval.{starlark}
 use Rattle.star_spec.specs.Outcomes.{State, Ending, done, bad}
 use Rattle.star_spec.specs.Reading.{IsReader, Reader}
-use Rattle.star_spec.specs.Values.{Children}
+use Rattle.template_spec.specs.Files.{FileResult, Loader, nothing_to_load}
 use Rattle.template_spec.specs.Meaning.{BuildFile, documents}
 use Rattle.template_spec.specs.Placing.{placed}
 use Rattle.template_spec.specs.Template.{Items}
@@ -49,7 +49,16 @@ not_built = fault_of kind.NotBuilt
 
 -- ---- what a template means
 
--- how many calls of functions may stand in one another
+abbrev pub outcome_of : {H : Type 0} → Ending H FileResult → Outcome Trees
+outcome_of (done result s) = Ok (documents result.documents)
+outcome_of (bad fault s) = Err fault
+
+-- The documents that a template builds from a state, or its first fault. What the host gives, how paths are loaded, the
+-- templates of all files, and how many calls of functions may stand in one another are parameters.
+abbrev pub built_with : {H : Type 0} → Host H → Loader H → (files : ℕ → Items) → (depth : ℕ) → Items → State H → Outcome Trees
+built_with host loader files depth template s = outcome_of (BuildFile starlark host loader files depth template s)
+
+-- so many calls of functions may stand in one another
 abbrev pub default_depth : ℕ
 default_depth = 100
 
@@ -57,13 +66,9 @@ default_depth = 100
 abbrev pub started : (steps : ℕ) → State (Unit {0})
 started steps = record { store = []; steps = steps; host = tt }
 
-abbrev pub outcome_of : Ending (Unit {0}) Children → Outcome Trees
-outcome_of (done children s) = Ok (documents children)
-outcome_of (bad fault s) = Err fault
-
--- the documents that a template builds with so many steps, or its first fault; no file is loaded beside it
+-- with so many steps, where no host gives anything and no file is loaded beside the template
 abbrev pub built : (steps : ℕ) → Items → Outcome Trees
-built steps template = outcome_of (BuildFile starlark no_natives (λ file. template) default_depth template (started steps))
+built steps template = built_with no_natives nothing_to_load (λ file. template) default_depth template (started steps)
 
 -- Documents without code are what they are, which takes no steps; with code they are a template, which is built.
 abbrev pub documents_meaning : Reader → (steps : ℕ) → Documents → Outcome Trees

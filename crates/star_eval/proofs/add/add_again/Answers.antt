@@ -1,7 +1,6 @@
 use Rattle.std.proofs.Common.{slice_set, ap, sym, ◌∙◌}
 use Rattle.star_spec.specs.Outcomes.{done}
 use Rattle.template_spec.specs.Adding.{in_place_if}
-use Rattle.star_eval.specs.Meets.{with_steps}
 use Rattle.star_eval.specs.Positions.{in_scalar_key}
 use Rattle.star_eval.specs.View.{children_of}
 use Rattle.star_eval.proofs.Known.{known_set}
@@ -12,16 +11,16 @@ pub invariant_of-result : goal.invariant_of-result
 invariant_of-result c = record { known = rw c.set.ensures (known_set c.args.keys c.args.items c.in-Some.i c.args.item c.requires) }
 
 pub returns-in_ok-add_behind-in-None : goal.returns-in_ok-add_behind-in-None
-returns-in_ok-add_behind-in-None c = λ n.
-    add_last c.args.item c.args.items (sym c.in-None.ensures.value) (with_steps n) ∙ ap (λ is. done (children_of is) (with_steps n)) (sym c.in_ok-add_behind-in-None.ensures)
+returns-in_ok-add_behind-in-None c = λ s.
+    add_last c.args.item c.args.items (sym c.in-None.ensures.value) s ∙ ap (λ is. done (children_of is) s) (sym c.in_ok-add_behind-in-None.ensures)
 
 pub returns-then-overrides : goal.returns-then-overrides
-returns-then-overrides c = λ n.
-    add_at c.args.item c.args.items c.in-Some.i (sym c.in-Some.ensures.value) (with_steps n)
-    ∙ (λ i. in_place_if (sym c.if-overrides.ensures i) c.args.item.place (in_scalar_key c.args.item.key) (children_of (sym c.set.ensures i)) (with_steps n))
+returns-then-overrides c = λ s.
+    add_at c.args.item c.args.items c.in-Some.i (sym c.in-Some.ensures.value) s
+    ∙ (λ i. in_place_if (sym c.if-overrides.ensures i) c.args.item.place (in_scalar_key c.args.item.key) (children_of (sym c.set.ensures i)) s)
 
 pub returns-in_ok-key_twice-in-Some : goal.returns-in_ok-key_twice-in-Some
-returns-in_ok-key_twice-in-Some c = λ n.
+returns-in_ok-key_twice-in-Some c = λ s.
     rw c.in_ok-key_twice-in-Some.ensures
-    (add_at c.args.item c.args.items c.in-Some.i (sym c.in-Some.ensures.value) (with_steps n)
-    ∙ ap (λ b. in_place_if b c.args.item.place (in_scalar_key c.args.item.key) (children_of (slice_set c.args.items c.in-Some.i c.args.item)) (with_steps n)) (sym c.if-overrides.ensures))
+    (add_at c.args.item c.args.items c.in-Some.i (sym c.in-Some.ensures.value) s
+    ∙ ap (λ b. in_place_if b c.args.item.place (in_scalar_key c.args.item.key) (children_of (slice_set c.args.items c.in-Some.i c.args.item)) s) (sym c.if-overrides.ensures))

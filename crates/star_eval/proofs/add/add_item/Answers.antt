@@ -1,6 +1,5 @@
 use Rattle.std.proofs.Common.{◌≡◌, false, rules, ap, sym, ◌∙◌}
 use Rattle.star_spec.specs.Outcomes.{done}
-use Rattle.star_eval.specs.Meets.{with_steps}
 use Rattle.star_eval.specs.Positions.{in_scalar_key, is_known}
 use Rattle.star_eval.specs.View.{children_of}
 use Rattle.star_eval.proofs.Known.{new_key}
@@ -8,8 +7,8 @@ use Rattle.star_eval.proofs.Placing.{add_last}
 use Rattle.star_eval.proofs.add.add_item.Goals as goal
 
 pub returns-in_ok-add_behind : goal.returns-in_ok-add_behind
-returns-in_ok-add_behind c = λ n.
+returns-in_ok-add_behind c = λ s.
     let all = c.args.members in
     let key = in_scalar_key c.args.item.key in
     let unknown : is_known key all.keys ≡ false = search rules in
-    add_last c.args.item all.items (new_key all.keys all.items key all.known unknown) (with_steps n) ∙ ap (λ is. done (children_of is) (with_steps n)) (sym c.in_ok-add_behind.ensures)
+    add_last c.args.item all.items (new_key all.keys all.items key all.known unknown) s ∙ ap (λ is. done (children_of is) s) (sym c.in_ok-add_behind.ensures)

@@ -1,6 +1,7 @@
 use Rattle.std.proofs.Common.{sym, subst, IfOk, ap, ◌∙◌, ◌≡◌, List}
 use Rattle.ytt_base.specs.View.{trees_of}
-use Rattle.template_spec.specs.Meaning.{bottom_children, documents}
+use Rattle.template_spec.specs.Calls.{bottom_children}
+use Rattle.template_spec.specs.Meaning.{documents}
 use Rattle.template_spec.specs.Run.{Node}
 use Rattle.star_eval.specs.View.{nodes_of}
 use Rattle.star_eval.proofs.Stacks.{nodes-last}

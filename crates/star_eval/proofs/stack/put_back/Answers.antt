@@ -1,13 +1,12 @@
 use Rattle.std.proofs.Common.{ap, sym, ◌∙◌}
-use Rattle.star_spec.specs.Acts.{on}
+use Rattle.star_spec.specs.Flow.{on}
 use Rattle.star_spec.specs.Outcomes.{done}
-use Rattle.star_eval.specs.Meets.{with_steps}
 use Rattle.star_eval.specs.View.{nodes_of}
 use Rattle.star_eval.proofs.Stacks.{nodes-last}
 use Rattle.star_eval.proofs.stack.put_back.Goals as goal
 
 pub returns : goal.returns
-returns c = λ left ending h.
+returns c = λ s ending h.
     (rw c.in_ok-node.was at h)
-    ∙ ap (λ ns. done (on ns) (with_steps left)) (sym (nodes-last c.args.stack.now c.in_ok-node.field-0))
-    ∙ ap (λ st. done (on (nodes_of st)) (with_steps left)) (sym c.in_ok-push.ensures)
+    ∙ ap (λ ns. done (on ns) s) (sym (nodes-last c.args.stack.now c.in_ok-node.field-0))
+    ∙ ap (λ st. done (on (nodes_of st)) s) (sym c.in_ok-push.ensures)

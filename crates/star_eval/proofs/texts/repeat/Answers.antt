@@ -1,5 +1,6 @@
 use Rattle.std.proofs.Common.{◌≡◌, ◌+◌, ◌*◌, ◌^◌, ◌≤◌, length, subst, arith}
 use Rattle.star_spec.specs.Numbers.{at_least_zero}
+use Rattle.star_eval.specs.Meets.{state_of}
 use Rattle.star_eval.proofs.Shortage.{from_there, none_below, past_every_budget}
 use Rattle.star_eval.proofs.texts.repeat.Goals as goal
 use Rattle.star_eval.proofs.texts.repeat.Goals.{then-times-lt0, else-times-lt0}
@@ -13,4 +14,4 @@ returns-in-None c =
     ] in
     let large : 2 ^ 128 ≤ length c.as_str.result.now * (1 + c.if-times-lt0.times) = omega (arith, c.in-None.ensures) in
     let bytes : 2 ^ 128 ≤ length c.args.text.now * (1 + c.if-times-lt0.times) = rw c.as_str.ensures at large in
-    rw c.refusal.ensures (past_every_budget c.args.place c.args.text.now (at_least_zero z) c.args.steps.now (omega arith) (subst (λ n. 2 ^ 128 ≤ length c.args.text.now * (1 + n)) times bytes))
+    rw c.refusal.ensures (past_every_budget c.args.place c.args.text.now z (state_of c.args.session.now) (omega arith) (subst (λ n. 2 ^ 128 ≤ length c.args.text.now * (1 + n)) times bytes))

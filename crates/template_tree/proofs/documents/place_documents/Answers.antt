@@ -4,7 +4,7 @@ use Rattle.template_tree.proofs.documents.place_documents.Goals as goal
 
 pub loop-item-preserved : goal.loop-item-preserved
 loop-item-preserved c =
-    taken _ _ _ _ _ _ _ _ _ _ c.loop-item.invariant c.in-Some.ensures c.in_ok-document.ensures.template c.in_ok-document.ensures.straight c.in_ok-push_item.ensures
+    taken _ _ _ _ _ _ _ _ _ _ c.loop-item.invariant c.in-Some.ensures c.in_ok-document.ensures.template c.in_ok-document.ensures.placed c.in_ok-push_item.ensures
 
 pub returns-clause-template : goal.returns-clause-template
 returns-clause-template c = ended _ _ _ _ _ _ c.loop-item.invariant c.in_default.ensures.0

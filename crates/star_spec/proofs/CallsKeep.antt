@@ -1,0 +1,298 @@
+-- Statements, bindings and calls keep what the program holds.
+use Rattle.std.proofs.Common.{◌≡◌, ℕ, zero, suc, Bool, true, false, ◌||◌, if◌then◌else◌, List, [], ◌∷◌, ◌++◌, Option, Some, None, Result, Ok, Err, refl, ap, ◌∙◌, bytes_eq}
+use Rattle.ytt_base.specs.declared.fault.Fault.{Fault}
+use Rattle.ytt_base.specs.declared.fault.FaultKind.TheVariants as kind
+use Rattle.ytt_base.specs.declared.fault.Place.{Place}
+use Rattle.star_spec.specs.Binding.{field_of, without_field, has_field, has_twice, or_default, Given, given, rest_given, in_front, unless_named, bound, all_bound, text_pairs, value_given, boxes_of, scope_of_call}
+use Rattle.star_spec.specs.Calls.{Code, of_lambda, of_def, Table, parameters_of, names_of, Enter, enter_code, Reply, answer, call_then, Host, no_natives, resumed_with, after_reply, native_call, call_by_kind, no_keys, keys_by, with_keys, any_call, call_with_natives, function_of, function_call, too_deep, apply}
+use Rattle.star_spec.specs.Code.{Name, Expr, Exprs, BinaryOperator, Parameters, no_parameters, required, defaulted, bare_star, starred_parameter, double_starred_parameter, Statement, evaluate, assign, augment, load, return, break, continue, pass}
+use Rattle.star_spec.specs.Eval.{starlark}
+use Rattle.star_spec.specs.Held.{HeldValue, HeldValues, HeldFields, HeldExpr, HeldExprs, HeldParameters, HeldStatement, HeldList, has_equal_key, HeldPairs, HeldStore, HeldArguments}
+use Rattle.star_spec.specs.Language.{Call, Keyed, without_keys, asks_keys, Language, Word, breaks, continues, returns, new_function, execute, define}
+use Rattle.star_spec.specs.Names.{box_of, with_boxes}
+use Rattle.star_spec.specs.Outcomes.{State, Ending, done, bad, then_do, Computation, ◌>>=◌}
+use Rattle.star_spec.specs.Store.{object_at, function_at}
+use Rattle.star_spec.specs.Values.{Value, none_value, bool_value, int_value, text_value, tuple_value, range_value, struct_value, fragment_value, list_value, dict_value, function_value, module_value, builtin_value, method_value, native_value, replace_value, Values, no_values, a_value, Fields, no_fields, a_field, Arguments, arguments, one_value, Env, Function, of_dict, of_box, of_function}
+use Rattle.star_spec.proofs.EvalKeeps.{CallKeeps, eval_keeps, arguments_keep, assign_keeps, augment_keeps, defaults_keep, members_keep, truth_keeps, write_keeps, boxes_keep}
+use Rattle.star_spec.proofs.Keeping.{Kept, Keeps, Anything, keeps_then, keeps_give, keeps_fail, keeps_or_fail, keeps_ill_formed, keeps_or_ill_formed, keeps_paid, keeps_reads, keeps_new_object, object_held, HeldFunction, function_held}
+
+-- ---- a language
+
+abbrev pub HeldKeyed : Keyed → Type 0
+HeldKeyed (without_keys v) = HeldValue v
+HeldKeyed (asks_keys f vs) = HeldValue f × HeldList vs
+
+-- what a language does keeps what the program holds, where calls do
+pub record LanguageKeeps {H : Type 0} (language : Language H) : Type 0 where
+  pub eval : (call : Call H) → CallKeeps call → (e : Expr) (env : Env) → HeldExpr e → Keeps HeldValue (language.eval call e env)
+  pub arguments : (call : Call H) → CallKeeps call → (es : Exprs) (env : Env) → HeldExprs es → Keeps HeldArguments (language.arguments call es env)
+  pub assign : (call : Call H) → CallKeeps call → (p : Place) (x : Expr) (v : Value) (env : Env) → HeldExpr x → HeldValue v → Keeps Anything (language.assign call p x v env)
+  pub augment : (call : Call H) → CallKeeps call → (p : Place) (o : BinaryOperator) (q : Place) (x e : Expr) (env : Env) → HeldExpr x → HeldExpr e → Keeps Anything (language.augment call p o q x e env)
+  pub bind_name : (p : Place) (x : Name) (v : Value) (env : Env) → HeldValue v → Keeps Anything (language.bind_name p x v env)
+  pub truth : (v : Value) → Keeps Anything (language.truth v)
+  pub members : (p : Place) (v : Value) → HeldValue v → Keeps HeldList (language.members p v)
+  pub defaults : (call : Call H) → CallKeeps call → (ps : Parameters) (env : Env) → HeldParameters ps → Keeps HeldList (language.defaults call ps env)
+  pub bind : (p : Place) (ps : Parameters) (names : List Name) (ds : List Value) (vs : Arguments) (env : Env) → HeldList ds → HeldArguments vs → Keeps Anything (language.bind p ps names ds vs env)
+  pub own : (p : Place) (f : Value) (vs : Arguments) → HeldValue f → HeldArguments vs → Keeps HeldKeyed (language.own_call p f vs)
+  pub own_keyed : (p : Place) (f : Value) (vs : Arguments) (members keys : List Value) → HeldValue f → HeldArguments vs → HeldList members → HeldList keys → Keeps HeldValue (language.own_call_keyed p f vs members keys)
+
+abbrev pub WordHeld : Option Word → Type 0
+WordHeld None = Unit {0}
+WordHeld (Some breaks) = Unit {0}
+WordHeld (Some continues) = Unit {0}
+WordHeld (Some (returns v)) = HeldValue v
+
+module _ {H : Type 0} (language : Language H) (keeps : LanguageKeeps language) (call : Call H) (calls : CallKeeps call) where
+  pub execute_keeps : (x : Statement) (env : Env) → HeldStatement x → Keeps WordHeld (execute language call x env)
+  execute_keeps (evaluate p e) env h = keeps_paid 1 p (keeps_then (keeps.eval call calls e env h) (λ v k. keeps_give None tt))
+  execute_keeps (assign p x e) env h = keeps_paid 1 p (keeps_then (keeps.eval call calls e env h.1) (λ v k. keeps_then (keeps.assign call calls p x v env h.0 k) (λ u t. keeps_give None tt)))
+  execute_keeps (augment p o q x e) env h = keeps_paid 1 p (keeps_then (keeps.augment call calls p o q x e env h.0 h.1) (λ u t. keeps_give None tt))
+  execute_keeps (load p path xs) env h = keeps_paid 1 p (keeps_give None tt)
+  execute_keeps (return p e) env h = keeps_paid 1 p (keeps_then (keeps.eval call calls e env h) (λ v k. keeps_give (Some (returns v)) k))
+  execute_keeps (break p) env h = keeps_paid 1 p (keeps_give (Some breaks) tt)
+  execute_keeps (continue p) env h = keeps_paid 1 p (keeps_give (Some continues) tt)
+  execute_keeps (pass p) env h = keeps_paid 1 p (keeps_give None tt)
+
+  pub define_keeps : (p : Place) (n : ℕ) (x : Name) (ps : Parameters) (env : Env) → HeldParameters ps → Keeps WordHeld (define language call p n x ps env)
+  define_keeps p n x ps env h =
+      keeps_paid 1 p (keeps_then (keeps_then (keeps.defaults call calls ps env h) (λ ds k. keeps_then (keeps_new_object (of_function _) k) (λ r u. keeps_give {P = HeldValue} (function_value r) tt)))
+      (λ f k. keeps_then (keeps.bind_name p x f env k) (λ u t. keeps_give None tt)))
+
+-- ---- bindings
+
+abbrev HeldGiven : Given → Type 0
+HeldGiven (given v) = HeldValue v
+HeldGiven (rest_given fs) = HeldFields fs × (has_twice fs ≡ false)
+
+abbrev AllGiven : List (Name × Given) → Type 0
+AllGiven [] = Unit {0}
+AllGiven (b ∷ bs) = HeldGiven b.1 × AllGiven bs
+
+abbrev HeldBound : Option (List (Name × Given)) → Type 0
+HeldBound None = Unit {0}
+HeldBound (Some bs) = AllGiven bs
+
+abbrev HeldOne : Option Value → Type 0
+HeldOne None = Unit {0}
+HeldOne (Some v) = HeldValue v
+
+front_held : (x : Name) (o : Option Value) (b : Option (List (Name × Given))) → HeldOne o → HeldBound b → HeldBound (in_front x o b)
+front_held x None b h k = tt
+front_held x (Some v) None h k = tt
+front_held x (Some v) (Some bs) h k = (h, k)
+
+one_if : (b : Bool) (x y : Option Value) → HeldOne x → HeldOne y → HeldOne (if b then x else y)
+one_if true x y h k = h
+one_if false x y h k = k
+
+field_held : (x : Name) (fs : Fields) → HeldFields fs → HeldOne (field_of x fs)
+field_held x no_fields h = tt
+field_held x (a_field y v fs) h = one_if (bytes_eq x y) (Some v) (field_of x fs) h.1 (field_held x fs h.2)
+
+fields_if : (b : Bool) (f g : Fields) → HeldFields f → HeldFields g → HeldFields (if b then f else g)
+fields_if true f g h k = h
+fields_if false f g h k = k
+
+without_held : (x : Name) (fs : Fields) → HeldFields fs → HeldFields (without_field x fs)
+without_held x no_fields h = tt
+without_held x (a_field y v fs) h = fields_if (bytes_eq x y) fs (a_field y v (without_field x fs)) h.2 (h.0, h.1, without_held x fs h.2)
+
+unless_held : (x : Name) (v : Value) (fs : Fields) → HeldValue v → HeldOne (unless_named x v fs)
+unless_held x v fs h = one_if (has_field x fs) None (Some v) tt h
+
+default_held : (o d : Option Value) → HeldOne o → HeldOne d → HeldOne (or_default o d)
+default_held None d h k = k
+default_held (Some v) d h k = h
+
+-- what isn't in two isn't in the second, nor in the first
+not_first : (a b : Bool) → (a || b) ≡ false → a ≡ false
+not_first true b e = cc
+not_first false b e = refl
+
+not_second : (a b : Bool) → (a || b) ≡ false → b ≡ false
+not_second true b e = cc
+not_second false b e = e
+
+neither : (a b : Bool) → a ≡ false → b ≡ false → (a || b) ≡ false
+neither true b e f = cc
+neither false b e f = f
+
+still_without : (y x : Name) (fs : Fields) → has_field y fs ≡ false → has_field y (without_field x fs) ≡ false
+still_without y x no_fields e = e
+still_without y x (a_field z v fs) e = by_test (bytes_eq x z) (still_without y x fs (not_second (bytes_eq y z) (has_field y fs) e))
+  where
+    by_test : (b : Bool) → has_field y (without_field x fs) ≡ false → has_field y (if b then fs else a_field z v (without_field x fs)) ≡ false
+    by_test true g = not_second (bytes_eq y z) (has_field y fs) e
+    by_test false g = neither (bytes_eq y z) (has_field y (without_field x fs)) (not_first (bytes_eq y z) (has_field y fs) e) g
+
+still_once : (x : Name) (fs : Fields) → has_twice fs ≡ false → has_twice (without_field x fs) ≡ false
+still_once x no_fields e = e
+still_once x (a_field z v fs) e = by_test (bytes_eq x z) (still_once x fs (not_second (has_field z fs) (has_twice fs) e))
+  where
+    by_test : (b : Bool) → has_twice (without_field x fs) ≡ false → has_twice (if b then fs else a_field z v (without_field x fs)) ≡ false
+    by_test true g = not_second (has_field z fs) (has_twice fs) e
+    by_test false g = neither (has_field z (without_field x fs)) (has_twice (without_field x fs)) (still_without z x fs (not_first (has_field z fs) (has_twice fs) e)) g
+
+bound_held : (ps : Parameters) (ds : List Value) (vs : Values) (fs : Fields) → HeldList ds → HeldValues vs → HeldFields fs → has_twice fs ≡ false → HeldBound (bound ps ds vs fs)
+bound_held no_parameters ds no_values no_fields d h k e = tt
+bound_held no_parameters ds no_values (a_field y v fs) d h k e = tt
+bound_held no_parameters ds (a_value v vs) fs d h k e = tt
+bound_held (required x ps) ds (a_value v vs) fs d h k e = front_held x (unless_named x v fs) (bound ps ds vs fs) (unless_held x v fs h.0) (bound_held ps ds vs fs d h.1 k e)
+bound_held (required x ps) ds no_values fs d h k e = front_held x (field_of x fs) _ (field_held x fs k) (bound_held ps ds no_values (without_field x fs) d h (without_held x fs k) (still_once x fs e))
+bound_held (defaulted x f ps) [] vs fs d h k e = tt
+bound_held (defaulted x f ps) (w ∷ ds) (a_value v vs) fs d h k e = front_held x (unless_named x v fs) (bound ps ds vs fs) (unless_held x v fs h.0) (bound_held ps ds vs fs d.1 h.1 k e)
+bound_held (defaulted x f ps) (w ∷ ds) no_values fs d h k e =
+    front_held x (or_default (field_of x fs) (Some w)) _ (default_held (field_of x fs) (Some w) (field_held x fs k) d.0) (bound_held ps ds no_values (without_field x fs) d.1 h (without_held x fs k) (still_once x fs e))
+bound_held (bare_star ps) ds (a_value v vs) fs d h k e = tt
+bound_held (bare_star ps) ds no_values fs d h k e = bound_held ps ds no_values fs d h k e
+bound_held (starred_parameter x ps) ds vs fs d h k e = front_held x (Some (tuple_value vs)) (bound ps ds no_values fs) h (bound_held ps ds no_values fs d tt k e)
+bound_held (double_starred_parameter x ps) ds (a_value v vs) fs d h k e = tt
+bound_held (double_starred_parameter x ps) ds no_values fs d h k e = ((k, e), tt)
+
+bound_if : (b : Bool) (o : Option (List (Name × Given))) → (b ≡ false → HeldBound o) → HeldBound (if b then None else o)
+bound_if true o h = tt
+bound_if false o h = h refl
+
+arguments_bound : (ps : Parameters) (ds : List Value) (vs : Arguments) → HeldList ds → HeldArguments vs → HeldBound (all_bound ps ds vs)
+arguments_bound ps ds (arguments vs fs) d h = bound_if (has_twice fs) (bound ps ds vs fs) (λ e. bound_held ps ds vs fs d h.0 h.1 e)
+
+texts_avoid : (x : Name) (fs : Fields) → has_field x fs ≡ false → has_equal_key (text_value x) (text_pairs fs) ≡ false
+texts_avoid x no_fields e = refl
+texts_avoid x (a_field y v fs) e = neither (bytes_eq x y) (has_equal_key (text_value x) (text_pairs fs)) (not_first (bytes_eq x y) (has_field x fs) e) (texts_avoid x fs (not_second (bytes_eq x y) (has_field x fs) e))
+
+texts_held : (fs : Fields) → HeldFields fs → has_twice fs ≡ false → HeldPairs (text_pairs fs)
+texts_held no_fields h e = tt
+texts_held (a_field x v fs) h e = (h.0, h.1, texts_avoid x fs (not_first (has_field x fs) (has_twice fs) e), texts_held fs h.2 (not_second (has_field x fs) (has_twice fs) e))
+
+given_keeps : {H : Type 0} (g : Given) → HeldGiven g → Keeps {H = H} HeldValue (value_given g)
+given_keeps (given v) h = keeps_give v h
+given_keeps (rest_given fs) h = keeps_then (keeps_new_object (of_dict (text_pairs fs)) (texts_held fs h.0 h.1)) (λ r u. keeps_give (dict_value r) tt)
+
+given_boxes : {H : Type 0} (bs : List (Name × Given)) → AllGiven bs → Keeps {H = H} Anything (boxes_of bs)
+given_boxes [] h = keeps_give [] tt
+given_boxes (b ∷ bs) h = keeps_then (given_keeps b.1 h.0) (λ v k. keeps_then (keeps_new_object (of_box (Some v)) k) (λ r u. keeps_then (given_boxes bs h.1) (λ env t. keeps_give ((b.0, r) ∷ env) tt)))
+
+bound_found : (o : Option (List (Name × Given))) (bs : List (Name × Given)) → HeldBound o → o ≡ Some bs → AllGiven bs
+bound_found None bs h e = cc
+bound_found (Some cs) bs h e = let same : cs ≡ bs = cc in rw (← same) h
+
+pub scope_keeps : {H : Type 0} (p : Place) (ps : Parameters) (names : List Name) (ds : List Value) (vs : Arguments) (env : Env) → HeldList ds → HeldArguments vs → Keeps {H = H} Anything (scope_of_call p ps names ds vs env)
+scope_keeps p ps names ds vs env d h =
+    keeps_then (keeps_or_fail kind.ArgBind p (all_bound ps ds vs) (λ bs e. bound_found (all_bound ps ds vs) bs (arguments_bound ps ds vs d h) e))
+    (λ bs k. keeps_then (given_boxes bs k) (λ own u. keeps_then (boxes_keep names own) (λ all t. keeps_give (all ++ env) tt)))
+
+pub starlark_keeps : {H : Type 0} → LanguageKeeps {H = H} starlark
+starlark_keeps = record {
+  eval = λ call calls e env h. eval_keeps call calls e env h;
+  arguments = λ call calls es env h. arguments_keep call calls es env h;
+  assign = λ call calls p x v env h k. assign_keeps call calls p x v env h k;
+  augment = λ call calls p o q x e env h k. augment_keeps call calls p o q x e env h k;
+  bind_name = λ p x v env h. write_keeps p x v (box_of x env) h;
+  truth = truth_keeps;
+  members = members_keep;
+  defaults = λ call calls ps env h. defaults_keep call calls ps env h;
+  bind = scope_keeps;
+  own = λ p f vs h k. keeps_fail kind.NotBuilt p [];
+  own_keyed = λ p f vs ms ks h k i j. keeps_fail kind.NotBuilt p [];
+}
+
+-- ---- natives
+
+abbrev pub HeldReply : Reply → Type 0
+HeldReply (answer v) = HeldValue v
+HeldReply (call_then f vs tag) = HeldValue f × HeldArguments vs
+
+abbrev pub HeldGot : Result Value Fault → Type 0
+HeldGot (Ok v) = HeldValue v
+HeldGot (Err e) = Unit {0}
+
+pub record HostKeeps {H : Type 0} (host : Host H) : Type 0 where
+  pub ask : (p : Place) (x : Name) (held : Values) (vs : Arguments) → HeldValues held → HeldArguments vs → Keeps HeldReply (host.ask p x held vs)
+  pub resume : (p : Place) (x : Name) (held : Values) (tag : ℕ) (got : Result Value Fault) → HeldValues held → HeldGot got → Keeps HeldReply (host.resume p x held tag got)
+
+pub no_natives_keep : {H : Type 0} → HostKeeps {H = H} no_natives
+no_natives_keep = record { ask = λ p x held vs h k. keeps_fail kind.ValueKind p []; resume = λ p x held tag got h k. keeps_fail kind.ValueKind p [] }
+
+module _ {H : Type 0} (host : Host H) (hosts : HostKeeps host) where
+  resumed_kept : (p : Place) (x : Name) (held : Values) (tag : ℕ) (e : Ending H Value) → HeldValues held → Kept HeldValue e → Kept HeldReply (resumed_with host p x held tag e)
+  resumed_kept p x held tag (done v s) h k = (hosts.resume p x held tag (Ok v) h k.0).by s k.1
+  resumed_kept p x held tag (bad e s) h k = (hosts.resume p x held tag (Err e) h tt).by s k
+
+  kept_on : {A B : Type 0} (P : A → Type 0) (Q : B → Type 0) (e : Ending H A) (f : A → Computation H B) → Kept P e → ((a : A) → P a → Keeps Q (f a)) → Kept Q (then_do e f)
+  kept_on P Q (done a s) f h k = (k a h.0).by s h.1
+  kept_on P Q (bad e s) f h k = h
+
+  reply_keeps : (call : Call H) → CallKeeps call → (left : ℕ) (p : Place) (x : Name) (held : Values) (r : Reply) → HeldValues held → HeldReply r → Keeps HeldValue (after_reply host call left p x held r)
+  reply_keeps call calls left p x held (answer v) h k = keeps_give v k
+  reply_keeps call calls zero p x held (call_then f vs tag) h k = keeps_fail kind.Steps p []
+  reply_keeps call calls (suc left) p x held (call_then f vs tag) h k =
+      keeps_paid 1 p (record { by = λ s g. kept_on HeldReply HeldValue (resumed_with host p x held tag (call p f vs s)) (after_reply host call left p x held) (resumed_kept p x held tag (call p f vs s) h ((calls.by p f vs k.0 k.1).by s g)) (λ r i. reply_keeps call calls left p x held r h i) })
+
+  native_keeps : (call : Call H) → CallKeeps call → (left : ℕ) (p : Place) (x : Name) (held : Values) (vs : Arguments) → HeldValues held → HeldArguments vs → Keeps HeldValue (native_call host call left p x held vs)
+  native_keeps call calls left p x held vs h k = keeps_then (hosts.ask p x held vs h k) (λ r i. reply_keeps call calls left p x held r h i)
+
+-- ---- calls
+
+module _ {H : Type 0} (language : Language H) (keeps : LanguageKeeps language) where
+  kind_keeps : (function : Call H) (native : Place → Name → Values → Arguments → Computation H Value) (keyed : Place → Value → Arguments → Keyed → Computation H Value) → CallKeeps function
+      → ((p : Place) (x : Name) (held : Values) (vs : Arguments) → HeldValues held → HeldArguments vs → Keeps HeldValue (native p x held vs))
+      → ((p : Place) (f : Value) (vs : Arguments) (k : Keyed) → HeldValue f → HeldArguments vs → HeldKeyed k → Keeps HeldValue (keyed p f vs k))
+      → (p : Place) (f : Value) (vs : Arguments) → HeldValue f → HeldArguments vs → Keeps HeldValue (call_by_kind language function native keyed p f vs)
+  kind_keeps function native keyed fs ns ks p (function_value r) vs h k = fs.by p (function_value r) vs h k
+  kind_keeps function native keyed fs ns ks p (builtin_value x) vs h k = keeps_then (keeps.own p (builtin_value x) vs h k) (λ g i. ks p (builtin_value x) vs g h k i)
+  kind_keeps function native keyed fs ns ks p (method_value x v) vs h k = keeps_then (keeps.own p (method_value x v) vs h k) (λ g i. ks p (method_value x v) vs g h k i)
+  kind_keeps function native keyed fs ns ks p (native_value x held) vs h k = ns p x held vs h k
+  kind_keeps function native keyed fs ns ks p _ vs h k = keeps_fail kind.ValueKind p []
+
+  no_keys_keep : (p : Place) (f : Value) (vs : Arguments) (k : Keyed) → HeldKeyed k → Keeps {H = H} HeldValue (no_keys p f vs k)
+  no_keys_keep p f vs (without_keys v) h = keeps_give v h
+  no_keys_keep p f vs (asks_keys g ms) h = keeps_ill_formed
+
+  keys_keep : (call : Call H) → CallKeeps call → (p : Place) (g : Value) (vs : List Value) → HeldValue g → HeldList vs → Keeps HeldList (keys_by call p g vs)
+  keys_keep call calls p g [] h k = keeps_give [] tt
+  keys_keep call calls p g (v ∷ vs) h k = keeps_then (calls.by p g (one_value v) h ((k.0, tt), tt)) (λ w i. keeps_then (keys_keep call calls p g vs h k.1) (λ ws j. keeps_give (w ∷ ws) (i, j)))
+
+  with_keys_keep : (call : Call H) → CallKeeps call → (p : Place) (f : Value) (vs : Arguments) (k : Keyed) → HeldValue f → HeldArguments vs → HeldKeyed k → Keeps HeldValue (with_keys language call p f vs k)
+  with_keys_keep call calls p f vs (without_keys v) h k i = keeps_give v i
+  with_keys_keep call calls p f vs (asks_keys g ms) h k i = keeps_then (keys_keep call calls p g ms i.0 i.1) (λ ks j. keeps.own_keyed p f vs ms ks h k i.1 j)
+
+  any_keeps : (function : Call H) (native : Place → Name → Values → Arguments → Computation H Value) → CallKeeps function
+      → ((p : Place) (x : Name) (held : Values) (vs : Arguments) → HeldValues held → HeldArguments vs → Keeps HeldValue (native p x held vs)) → CallKeeps (any_call language function native)
+  any_keeps function native fs ns = record {
+    by = kind_keeps function native (with_keys language (call_by_kind language function native no_keys)) fs ns
+        (with_keys_keep (call_by_kind language function native no_keys) (record { by = kind_keeps function native no_keys fs ns (λ p f vs k h g i. no_keys_keep p f vs k i) }));
+  }
+
+  natives_keep : (host : Host H) → HostKeeps host → (function : Call H) → CallKeeps function → (left : ℕ) → CallKeeps (call_with_natives language host function left)
+  natives_keep host hosts function fs zero = any_keeps function (native_call host function zero) fs (native_keeps host hosts function fs zero)
+  natives_keep host hosts function fs (suc left) =
+      any_keeps function (native_call host (call_with_natives language host function left) (suc left)) fs (native_keeps host hosts (call_with_natives language host function left) (natives_keep host hosts function fs left) (suc left))
+
+  found_function : (o : Option Function) (g : Function) → HeldFunction o → o ≡ Some g → HeldList g.defaults
+  found_function None g h e = cc
+  found_function (Some f) g h e = let same : f ≡ g = cc in rw (← same) h
+
+  function_keeps : (p : Place) (f : Value) → Keeps {H = H} (λ g. HeldList g.defaults) (function_of p f)
+  function_keeps p (function_value r) = keeps_then (keeps_reads {P = HeldFunction} (function_at r) (λ store h. function_held (object_at r store) (object_held store r h))) (λ o h. keeps_or_fail kind.ValueKind p o (λ g e. found_function o g h e))
+  function_keeps p _ = keeps_fail kind.ValueKind p []
+
+  -- the code of each function keeps what the program holds, where calls do
+  pub record TableKeeps {B : Type 0} (enter : Enter H B) (table : Table B) : Type 0 where
+    pub by : (call : Call H) → CallKeeps call → (file number : ℕ) (c : Code B) → table file number ≡ Some c → (env : Env) → Keeps HeldValue (enter_code language enter call c env)
+
+  called_keeps : {B : Type 0} (names : B → List Name) (enter : Enter H B) (table : Table B) → TableKeeps enter table → (below : Call H) → CallKeeps below → CallKeeps (function_call language names enter table below)
+  called_keeps names enter table tables below belows = record {
+    by = λ p f vs h k. keeps_then (function_keeps p f) (λ g i. keeps_then (keeps_or_ill_formed {P = λ c. table g.file g.number ≡ Some c} (table g.file g.number) (λ c e. e))
+        (λ c e. keeps_then (keeps.bind p (parameters_of c) (names_of names c) g.defaults vs g.env i k) (λ env u. tables.by below belows g.file g.number c e env)));
+  }
+
+  too_deep_keeps : CallKeeps {H = H} too_deep
+  too_deep_keeps = record { by = λ p f vs h k. keeps_then (function_keeps p f) (λ g i. keeps_fail kind.Depth p []) }
+
+  pub apply_keeps : {B : Type 0} (host : Host H) → HostKeeps host → (names : B → List Name) (enter : Enter H B) (table : Table B) → TableKeeps enter table → (d : ℕ) → CallKeeps (apply language host names enter table d)
+  apply_keeps host hosts names enter table tables zero = record { by = λ p f vs h k. record { by = λ s g. ((natives_keep host hosts too_deep too_deep_keeps s.steps).by p f vs h k).by s g } }
+  apply_keeps host hosts names enter table tables (suc d) = record {
+    by = λ p f vs h k. record {
+      by = λ s g. ((natives_keep host hosts (function_call language names enter table (apply language host names enter table d)) (called_keeps names enter table tables (apply language host names enter table d) (apply_keeps host hosts names enter table tables d)) s.steps).by p f vs h k).by s g;
+    };
+  }

@@ -1,0 +1,5 @@
+pub mod CallsKeep
+pub mod Computations
+pub mod EvalKeeps
+pub mod Keeping
+pub mod RowsHeld

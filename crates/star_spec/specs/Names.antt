@@ -1,0 +1,69 @@
+-- The names of scopes: their boxes, and the names that targets and statements bind.
+use Rattle.std.specs.Prelude.{ℕ, List, [], ◌∷◌, ◌++◌, Option, Some, None, if◌then◌else◌, bytes_eq}
+use Rattle.ytt_base.specs.declared.fault.FaultKind.TheVariants as kind
+use Rattle.ytt_base.specs.declared.fault.Place.{Place}
+use Rattle.star_spec.specs.Code.{Name, Expr, name, list, tuple, Exprs, no_exprs, an_expr, Clauses, no_clauses, for_clause, if_clause, LoadedNames, no_loaded, a_loaded, Statement, assign, augment, load}
+use Rattle.star_spec.specs.Values.{Value, Env, of_box}
+use Rattle.star_spec.specs.Outcomes.{done, Computation, give, fail_with, on_store, reads, new_object, ◌>>=◌}
+use Rattle.star_spec.specs.Store.{box_at, change, with_contents}
+
+-- ---- boxes
+
+-- the box of a name
+abbrev pub box_of : Name → Env → Option ℕ
+box_of x [] = None
+box_of x (b ∷ env) = if bytes_eq b.0 x then Some b.1 else box_of x env
+
+-- a box without a value for a name that has none yet
+abbrev pub with_box : {H : Type 0} → Name → Env → Option ℕ → Computation H Env
+with_box x env (Some r) = give env
+with_box x env None = new_object (of_box None) >>= λ r. give ((x, r) ∷ env)
+
+abbrev pub with_boxes : {H : Type 0} → List Name → Env → Computation H Env
+with_boxes [] env = give env
+with_boxes (x ∷ xs) env = with_box x env (box_of x env) >>= with_boxes xs
+
+abbrev pub value_or_unset : {H : Type 0} → Place → Name → Option Value → Computation H Value
+value_or_unset p x None = fail_with kind.NameUnset p x
+value_or_unset p x (Some v) = give v
+
+-- the value of a name, by its box
+abbrev pub read_name : {H : Type 0} → Place → Name → Option ℕ → Computation H Value
+read_name p x None = fail_with kind.NameUnknown p x
+read_name p x (Some r) = reads (box_at r) >>= value_or_unset p x
+
+-- a box gets a value, whatever its marks say
+abbrev pub fill_box : {H : Type 0} → ℕ → Value → Computation H (Unit {0})
+fill_box r v = λ s. done tt (on_store (change (with_contents (of_box (Some v))) r) s)
+
+abbrev pub write_name : {H : Type 0} → Place → Name → Value → Option ℕ → Computation H (Unit {0})
+write_name p x v None = fail_with kind.NameUnknown p x
+write_name p x v (Some r) = fill_box r v
+
+-- ---- the names that are bound, in text order
+
+abbrev mutual
+  pub target_names : Expr → List Name
+  target_names (name p x) = x ∷ []
+  target_names (list p es) = targets_names es
+  target_names (tuple p es) = targets_names es
+  target_names _ = []
+
+  pub targets_names : Exprs → List Name
+  targets_names no_exprs = []
+  targets_names (an_expr e es) = target_names e ++ targets_names es
+
+abbrev pub clauses_names : Clauses → List Name
+clauses_names no_clauses = []
+clauses_names (for_clause x e cs) = target_names x ++ clauses_names cs
+clauses_names (if_clause e cs) = clauses_names cs
+
+abbrev pub loaded_names : LoadedNames → List Name
+loaded_names no_loaded = []
+loaded_names (a_loaded x origin xs) = x ∷ loaded_names xs
+
+abbrev pub statement_names : Statement → List Name
+statement_names (assign p x e) = target_names x
+statement_names (augment p o q x e) = target_names x
+statement_names (load p path xs) = loaded_names xs
+statement_names _ = []
