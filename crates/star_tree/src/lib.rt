@@ -1,6 +1,7 @@
 //! Syntax trees of Starlark code, and programs.
 #![tactic(auto)]
 
+pub mod code;
 mod expr;
 mod program;
 
