@@ -94,7 +94,7 @@ optional_from (Some e) = plain.present e
 
 -- ---- one level; a lambda has its number once those of its file are counted
 
-abbrev pub expr_step : (file : ℕ) → Expr-F Clause plain.Expr Parameter Piece Entry → plain.Expr
+abbrev pub expr_step : (file : ℕ) → Expr-F Clause Entry plain.Expr Parameter Piece → plain.Expr
 expr_step file (Expr-F.Int l z) = plain.int (place_at file l) z
 expr_step file (Expr-F.Text l t) = plain.text (place_at file l) t
 expr_step file (Expr-F.Name l x) = plain.name (place_at file l) x
@@ -118,30 +118,30 @@ expr_step file (Expr-F.ListFor l e cs) = plain.list_comprehension (place_at file
 expr_step file (Expr-F.DictFor l k v cs) = plain.dict_comprehension (place_at file l) k v (clauses_from cs)
 expr_step file (Expr-F.Template l ps) = plain.text_template (place_at file l) (pieces_from ps)
 
-abbrev pub clause_step : Clause-F Clause plain.Expr Parameter Piece Entry → Clause
+abbrev pub clause_step : Clause-F Clause Entry plain.Expr Parameter Piece → Clause
 clause_step (Clause-F.ForIn t m) = for_part t m
 clause_step (Clause-F.OnlyIf e) = if_part e
 
-abbrev pub parameter_step : Param-F Clause plain.Expr Parameter Piece Entry → Parameter
+abbrev pub parameter_step : Param-F Clause Entry plain.Expr Parameter Piece → Parameter
 parameter_step (Param-F.Required x) = named_part x
 parameter_step (Param-F.Defaulted x e) = default_part x e
 parameter_step Param-F.BareStar = bare_part
 parameter_step (Param-F.Starred x) = star_part x
 parameter_step (Param-F.DoubleStarred x) = stars_part x
 
-abbrev pub piece_step : Piece-F Clause plain.Expr Parameter Piece Entry → Piece
+abbrev pub piece_step : Piece-F Clause Entry plain.Expr Parameter Piece → Piece
 piece_step (Piece-F.Written t) = written_part t
 piece_step (Piece-F.Shown e) = expr_part e
 
-abbrev pub entry_step : Entry-F Clause plain.Expr Parameter Piece Entry → Entry
-entry_step e = record { key = e.key; value = e.value }
+abbrev pub entry_step : Entry-F Clause Entry plain.Expr Parameter Piece → Entry
+entry_step (Entry-F.Pair k v) = record { key = k; value = v }
 
 -- the expression, in a file of this number
 abbrev pub expr_of : (file : ℕ) → Expr → plain.Expr
-expr_of file = fold-Expr Clause plain.Expr Parameter Piece Entry clause_step (expr_step file) parameter_step piece_step entry_step
+expr_of file = fold-Expr Clause Entry plain.Expr Parameter Piece clause_step entry_step (expr_step file) parameter_step piece_step
 
 abbrev pub parameter_of : (file : ℕ) → Param → Parameter
-parameter_of file = fold-Param Clause plain.Expr Parameter Piece Entry clause_step (expr_step file) parameter_step piece_step entry_step
+parameter_of file = fold-Param Clause Entry plain.Expr Parameter Piece clause_step entry_step (expr_step file) parameter_step piece_step
 
 abbrev pub exprs_of : (file : ℕ) → List Expr → plain.Exprs
 exprs_of file es = exprs_from (each (expr_of file) es)

@@ -78,9 +78,9 @@ pub enum Expr {
 /// An entry of a dict display.
 #[cycle(tree)]
 #[derive(Drop)]
-pub struct Entry {
-    pub key: Boxed<Expr>,
-    pub value: Boxed<Expr>,
+pub enum Entry {
+    /// The key and the value.
+    Pair(Boxed<Expr>, Boxed<Expr>),
 }
 
 /// A clause of a comprehension.

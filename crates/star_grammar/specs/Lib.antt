@@ -1,0 +1,6 @@
+pub mod Effects
+pub mod Language
+pub mod Parts
+pub mod Predict
+pub mod Table
+pub mod Trees
