@@ -7,6 +7,7 @@ use Rattle.ll.specs.declared.shapes.Shape.{Shape}
 use Rattle.ll.specs.declared.shapes.Effect.{Effect}
 use Rattle.ll.specs.declared.shapes.Effect.TheVariants as effect
 use Rattle.ll.specs.Shapes.{shape, top, under, past, highest, apply, run, raised}
+use Rattle.ll.specs.Measure.{Measure, along, weigh}
 use Rattle.ll.proofs.Laws.{Rising, Goes, Completed}
 
 -- a height that is kept exactly is one more
@@ -58,13 +59,6 @@ low_run (e ∷ es) xs ys p = low_run es (apply e xs) (apply e ys) (low_apply e x
 
 -- ---- the measure of a grammar
 
--- The trees on the stack of a value, and what each alternative, token and rule makes of them: a rule the least that it can.
-pub record Measure (g : Grammar) : Type 0 where
-  pub shapes : g.Value → List Shape
-  pub effect : g.Choice → Effect
-  pub given : g.Terminal → Effect
-  pub least : g.Rule → List Effect
-
 module _ (g : Grammar) (m : Measure g) where
   -- what symbols make of the trees at least, and a stack
   abbrev pub walk : Symbols g → List Shape → List Shape
@@ -72,19 +66,10 @@ module _ (g : Grammar) (m : Measure g) where
   walk (terminal a ∷ ss) xs = walk ss (apply (m.given a) xs)
   walk (rule r ∷ ss) xs = walk ss (run (m.least r) xs)
 
-  abbrev pub along : Stack g → List Shape → List Shape
-  along [] xs = xs
-  along (close c ∷ rest) xs = along rest (apply (m.effect c) xs)
-  along (want (terminal a) ∷ rest) xs = along rest (apply (m.given a) xs)
-  along (want (rule r) ∷ rest) xs = along rest (run (m.least r) xs)
-
-  abbrev pub weigh : Stack g → g.Value → ℕ
-  weigh stack v = (top (along stack (m.shapes v))).high
-
   abbrev pub closed : g.Choice → List Shape → List Shape
   closed c xs = apply (m.effect c) (walk (g.body c) xs)
 
-  low_along : (stack : Stack g) (xs ys : List Shape) → Low xs ys → Low (along stack xs) (along stack ys)
+  low_along : (stack : Stack g) (xs ys : List Shape) → Low xs ys → Low (along g m stack xs) (along g m stack ys)
   low_along [] xs ys p = p
   low_along (close c ∷ rest) xs ys p = low_along rest _ _ (low_apply (m.effect c) xs ys p)
   low_along (want (terminal a) ∷ rest) xs ys p = low_along rest _ _ (low_apply (m.given a) xs ys p)
@@ -95,7 +80,7 @@ module _ (g : Grammar) (m : Measure g) where
   low_walk (terminal a ∷ ss) xs ys p = low_walk ss _ _ (low_apply (m.given a) xs ys p)
   low_walk (rule r ∷ ss) xs ys p = low_walk ss _ _ (low_run (m.least r) xs ys p)
 
-  along_wants : (ss : Symbols g) (rest : Stack g) (xs : List Shape) → along (wants g ss rest) xs ≡ along rest (walk ss xs)
+  along_wants : (ss : Symbols g) (rest : Stack g) (xs : List Shape) → along g m (wants g ss rest) xs ≡ along g m rest (walk ss xs)
   along_wants [] rest xs = refl
   along_wants (terminal a ∷ ss) rest xs = along_wants ss rest (apply (m.given a) xs)
   along_wants (rule r ∷ ss) rest xs = along_wants ss rest (run (m.least r) xs)
@@ -173,26 +158,26 @@ module _ (g : Grammar) (m : Measure g) where
           low = rw laws.finished (low_trans _ _ _ (low_apply (m.effect c) _ _ q.low) low);
         }
 
-    w_close : (c : g.Choice) (rest : Stack g) (v : g.Value) → weigh rest (g.finish c v) ≡ weigh (close c ∷ rest) v
-    w_close c rest v = ap (λ xs. (top (along rest xs)).high) (laws.finished c v)
+    w_close : (c : g.Choice) (rest : Stack g) (v : g.Value) → weigh g m rest (g.finish c v) ≡ weigh g m (close c ∷ rest) v
+    w_close c rest v = ap (λ xs. (top (along g m rest xs)).high) (laws.finished c v)
 
-    w_take : (a : g.Terminal) (rest : Stack g) (k : g.Token) (v w : g.Value) → g.shift a k v ≡ Some w → weigh rest w ≡ weigh (want (terminal a) ∷ rest) v
-    w_take a rest k v w e = ap (λ xs. (top (along rest xs)).high) (laws.shifted a k v w e)
+    w_take : (a : g.Terminal) (rest : Stack g) (k : g.Token) (v w : g.Value) → g.shift a k v ≡ Some w → weigh g m rest w ≡ weigh g m (want (terminal a) ∷ rest) v
+    w_take a rest k v w e = ap (λ xs. (top (along g m rest xs)).high) (laws.shifted a k v w e)
 
-    along_ended : (c : g.Choice) (rest : Stack g) (xs : List Shape) → along (ended g c rest) xs ≡ along rest (apply (m.effect c) xs)
+    along_ended : (c : g.Choice) (rest : Stack g) (xs : List Shape) → along g m (ended g c rest) xs ≡ along g m rest (apply (m.effect c) xs)
     along_ended c rest xs = on (g.silent c) refl
       where
-        on : (b : Bool) → g.silent c ≡ b → along (if b then rest else close c ∷ rest) xs ≡ along rest (apply (m.effect c) xs)
-        on true e = ap (along rest) (sym (laws.silent c xs e))
+        on : (b : Bool) → g.silent c ≡ b → along g m (if b then rest else close c ∷ rest) xs ≡ along g m rest (apply (m.effect c) xs)
+        on true e = ap (along g m rest) (sym (laws.silent c xs e))
         on false e = refl
 
-    w_open : (c : g.Choice) (rest : Stack g) (v : g.Value) → g.allows c v ≡ true → weigh (want (rule (g.head c)) ∷ rest) v ≤ weigh (opened g c rest) v
+    w_open : (c : g.Choice) (rest : Stack g) (v : g.Value) → g.allows c v ≡ true → weigh g m (want (rule (g.head c)) ∷ rest) v ≤ weigh g m (opened g c rest) v
     w_open c rest v a =
-        let e : weigh (opened g c rest) v ≡ (top (along rest (closed c (m.shapes v)))).high
+        let e : weigh g m (opened g c rest) v ≡ (top (along g m rest (closed c (m.shapes v)))).high
         = ap (λ xs. (top xs).high) (along_wants (g.body c) (ended g c rest) (m.shapes v) ∙ along_ended c rest (walk (g.body c) (m.shapes v))) in
         omega (arith, e, (low_along rest _ _ (laws.opened c v a) 0))
 
-    module _ (t : Tables g) (same : (stack : Stack g) (v : g.Value) → t.least stack v ≡ weigh stack v) where
+    module _ (t : Tables g) (same : (stack : Stack g) (v : g.Value) → t.least stack v ≡ weigh g m stack v) where
       pub rising : Rising g t
       rising = record {
         closing = λ c rest v. omega (arith, same (close c ∷ rest) v, same rest (g.finish c v), w_close c rest v);

@@ -1,6 +1,9 @@
 pub mod Effects
 pub mod Language
+pub mod Machine
 pub mod Parts
 pub mod Predict
+pub mod Reading
+pub mod Standing
 pub mod Table
 pub mod Trees

@@ -3,9 +3,11 @@
 #![tactic(auto)]
 
 mod part;
+mod start;
 mod table;
 mod token;
 
 pub use part::{Block, Part};
+pub use start::{Stand, Start};
 pub use table::{Action, Added, Choice, Kind, Made, Opened, Rule, Stated, Symbol, Terminal};
 pub use token::{Mark, Token, TokenKind};
