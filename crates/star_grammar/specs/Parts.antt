@@ -1,5 +1,6 @@
 -- What stands in the parts that were read: each part seen as what is wanted there.
 use Rattle.std.specs.Prelude.{ℕ, Bool, true, false, not, ◌&&◌, ◌||◌, if◌then◌else◌, List, [], ◌∷◌, ◌++◌, Option, Some, None, bytes_eq}
+use Rattle.std.specs.List.{list_any}
 use Rattle.star_tree.specs.declared.code.Clause.{Clause}
 use Rattle.star_tree.specs.declared.code.Entry.{Entry}
 use Rattle.star_tree.specs.declared.code.Expr.{Expr, out-Expr}
@@ -135,8 +136,7 @@ is_double_starred (Param-F.DoubleStarred x) = true
 is_double_starred p = false
 
 abbrev pub some_parameter : (Parameter → Bool) → List Param → Bool
-some_parameter p [] = false
-some_parameter p (x ∷ xs) = p (out-Param x) || some_parameter p xs
+some_parameter p ps = list_any (λ x. p (out-Param x)) ps
 
 -- a parameter of this name was read
 abbrev pub has_name : List ℕ → List Param → Bool
@@ -150,8 +150,11 @@ abbrev pub with_default : Parameter → Expr → Param → Param
 with_default (Param-F.Required x) e p = param.Defaulted x e
 with_default q e p = p
 
+abbrev pub defaulted_one : Param → Expr → Param
+defaulted_one p e = with_default (out-Param p) e p
+
 -- the last one gets this default
 abbrev pub defaulted : List Param → Expr → List Param
 defaulted [] e = []
-defaulted (p ∷ []) e = with_default (out-Param p) e p ∷ []
+defaulted (p ∷ []) e = defaulted_one p e ∷ []
 defaulted (p ∷ q ∷ ps) e = p ∷ defaulted (q ∷ ps) e

@@ -76,6 +76,9 @@ operation l m a b = expr.Binary l (binary_of m) a b
 
 -- ---- empty parts
 
+abbrev pub none_at : ℕ → Expr
+none_at l = expr.Name l (codes "None")
+
 abbrev pub opened_part : Opened → List Part → Part
 opened_part opened.Exprs ps = part.Exprs 0 []
 opened_part opened.Entries ps = part.Entries []
@@ -84,7 +87,7 @@ opened_part opened.Params ps = part.Params []
 opened_part opened.Loads ps = part.Loads []
 opened_part opened.Missing ps = part.Missing
 -- a `return` alone, which stands before it, returns None
-opened_part opened.NoResult ps = part.Expr (line_in (top ps)) (expr.Name (line_in (top ps)) (codes "None"))
+opened_part opened.NoResult ps = part.Expr (line_in (top ps)) (none_at (line_in (top ps)))
 opened_part opened.EmptyTuple ps = part.Exprs 0 []
 
 -- ---- parts that gather others

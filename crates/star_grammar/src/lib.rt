@@ -10,4 +10,4 @@ mod token;
 pub use part::{Block, Part};
 pub use start::{Stand, Start};
 pub use table::{Action, Added, Choice, Kind, Made, Opened, Rule, Stated, Symbol, Terminal};
-pub use token::{Mark, Token, TokenKind};
+pub use token::{Cursor, Form, Letter, Mark, Origin, Piece, Said, Token, TokenKind};
