@@ -3,6 +3,7 @@
 
 mod ends;
 mod exprs;
+mod guards;
 mod lists;
 mod operators;
 mod parts;
@@ -10,4 +11,5 @@ mod statements;
 mod taken;
 
 pub use ends::build;
+pub use guards::{has_name, has_star, has_stars, may_be_required};
 pub use parts::Parts;

@@ -2,6 +2,7 @@
 ghost use Rattle.std.specs.Prelude.{◌≡◌, [], ◌∷◌, IfOk, OnOk};
 ghost use Rattle.star_grammar.specs.Parts as spec;
 
+use crate::guards;
 use crate::taken;
 use sqlite_items::{Boxed, Items};
 use star_grammar::{Mark, Part};
@@ -162,5 +163,35 @@ impl Parts {
         ensures rest { self.new ≡ spec.under self.old }
     {
         taken::code_in(alloc, self.pop())
+    }
+
+    /// Whether the last part is a name.
+    pub fn is_name(&self) -> bool
+        ensures { result ≡ spec.is_name (spec.top self.now) }
+    {
+        match self.parts.last() {
+            Some(part) => guards::is_name(part),
+            None => false,
+        }
+    }
+
+    /// Whether the last part is a name or an index.
+    pub fn is_place(&self) -> bool
+        ensures { result ≡ spec.is_place (spec.top self.now) }
+    {
+        match self.parts.last() {
+            Some(part) => guards::is_place(part),
+            None => false,
+        }
+    }
+
+    /// The parameters that the last part is.
+    pub fn params(&self) -> &[Param]
+        ensures { result.now ≡ spec.params_in (spec.top self.now) }
+    {
+        match self.parts.last() {
+            Some(Part::Params(params)) => params.as_slice(),
+            _ => &[],
+        }
     }
 }

@@ -50,10 +50,10 @@ rule_found : (r : Rule) → nth rules (rule_place r) ≡ Some r
 rule_found rule.Top = refl
 rule_found r = refl
 
-pub all_kinds : Listed Kind
+unfoldable pub all_kinds : Listed Kind
 all_kinds = record { all = kinds; place = place; found = kind_found }
 
-pub all_choices : Listed Choice
+unfoldable pub all_choices : Listed Choice
 all_choices = record { all = choices; place = choice_place; found = choice_found }
 
 all_rules : Listed Rule

@@ -24,7 +24,7 @@ use Rattle.star_grammar.specs.declared.token.TokenKind.TheVariants as token
 use Rattle.star_grammar.specs.Effects.{least, takes, place, kind_of}
 use Rattle.star_grammar.specs.Language.{language, Value, allowed, may_stand, taken, symbols_of, kind_of_token, is_constant}
 use Rattle.star_grammar.specs.Machine.{tables, measure}
-use Rattle.star_grammar.specs.Parts.{Parameter, top, params_in, name_of_parameter, some_parameter, has_name}
+use Rattle.star_grammar.specs.Parts.{Parameter, top, params_in, name_of_parameter, has_name}
 use Rattle.star_grammar.specs.Table.{head, body}
 use Rattle.star_grammar.proofs.Checked.{silent_shapes}
 use Rattle.star_grammar.proofs.Numbers.{canon, depth}

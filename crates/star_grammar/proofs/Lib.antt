@@ -1,3 +1,4 @@
 pub mod Checked
+pub mod Ending
 pub mod Fills
 pub mod Numbers

@@ -26,7 +26,7 @@ use Rattle.star_grammar.specs.declared.token.TokenKind.{TokenKind}
 use Rattle.star_grammar.specs.declared.token.TokenKind.TheVariants as token
 use Rattle.star_grammar.specs.Table.{head, body, action_of}
 use Rattle.star_grammar.specs.Effects.{effect, silent, given, takes}
-use Rattle.star_grammar.specs.Parts.{top, under, expr_in, params_in, is_name, is_place, has_name, some_parameter, is_starred, is_double_starred, may_be_required, nothing}
+use Rattle.star_grammar.specs.Parts.{top, under, expr_in, params_in, is_name, is_place, has_name, has_star, has_stars, may_be_required, nothing}
 use Rattle.star_grammar.specs.Trees.{built}
 
 -- the parts that were read, their shapes, and the blocks that are open, the innermost first
@@ -42,6 +42,10 @@ value parts shapes blocks = record { parts = parts; shapes = shapes; blocks = bl
 
 abbrev pub max_blocks : ℕ
 max_blocks = 50
+
+-- one more may be open
+abbrev pub has_room : List Block → Bool
+has_room bs = nat_lt (length bs) max_blocks
 
 abbrev pub in_function : List Block → Bool
 in_function [] = false
@@ -88,16 +92,16 @@ allowed choice.Augment v = is_place (top v.parts) && (shapes.top v.shapes).targe
 -- a name without brackets
 allowed choice.Named v = is_name (top v.parts) && nat_eq (shapes.top v.shapes).high 1
 -- nothing stands behind `**x`, one star is enough, and defaults go on
-allowed choice.Params v = not (some_parameter is_double_starred (params_in (top v.parts)))
-allowed choice.StarParam v = not (some_parameter is_starred (params_in (top v.parts)))
+allowed choice.Params v = not (has_stars (params_in (top v.parts)))
+allowed choice.StarParam v = not (has_star (params_in (top v.parts)))
 allowed choice.NoDefault v = may_be_required (params_in (top v.parts))
 allowed choice.Return v = in_function v.blocks
 allowed choice.Break v = in_loop v.blocks
 allowed choice.Continue v = in_loop v.blocks
 allowed choice.Load v = outside v.blocks
-allowed choice.DefStmt v = nat_lt (length v.blocks) max_blocks
-allowed choice.IfStmt v = nat_lt (length v.blocks) max_blocks
-allowed choice.ForStmt v = nat_lt (length v.blocks) max_blocks
+allowed choice.DefStmt v = has_room v.blocks
+allowed choice.IfStmt v = has_room v.blocks
+allowed choice.ForStmt v = has_room v.blocks
 allowed c v = true
 
 -- ---- where a token may stand

@@ -97,17 +97,23 @@ abbrev pub is_name_level : Expr-F Clause Entry Expr Param Piece → Bool
 is_name_level (Expr-F.Name l x) = true
 is_name_level e = false
 
+abbrev pub is_name_expr : Expr → Bool
+is_name_expr e = is_name_level (out-Expr e)
+
 abbrev pub is_name : Part → Bool
-is_name p = is_name_level (out-Expr (expr_in p))
+is_name p = is_name_expr (expr_in p)
 
 abbrev pub is_place_level : Expr-F Clause Entry Expr Param Piece → Bool
 is_place_level (Expr-F.Name l x) = true
 is_place_level (Expr-F.Index l a i) = true
 is_place_level e = false
 
+abbrev pub is_place_expr : Expr → Bool
+is_place_expr e = is_place_level (out-Expr e)
+
 -- a name or an index
 abbrev pub is_place : Part → Bool
-is_place p = is_place_level (out-Expr (expr_in p))
+is_place p = is_place_expr (expr_in p)
 
 -- ---- parameters
 
@@ -135,16 +141,34 @@ abbrev pub is_double_starred : Parameter → Bool
 is_double_starred (Param-F.DoubleStarred x) = true
 is_double_starred p = false
 
-abbrev pub some_parameter : (Parameter → Bool) → List Param → Bool
-some_parameter p ps = list_any (λ x. p (out-Param x)) ps
+abbrev pub has_this_name : List ℕ → Param → Bool
+has_this_name x p = bytes_eq (name_of_parameter (out-Param p)) x
+
+abbrev pub is_defaulted_one : Param → Bool
+is_defaulted_one p = is_defaulted (out-Param p)
+
+abbrev pub is_starred_one : Param → Bool
+is_starred_one p = is_starred (out-Param p)
+
+abbrev pub is_double_starred_one : Param → Bool
+is_double_starred_one p = is_double_starred (out-Param p)
 
 -- a parameter of this name was read
 abbrev pub has_name : List ℕ → List Param → Bool
-has_name x ps = some_parameter (λ p. bytes_eq (name_of_parameter p) x) ps
+has_name x ps = list_any (has_this_name x) ps
+
+abbrev pub has_default : List Param → Bool
+has_default ps = list_any is_defaulted_one ps
+
+abbrev pub has_star : List Param → Bool
+has_star ps = list_any is_starred_one ps
+
+abbrev pub has_stars : List Param → Bool
+has_stars ps = list_any is_double_starred_one ps
 
 -- the last one may go without a default: none before it has one, or they go by name from a star on
 abbrev pub may_be_required : List Param → Bool
-may_be_required ps = some_parameter is_starred ps || not (some_parameter is_defaulted ps)
+may_be_required ps = has_star ps || not (has_default ps)
 
 abbrev pub with_default : Parameter → Expr → Param → Param
 with_default (Param-F.Required x) e p = param.Defaulted x e

@@ -168,13 +168,13 @@ abbrev pub both : ℕ → Option ℕ → Option ℕ → Option ℕ
 both base a b = option_and_then (λ x. option_map (λ y. x * base + y) b) a
 
 -- the value of so many hexadecimal digits at the front
-abbrev pub hex2 : List ℕ → Option ℕ
+unfoldable pub hex2 : List ℕ → Option ℕ
 hex2 t = both 16 (hex1 (first t)) (hex1 (slice_index t 1))
 
-abbrev pub hex4 : List ℕ → Option ℕ
+unfoldable pub hex4 : List ℕ → Option ℕ
 hex4 t = both 256 (hex2 t) (hex2 (drop 2 t))
 
-abbrev pub hex8 : List ℕ → Option ℕ
+unfoldable pub hex8 : List ℕ → Option ℕ
 hex8 t = both 65536 (hex4 t) (hex4 (drop 4 t))
 
 abbrev pub letter : Said → ℕ → Letter
@@ -244,24 +244,24 @@ closes f t = (first t == f.quote) && (not f.triple || ((slice_index t 1 == f.quo
 abbrev pub quotes : Form → ℕ
 quotes f = if f.triple then 3 else 1
 
--- the bytes of a text, and how many bytes it is written in
+-- the bytes of a text, and how many are left behind its closing quotes
 pub record Span : Type 0 where
   pub bytes : List ℕ
-  pub size : ℕ
+  pub left : ℕ
 
 abbrev pub span : List ℕ → ℕ → Span
-span bytes size = record { bytes = bytes; size = size }
+span bytes left = record { bytes = bytes; left = left }
 
-abbrev pub joined : List ℕ → ℕ → Span → Span
-joined bytes size s = span (bytes ++ s.bytes) (size + s.size)
+abbrev pub joined : List ℕ → Span → Span
+joined bytes s = span (bytes ++ s.bytes) s.left
 
 -- A text behind its opening quotes, from this many bytes on, with its closing quotes; none where it is open or a letter is wrong.
 abbrev pub quoted_from : ℕ → Form → List ℕ → Option Span
 quoted_from n f [] = None
 quoted_from (suc n) f (b ∷ bs) = quoted_from n f bs
 quoted_from zero f (b ∷ bs) =
-    if closes f (b ∷ bs) then Some (span [] (quotes f))
-    else option_and_then (λ (l : Letter). option_map (joined (bytes_of l.said) l.size) (quoted_from (l.size - 1) f bs)) (letter_at f (b ∷ bs))
+    if closes f (b ∷ bs) then Some (span [] (length (b ∷ bs) - quotes f))
+    else option_and_then (λ (l : Letter). option_map (joined (bytes_of l.said)) (quoted_from (l.size - 1) f bs)) (letter_at f (b ∷ bs))
 
 abbrev pub quoted : Form → List ℕ → Option Span
 quoted f t = quoted_from 0 f t
@@ -273,7 +273,7 @@ line_ends n t = count_by (λ b. b == 10) (take n t)
 -- a text of such a span behind its opening quotes, which stand behind so many bytes
 abbrev pub text_token : (before : ℕ) → List ℕ → Option Span → Piece
 text_token before t None = no_code
-text_token before t (Some s) = if is_utf8 s.bytes then piece.Whole (token.Text s.bytes) (before + s.size) (line_ends s.size t) else no_code
+text_token before t (Some s) = if is_utf8 s.bytes then piece.Whole (token.Text s.bytes) (before + (length t - s.left)) (line_ends (length t - s.left) t) else no_code
 
 abbrev pub is_triple : List ℕ → Bool
 is_triple t = (slice_index t 1 == first t) && (slice_index t 2 == first t)

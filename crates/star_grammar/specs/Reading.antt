@@ -3,6 +3,10 @@
 use Rattle.std.specs.Prelude.{◌≡◌, ℕ, Bool, true, false, ◌⊎◌, List, [], ◌∷◌, ◌++◌, Result, Ok, Err}
 use Rattle.ll.specs.Grammar.{Entry, Parses, FormAt, DeepAt}
 use Rattle.ll.specs.Shapes.{shape}
+use Rattle.star_tree.specs.declared.code.Header.{Header}
+use Rattle.star_tree.specs.declared.code.Header.TheVariants as header
+use Rattle.star_tree.specs.declared.code.Stmt.{Stmt}
+use Rattle.star_tree.specs.declared.code.Stmt.TheVariants as stmt
 use Rattle.star_grammar.specs.declared.part.Block.TheVariants as block
 use Rattle.star_grammar.specs.declared.part.Part.{Part}
 use Rattle.star_grammar.specs.declared.part.Part.TheVariants as part
@@ -73,3 +77,19 @@ abbrev pub Refuses : Start → List Token → Refusal → Type 0
 Refuses s ts (code_form line) = RefusedAt ts (λ before k. (line ≡ k.line) × (opens_more s before k ≡ false) × IsFormAt s before k)
 Refuses s ts (too_deep line) = RefusedAt ts (λ before k. ((line ≡ k.line) × (opens_more s before k ≡ true) × IsFormAt s before k)
     ⊎ ((line ≡ outer_line s (before ++ k ∷ [])) × IsDeepAt s before k))
+
+-- ---- the head or the end of a block
+
+abbrev pub header_of : Stmt → Header
+header_of (stmt.If l e) = header.If e
+header_of (stmt.Elif l e) = header.Elif e
+header_of (stmt.Else l) = header.Else
+header_of (stmt.For l t m) = header.For t m
+header_of (stmt.Def l x ps) = header.Def x ps
+header_of s = header.End
+
+-- that of the last statement
+abbrev pub header_in : List Stmt → Header
+header_in [] = header.End
+header_in (s ∷ []) = header_of s
+header_in (s ∷ t ∷ ss) = header_in (t ∷ ss)

@@ -22,21 +22,27 @@ is_outside s = nat_le s.depth s.base && nat_eq s.lambdas 0
 abbrev pub ends_targets : Stand → Bool
 ends_targets s = s.walks && nat_eq s.depth 0
 
+abbrev pub parts_arguments : Stand → Kind → Bool
+parts_arguments s kind.Comma = is_outside s
+parts_arguments s k = false
+
+abbrev pub parts_code : Stand → Kind → Bool
+parts_code s kind.Assign = is_outside s
+parts_code s kind.Augment = true
+parts_code s kind.Semicolon = true
+parts_code s kind.LineEnd = true
+parts_code s kind.Return = true
+parts_code s kind.Elif = true
+parts_code s kind.Def = true
+parts_code s kind.If = s.begins
+parts_code s kind.For = s.begins
+parts_code s kind.In = ends_targets s
+parts_code s k = false
+
 -- another expression begins behind such a token
 abbrev pub parts : Start → Stand → Kind → Bool
-parts start.Args s kind.Assign = false
-parts start.Args s kind.Comma = is_outside s
-parts st s kind.Assign = is_outside s
-parts st s kind.Augment = true
-parts st s kind.Semicolon = true
-parts st s kind.LineEnd = true
-parts st s kind.Return = true
-parts st s kind.Elif = true
-parts st s kind.Def = true
-parts st s kind.If = s.begins
-parts st s kind.For = s.begins
-parts st s kind.In = ends_targets s
-parts st s k = false
+parts start.Args s k = parts_arguments s k
+parts st s k = parts_code s k
 
 abbrev pub is_opener : Kind → Bool
 is_opener kind.Def = true

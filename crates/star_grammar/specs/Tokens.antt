@@ -66,6 +66,9 @@ moved c p = record { at = further c.at (size_of p); line = lower c.line (ends_in
 abbrev pub token_at : Cursor → TokenKind → ℕ → Token
 token_at c k size = record { kind = k; start = c.at; end = further c.at size; line = c.line }
 
+abbrev pub end_at : Cursor → Token
+end_at c = token_at c (token.Mark mark.TextEnd) 0
+
 -- a line of code that has a token ends outside brackets
 abbrev pub ends_line : Cursor → Bool
 ends_line c = nat_eq c.depth 0 && not c.fresh
@@ -94,7 +97,7 @@ went c p go = behind (tokens_in c p) (go (size_of p - 1) (moved c p))
 
 -- the tokens of a text from this many bytes on, with its end
 abbrev pub tokens_from : ℕ → Origin → Cursor → List ℕ → Tokens
-tokens_from n o c [] = Ok (token_at c (token.Mark mark.TextEnd) 0 ∷ [])
+tokens_from n o c [] = Ok (end_at c ∷ [])
 tokens_from (suc n) o c (b ∷ bs) = tokens_from n o c bs
 tokens_from zero o c (b ∷ bs) = went c (front o (b ∷ bs)) (λ n d. tokens_from n o d bs)
 

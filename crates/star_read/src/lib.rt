@@ -1,12 +1,13 @@
-//! Reading the text of code into syntax trees.
+//! Reading the tokens of code into syntax trees.
 #![tactic(auto)]
 
-mod frame;
-mod halt;
-mod lexer;
+mod blocks;
+mod heights;
 mod machine;
-mod read;
+mod reader;
+mod readers;
 mod stack;
-mod token;
+mod standing;
+mod state;
 
-pub use read::{a_reader_exists, one_expression, read_flat, readers_agree};
+pub use readers::{read_args, read_expr, read_file, read_header, read_simple};

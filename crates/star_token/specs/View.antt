@@ -13,4 +13,4 @@ option_fixed_of None = None
 option_fixed_of (Some f) = Some (fixed_of f)
 
 abbrev pub span_of : Span → pieces.Span
-span_of s = span s.bytes.items s.size
+span_of s = span s.bytes.items s.left

@@ -1,9 +1,9 @@
 // What stands at the front of a text.
-ghost use Rattle.std.specs.Prelude.{◌≡◌, ◌≤◌, ◌<◌, ◌^◌, true, length, IfOk};
-ghost use Rattle.std.specs.Char.{is_ascii_digit};
+ghost use Rattle.std.specs.Prelude.{◌≡◌, true, IfOk};
+ghost use Rattle.std.specs.List.{prefix_len};
 ghost use Rattle.star_grammar.specs.Pieces as spec;
 
-use crate::bytes::{at, behind};
+use crate::bytes::{at, before, behind};
 use crate::fixed::{Fixed, is_refused, keyword, operator};
 use crate::numbers::number_piece;
 use crate::texts::text_piece;
@@ -44,12 +44,17 @@ fn in_word(byte: u8) -> bool
     byte.is_ascii_alphanumeric() || byte == b'_'
 }
 
+fn word_size(text: &[u8]) -> usize
+    ensures { result ≡ prefix_len spec.in_word text.now }
+{
+    text.iter().take_while(|b| in_word(**b)).count()
+}
+
 /// The longest run of letters, digits and `_` at the front.
 fn word_at(text: &[u8]) -> &[u8]
     ensures { result.now ≡ spec.word_at text.now }
 {
-    let size = text.iter().take_while(|b| in_word(**b)).count();
-    &text[..size]
+    before(text, word_size(text))
 }
 
 /// The name that a run of letters, digits and `_` is.
@@ -76,11 +81,23 @@ fn word_piece(alloc: Global, text: &[u8]) -> Result<Piece, Memory>
     Ok(Piece::Whole(TokenKind::Name(name), word.len(), 0))
 }
 
+fn no_line_end(byte: u8) -> bool
+    ensures { result ≡ spec.no_line_end byte }
+{
+    byte != b'\n'
+}
+
+fn comment_size(text: &[u8]) -> usize
+    ensures { result ≡ prefix_len spec.no_line_end text.now }
+{
+    text.iter().take_while(|b| no_line_end(**b)).count()
+}
+
 fn comment_piece(origin: Origin, text: &[u8]) -> Piece
     ensures { result ≡ spec.comment_piece origin text.now }
 {
     match origin {
-        Origin::File => Piece::Blank(text.iter().take_while(|b| **b != b'\n').count()),
+        Origin::File => Piece::Blank(comment_size(text)),
         Origin::Comment => Piece::Refused(FaultKind::CodeForm),
     }
 }

@@ -18,6 +18,7 @@ fn hex1(byte: u8) -> Option<u32>
     }
 }
 
+#[tactic(auto, unfolding(star_grammar::specs::Pieces::hex2))]
 fn hex2(text: &[u8]) -> Option<u32>
     ensures value { result ≡ spec.hex2 text.now }
     ensures low { IfSome result (λ v. v < 256) }
@@ -27,6 +28,7 @@ fn hex2(text: &[u8]) -> Option<u32>
     Some(high * 16 + low)
 }
 
+#[tactic(auto, unfolding(star_grammar::specs::Pieces::hex4))]
 fn hex4(text: &[u8]) -> Option<u32>
     ensures value { result ≡ spec.hex4 text.now }
     ensures low { IfSome result (λ v. v < 65536) }
@@ -36,6 +38,7 @@ fn hex4(text: &[u8]) -> Option<u32>
     Some(high * 256 + low)
 }
 
+#[tactic(auto, unfolding(star_grammar::specs::Pieces::hex8))]
 fn hex8(text: &[u8]) -> Option<u32>
     ensures { result ≡ spec.hex8 text.now }
 {

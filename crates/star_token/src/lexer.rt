@@ -1,5 +1,5 @@
 // Cutting a text into tokens.
-ghost use Rattle.std.specs.Prelude.{◌≡◌, ◌++◌, ◌∷◌, [], true, OnOk};
+ghost use Rattle.std.specs.Prelude.{◌≡◌, ◌++◌, ◌∷◌, [], true, IfOk, OnOk};
 ghost use Rattle.star_grammar.specs.declared.token.Origin.TheVariants as origin;
 ghost use Rattle.star_grammar.specs.Tokens as spec;
 ghost use Rattle.star_token.specs.Cut.{HasCut};
@@ -117,6 +117,17 @@ fn push(found: &mut Vec<Token>, cursor: Cursor, piece: Piece) -> Result<(), Memo
     Ok(())
 }
 
+/// The tokens of a text, and its end.
+fn ended(mut found: Vec<Token>, cursor: Cursor, file: u32) -> Result<Tokens, Memory>
+    ensures { IfOk result (λ v. (v.file ≡ file) × (v.tokens.items ≡ found.items ++ spec.end_at cursor ∷ [])) }
+{
+    found.push(token_at(cursor, TokenKind::Mark(Mark::TextEnd), 0))?;
+    Ok(Tokens {
+        file,
+        tokens: found,
+    })
+}
+
 fn refused(alloc: Global, kind: FaultKind, file: u32, line: u32) -> Stop
     ensures { result ≡ spec.stop_of file kind line }
 {
@@ -143,16 +154,12 @@ fn cut(alloc: Global, text: &[u8], origin: Origin, file: u32, line: u32) -> Resu
         if let Piece::Refused(kind) = piece {
             return Err(refused(alloc, kind, file, cursor.line));
         }
-        rest = behind(rest, size_of(&piece).max(1));
+        rest = behind(behind(rest, 1), size_of(&piece).saturating_sub(1));
         let next = moved(cursor, &piece);
         push(&mut found, cursor, piece)?;
         cursor = next;
     }
-    found.push(token_at(cursor, TokenKind::Mark(Mark::TextEnd), 0))?;
-    Ok(Tokens {
-        file,
-        tokens: found,
-    })
+    Ok(ended(found, cursor, file)?)
 }
 
 /// The tokens of a comment's code, whose first line is this one of the file with this number.

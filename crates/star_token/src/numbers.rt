@@ -1,11 +1,12 @@
 // Integers, and what would be a float.
-ghost use Rattle.std.specs.Prelude.{◌≡◌, ◌≤◌, ◌<◌, ◌&&◌, ◌||◌, ◌==◌, pos, length, slice_index, MatchOption};
+ghost use Rattle.std.specs.Prelude.{◌≡◌, ◌≤◌, ◌<◌, ◌&&◌, ◌||◌, ◌==◌, pos, true, length, slice_index, MatchOption};
 ghost use Rattle.std.specs.Char.{is_ascii_digit, is_ascii_hexdigit};
 ghost use Rattle.std.specs.List.{prefix_len};
+ghost use Rattle.std.specs.Str.{IsAscii};
 ghost use Rattle.std.specs.Str.Parse.{AllDigits, digits_value};
 ghost use Rattle.star_grammar.specs.Pieces as spec;
 
-use crate::bytes::{at, behind};
+use crate::bytes::{at, before, behind};
 use star_grammar::{Piece, TokenKind};
 use std::str;
 use ytt_base::fault::FaultKind;
@@ -16,31 +17,49 @@ fn is_octal(byte: u8) -> bool
     (b'0'..=b'7').contains(&byte)
 }
 
+fn decimal_size(text: &[u8]) -> usize
+    ensures { result ≡ prefix_len is_ascii_digit text.now }
+{
+    text.iter().take_while(|b| b.is_ascii_digit()).count()
+}
+
+#[tactic(auto, using(crate::proofs::Runs::decimal_runs))]
 fn decimal_run(text: &[u8]) -> &[u8]
     ensures value { result.now ≡ spec.run_at is_ascii_digit text.now }
     ensures all { AllDigits 10 result.now }
-    ensures within { length result.now ≤ length text.now }
+    ensures ascii { IsAscii result.now }
 {
-    let size = text.iter().take_while(|b| b.is_ascii_digit()).count();
-    &text[..size]
+    before(text, decimal_size(text))
 }
 
+fn hexadecimal_size(text: &[u8]) -> usize
+    ensures { result ≡ prefix_len is_ascii_hexdigit text.now }
+{
+    text.iter().take_while(|b| b.is_ascii_hexdigit()).count()
+}
+
+#[tactic(auto, using(crate::proofs::Runs::hexadecimal_runs))]
 fn hexadecimal_run(text: &[u8]) -> &[u8]
     ensures value { result.now ≡ spec.run_at is_ascii_hexdigit text.now }
     ensures all { AllDigits 16 result.now }
-    ensures within { length result.now ≤ length text.now }
+    ensures ascii { IsAscii result.now }
 {
-    let size = text.iter().take_while(|b| b.is_ascii_hexdigit()).count();
-    &text[..size]
+    before(text, hexadecimal_size(text))
 }
 
+fn octal_size(text: &[u8]) -> usize
+    ensures { result ≡ prefix_len spec.is_octal text.now }
+{
+    text.iter().take_while(|b| is_octal(**b)).count()
+}
+
+#[tactic(auto, using(crate::proofs::Runs::octal_runs))]
 fn octal_run(text: &[u8]) -> &[u8]
     ensures value { result.now ≡ spec.run_at spec.is_octal text.now }
     ensures all { AllDigits 8 result.now }
-    ensures within { length result.now ≤ length text.now }
+    ensures ascii { IsAscii result.now }
 {
-    let size = text.iter().take_while(|b| is_octal(**b)).count();
-    &text[..size]
+    before(text, octal_size(text))
 }
 
 /// The value of some digits, if it is not too great.
@@ -49,6 +68,7 @@ fn integer_of(base: u32, digits: &[u8]) -> Option<i128>
     requires up_to_sixteen { base ≤ 16 }
     requires some { 0 < length digits.now }
     requires all { AllDigits base digits.now }
+    requires ascii { IsAscii digits.now }
     ensures { MatchOption result (spec.greatest_integer < digits_value base digits.now) (λ z. (z ≡ pos (digits_value base digits.now)) × (digits_value base digits.now ≤ spec.greatest_integer)) }
 {
     match str::from_utf8(digits) {
@@ -62,6 +82,7 @@ fn integer_piece(base: u32, digits: &[u8], size: usize) -> Piece
     requires up_to_sixteen { base ≤ 16 }
     requires some { 0 < length digits.now }
     requires all { AllDigits base digits.now }
+    requires ascii { IsAscii digits.now }
     ensures { result ≡ spec.integer_piece base digits.now size }
 {
     match integer_of(base, digits) {

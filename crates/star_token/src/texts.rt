@@ -1,5 +1,5 @@
 // Texts in quotes.
-ghost use Rattle.std.specs.Prelude.{◌≡◌, ◌+◌, ◌≤◌, ◌<◌, ◌==◌, Some, None, length, IfOk, IfSome};
+ghost use Rattle.std.specs.Prelude.{◌≡◌, ◌≤◌, IfOk};
 ghost use Rattle.std.specs.Option.{option_map};
 ghost use Rattle.star_grammar.specs.Pieces as spec;
 ghost use Rattle.star_token.specs.View.{span_of};
@@ -12,11 +12,11 @@ use std::str;
 use ytt_base::fault::FaultKind;
 use ytt_base::text::{Memory, Text};
 
-/// The bytes of a text, and how many bytes it is written in.
+/// The bytes of a text, and how many are left behind its closing quotes.
 #[derive(Drop)]
 pub struct Span {
     pub bytes: Vec<u8>,
-    pub size: usize,
+    pub left: usize,
 }
 
 fn quotes(form: Form) -> usize
@@ -27,21 +27,20 @@ fn quotes(form: Form) -> usize
 
 /// A text behind its opening quotes, with its closing ones. None, where it is open or a letter is wrong.
 fn quoted(alloc: Global, form: Form, text: &[u8]) -> Result<Option<Span>, Memory>
-    ensures value { IfOk result (λ s. option_map span_of s ≡ spec.quoted form text.now) }
-    ensures within { IfOk result (λ r. IfSome r (λ s. s.size ≤ length text.now + 3)) }
+    ensures { IfOk result (λ s. option_map span_of s ≡ spec.quoted form text.now) }
 {
     let mut bytes = Vec::new(alloc);
     let mut rest = text;
     while !rest.is_empty() {
         if closes(form, rest) {
-            let size = text.len() - rest.len() + quotes(form);
-            return Ok(Some(Span { bytes, size }));
+            let left = rest.len().saturating_sub(quotes(form));
+            return Ok(Some(Span { bytes, left }));
         }
         let Some(letter) = letter_at(form, rest) else {
             return Ok(None);
         };
         say(&mut bytes, letter.said)?;
-        rest = behind(rest, letter.size.max(1));
+        rest = behind(behind(rest, 1), letter.size.saturating_sub(1));
     }
     Ok(None)
 }
@@ -76,8 +75,8 @@ fn text_token(alloc: Global, form: Form, opened: usize, text: &[u8]) -> Result<P
         return Ok(Piece::Refused(FaultKind::CodeForm));
     };
     let kind = TokenKind::Text(Text::of(alloc, said)?);
-    let ends = line_ends(span.size, text);
-    Ok(Piece::Whole(kind, opened + span.size, ends))
+    let size = text.len().saturating_sub(span.left);
+    Ok(Piece::Whole(kind, opened + size, line_ends(size, text)))
 }
 
 /// The text whose quote is the first byte here, behind so many. One that is open, or with a wrong

@@ -1,0 +1,6 @@
+use Rattle.std.proofs.Common.{refl}
+use Rattle.star_token.proofs.Cutting.{ends-snoc}
+use Rattle.star_token.proofs.lexer.ended.Goals as goal
+
+pub invariant_of-result : goal.invariant_of-result
+invariant_of-result c = ?
