@@ -38,11 +38,11 @@ looks = record {
   follow = λ r k. among (follow r) k;
 }
 
-kind_found : (k : Kind) → nth kinds (place k) ≡ Some k
+pub kind_found : (k : Kind) → nth kinds (place k) ≡ Some k
 kind_found kind.Name = refl
 kind_found k = refl
 
-choice_found : (c : Choice) → nth choices (choice_place c) ≡ Some c
+pub choice_found : (c : Choice) → nth choices (choice_place c) ≡ Some c
 choice_found choice.Top = refl
 choice_found c = refl
 

@@ -29,19 +29,34 @@ first t = slice_index t 0
 
 -- ---- tokens whose text is always the same
 
-pub record Fixed : Type 0 where
-  pub text : List ℕ
-  pub mark : Mark
+-- keywords in expressions
+abbrev pub joining_word : List ℕ → Option Mark
+joining_word w =
+    if bytes_eq (codes "and") w then Some mark.And
+    else if bytes_eq (codes "else") w then Some mark.Else
+    else if bytes_eq (codes "for") w then Some mark.For
+    else if bytes_eq (codes "if") w then Some mark.If
+    else if bytes_eq (codes "in") w then Some mark.In
+    else if bytes_eq (codes "lambda") w then Some mark.Lambda
+    else if bytes_eq (codes "not") w then Some mark.Not
+    else if bytes_eq (codes "or") w then Some mark.Or
+    else None
 
-abbrev pub fixed : List ℕ → Mark → Fixed
-fixed t m = record { text = t; mark = m }
+-- keywords that begin statements
+abbrev pub leading_word : List ℕ → Option Mark
+leading_word w =
+    if bytes_eq (codes "break") w then Some mark.Break
+    else if bytes_eq (codes "continue") w then Some mark.Continue
+    else if bytes_eq (codes "def") w then Some mark.Def
+    else if bytes_eq (codes "elif") w then Some mark.Elif
+    else if bytes_eq (codes "end") w then Some mark.End
+    else if bytes_eq (codes "load") w then Some mark.Load
+    else if bytes_eq (codes "pass") w then Some mark.Pass
+    else if bytes_eq (codes "return") w then Some mark.Return
+    else None
 
-abbrev pub keywords : List Fixed
-keywords =
-    fixed (codes "and") mark.And ∷ fixed (codes "break") mark.Break ∷ fixed (codes "continue") mark.Continue ∷ fixed (codes "def") mark.Def
-    ∷ fixed (codes "elif") mark.Elif ∷ fixed (codes "else") mark.Else ∷ fixed (codes "end") mark.End ∷ fixed (codes "for") mark.For
-    ∷ fixed (codes "if") mark.If ∷ fixed (codes "in") mark.In ∷ fixed (codes "lambda") mark.Lambda ∷ fixed (codes "load") mark.Load
-    ∷ fixed (codes "not") mark.Not ∷ fixed (codes "or") mark.Or ∷ fixed (codes "pass") mark.Pass ∷ fixed (codes "return") mark.Return ∷ []
+abbrev pub keyword : List ℕ → Option Mark
+keyword w = elim (joining_word w) [ None ↦ leading_word w | Some m ↦ Some m ]
 
 -- words that are no names
 abbrev pub refused_words : List (List ℕ)
@@ -49,43 +64,105 @@ refused_words =
     codes "as" ∷ codes "class" ∷ codes "del" ∷ codes "except" ∷ codes "finally" ∷ codes "from" ∷ codes "global" ∷ codes "import"
     ∷ codes "is" ∷ codes "nonlocal" ∷ codes "raise" ∷ codes "try" ∷ codes "while" ∷ codes "with" ∷ codes "yield" ∷ []
 
--- a longer one before those that it begins with
-abbrev pub operators : List Fixed
-operators =
-    fixed (codes "//=") mark.DoubleSlashAssign ∷ fixed (codes "<<=") mark.ShiftLeftAssign ∷ fixed (codes ">>=") mark.ShiftRightAssign
-    ∷ fixed (codes "**") mark.Stars ∷ fixed (codes "//") mark.DoubleSlash ∷ fixed (codes "<<") mark.ShiftLeft ∷ fixed (codes ">>") mark.ShiftRight
-    ∷ fixed (codes "==") mark.Equal ∷ fixed (codes "!=") mark.Unequal ∷ fixed (codes "<=") mark.AtMost ∷ fixed (codes ">=") mark.AtLeast
-    ∷ fixed (codes "+=") mark.PlusAssign ∷ fixed (codes "-=") mark.MinusAssign ∷ fixed (codes "*=") mark.StarAssign ∷ fixed (codes "%=") mark.PercentAssign
-    ∷ fixed (codes "&=") mark.AmpersandAssign ∷ fixed (codes "|=") mark.BarAssign ∷ fixed (codes "^=") mark.CaretAssign
-    ∷ fixed (codes "+") mark.Plus ∷ fixed (codes "-") mark.Minus ∷ fixed (codes "*") mark.Star ∷ fixed (codes "%") mark.Percent
-    ∷ fixed (codes "~") mark.Tilde ∷ fixed (codes "&") mark.Ampersand ∷ fixed (codes "|") mark.Bar ∷ fixed (codes "^") mark.Caret
-    ∷ fixed (codes "<") mark.Less ∷ fixed (codes ">") mark.Greater ∷ fixed (codes "=") mark.Assign ∷ fixed (codes ",") mark.Comma
-    ∷ fixed (codes ":") mark.Colon ∷ fixed (codes ";") mark.Semicolon ∷ fixed (codes ".") mark.Dot ∷ fixed (codes "(") mark.Open
-    ∷ fixed (codes ")") mark.Close ∷ fixed (codes "[") mark.OpenBracket ∷ fixed (codes "]") mark.CloseBracket ∷ fixed (codes "{") mark.OpenBrace
-    ∷ fixed (codes "}") mark.CloseBrace ∷ []
-
-abbrev pub mark_of_word : List Fixed → List ℕ → Option Mark
-mark_of_word [] t = None
-mark_of_word (x ∷ xs) t = if bytes_eq x.text t then Some x.mark else mark_of_word xs t
-
 abbrev pub is_among : List (List ℕ) → List ℕ → Bool
 is_among [] t = false
 is_among (x ∷ xs) t = if bytes_eq x t then true else is_among xs t
 
--- the first of these that the text begins with
-abbrev pub at_front : List Fixed → List ℕ → Option Fixed
-at_front [] t = None
-at_front (x ∷ xs) t = if bytes_eq (take (length x.text) t) x.text then Some x else at_front xs t
+-- operators of one byte: + - * % ~ & | ^ < > =
+abbrev pub operator_mark : ℕ → Option Mark
+operator_mark b =
+    if b == 43 then Some mark.Plus
+    else if b == 45 then Some mark.Minus
+    else if b == 42 then Some mark.Star
+    else if b == 37 then Some mark.Percent
+    else if b == 126 then Some mark.Tilde
+    else if b == 38 then Some mark.Ampersand
+    else if b == 124 then Some mark.Bar
+    else if b == 94 then Some mark.Caret
+    else if b == 60 then Some mark.Less
+    else if b == 62 then Some mark.Greater
+    else if b == 61 then Some mark.Assign
+    else None
 
-abbrev pub mark_piece : Fixed → Piece
-mark_piece x = piece.Whole (token.Mark x.mark) (length x.text) 0
+-- punctuation: , : ; . ( ) [ ] { }
+abbrev pub punctuation : ℕ → Option Mark
+punctuation b =
+    if b == 44 then Some mark.Comma
+    else if b == 58 then Some mark.Colon
+    else if b == 59 then Some mark.Semicolon
+    else if b == 46 then Some mark.Dot
+    else if b == 40 then Some mark.Open
+    else if b == 41 then Some mark.Close
+    else if b == 91 then Some mark.OpenBracket
+    else if b == 93 then Some mark.CloseBracket
+    else if b == 123 then Some mark.OpenBrace
+    else if b == 125 then Some mark.CloseBrace
+    else None
+
+-- a byte before `=`: = ! < > + - * % & | ^
+abbrev pub assigning : ℕ → Option Mark
+assigning b =
+    if b == 61 then Some mark.Equal
+    else if b == 33 then Some mark.Unequal
+    else if b == 60 then Some mark.AtMost
+    else if b == 62 then Some mark.AtLeast
+    else if b == 43 then Some mark.PlusAssign
+    else if b == 45 then Some mark.MinusAssign
+    else if b == 42 then Some mark.StarAssign
+    else if b == 37 then Some mark.PercentAssign
+    else if b == 38 then Some mark.AmpersandAssign
+    else if b == 124 then Some mark.BarAssign
+    else if b == 94 then Some mark.CaretAssign
+    else None
+
+-- a byte that stands twice: * / < >
+abbrev pub doubled : ℕ → Option Mark
+doubled b =
+    if b == 42 then Some mark.Stars
+    else if b == 47 then Some mark.DoubleSlash
+    else if b == 60 then Some mark.ShiftLeft
+    else if b == 62 then Some mark.ShiftRight
+    else None
+
+-- a byte that stands twice before `=`: / < >
+abbrev pub doubled_assigning : ℕ → Option Mark
+doubled_assigning b =
+    if b == 47 then Some mark.DoubleSlashAssign
+    else if b == 60 then Some mark.ShiftLeftAssign
+    else if b == 62 then Some mark.ShiftRightAssign
+    else None
+
+abbrev pub single : ℕ → Option Mark
+single b = elim (operator_mark b) [ None ↦ punctuation b | Some m ↦ Some m ]
+
+abbrev pub only_if : Bool → Option Mark → Option Mark
+only_if b m = if b then m else None
+
+abbrev pub is_double : List ℕ → Bool
+is_double t = slice_index t 1 == first t
+
+abbrev pub is_double_assign : List ℕ → Bool
+is_double_assign t = is_double t && (slice_index t 2 == 61)
+
+abbrev pub mark_piece : Mark → ℕ → Piece
+mark_piece m size = piece.Whole (token.Mark m) size 0
 
 -- `/` and `/=` divide to floats
-abbrev pub operator_piece : List ℕ → Piece
-operator_piece t = elim (at_front operators t) [
-    None ↦ (if first t == 47 then piece.Refused fault.FloatRefused else no_code)
-  | Some x ↦ mark_piece x
+abbrev pub short_piece : ℕ → Piece
+short_piece b = elim (single b) [
+    None ↦ (if b == 47 then piece.Refused fault.FloatRefused else no_code)
+  | Some m ↦ mark_piece m 1
   ]
+
+abbrev pub middle_piece : List ℕ → Piece
+middle_piece t = elim (only_if (slice_index t 1 == 61) (assigning (first t))) [ None ↦ short_piece (first t) | Some m ↦ mark_piece m 2 ]
+
+abbrev pub double_piece : List ℕ → Piece
+double_piece t = elim (only_if (is_double t) (doubled (first t))) [ None ↦ middle_piece t | Some m ↦ mark_piece m 2 ]
+
+-- the longest operator or punctuation
+abbrev pub operator_piece : List ℕ → Piece
+operator_piece t = elim (only_if (is_double_assign t) (doubled_assigning (first t))) [ None ↦ double_piece t | Some m ↦ mark_piece m 3 ]
 
 -- ---- names
 
@@ -100,9 +177,9 @@ abbrev pub word_at : List ℕ → List ℕ
 word_at t = take (prefix_len in_word t) t
 
 abbrev pub word_token : List ℕ → Piece
-word_token w = elim (mark_of_word keywords w) [
+word_token w = elim (keyword w) [
     None ↦ (if is_among refused_words w then no_code else piece.Whole (token.Name w) (length w) 0)
-  | Some m ↦ piece.Whole (token.Mark m) (length w) 0
+  | Some m ↦ mark_piece m (length w)
   ]
 
 abbrev pub word_piece : List ℕ → Piece

@@ -1,11 +1,16 @@
 -- A text in quotes, a letter at a time.
-use Rattle.std.proofs.Common.{◌≡◌, ℕ, zero, suc, ◌-◌, ◌<◌, List, [], ◌∷◌, ◌++◌, length, drop, Option, Some, None, refl, sym, ap, ◌∙◌, arith, append_assoc}
+use Rattle.std.proofs.Common.{◌≡◌, ℕ, zero, suc, ◌+◌, ◌-◌, ◌<◌, List, [], ◌∷◌, ◌++◌, length, drop, Option, Some, None, refl, sym, ap, ◌∙◌, arith, append_assoc}
 use Rattle.std.specs.Prelude.{Bool, true, false, if◌then◌else◌, option_and_then}
 use Rattle.std.specs.Option.{option_map}
 use Rattle.std.proofs.lemmas.Bool.{cond-true, cond-false}
+use Rattle.std.proofs.lemmas.Bool.{false_from_ne_true}
+use Rattle.std.proofs.lemmas.Str.{IsUtf8-from_is_utf8, is_utf8-from_IsUtf8}
+use Rattle.std.specs.Str.{IsUtf8, is_utf8}
 use Rattle.star_grammar.specs.declared.token.Form.{Form}
 use Rattle.star_grammar.specs.declared.token.Letter.{Letter}
-use Rattle.star_grammar.specs.Pieces.{Span, span, bytes_of, closes, joined, letter_at, quotes, quoted, quoted_from}
+use Rattle.star_grammar.specs.declared.token.Piece.TheVariants as piece
+use Rattle.star_grammar.specs.declared.token.TokenKind.TheVariants as token
+use Rattle.star_grammar.specs.Pieces.{no_code, line_ends, text_token, Span, span, bytes_of, closes, joined, letter_at, quotes, quoted, quoted_from}
 
 skips : (n : ℕ) (f : Form) (t : List ℕ) → quoted_from n f t ≡ quoted f (drop n t)
 skips zero f [] = refl
@@ -51,3 +56,12 @@ said-closed f text (b ∷ bs) bytes s lt c = sym s.same ∙ ap (option_map (join
 pub said-open : (f : Form) (text rest bytes : List ℕ) → IsSaid f text rest bytes → length rest ≡ 0 → quoted f text ≡ None
 said-open f text [] bytes s e = sym s.same
 said-open f text (b ∷ bs) bytes s e = absurd (omega arith)
+
+-- ---- the token that a text is
+
+pub text_wrong : (before : ℕ) (t bytes : List ℕ) (left : ℕ) (o : Option Span) → Some (span bytes left) ≡ o → (IsUtf8 bytes → ⊥) → no_code ≡ text_token before t o
+text_wrong before t bytes left o e n = rw (← e, false_from_ne_true (is_utf8 bytes) (λ q. n (IsUtf8-from_is_utf8 bytes q))) refl
+
+pub text_right : (before : ℕ) (t bytes text : List ℕ) (left size ends : ℕ) (o : Option Span) → Some (span bytes left) ≡ o → IsUtf8 bytes → text ≡ bytes → size ≡ length t - left → ends ≡ line_ends size t
+    → piece.Whole (token.Text text) (before + size) ends ≡ text_token before t o
+text_right before t bytes text left size ends o e u is s l = rw (← e, is_utf8-from_IsUtf8 bytes u, l, s, is) refl

@@ -56,29 +56,3 @@ pub run_some : (p : ℕ → Bool) (c : ℕ) (cs : List ℕ) → p c ≡ true →
 run_some p c cs e =
     let one : prefix_len p (c ∷ cs) ≡ 1 + prefix_len p cs = cond-true _ _ _ e in
     omega (arith, one, length-prefix_len p (c ∷ cs))
-
--- ---- what the runs of digits are
-
-decimal_digits : (t : List ℕ) → AllDigits 10 (run_at is_ascii_digit t)
-decimal_digits t = run_digits 10 is_ascii_digit decimal_small t
-
-decimal_run_ascii : (t : List ℕ) → IsAscii (run_at is_ascii_digit t)
-decimal_run_ascii t = run_ascii is_ascii_digit decimal_ascii t
-
-pub ruleset decimal_runs = (decimal_digits, decimal_run_ascii)
-
-hexadecimal_digits : (t : List ℕ) → AllDigits 16 (run_at is_ascii_hexdigit t)
-hexadecimal_digits t = run_digits 16 is_ascii_hexdigit hexadecimal_small t
-
-hexadecimal_run_ascii : (t : List ℕ) → IsAscii (run_at is_ascii_hexdigit t)
-hexadecimal_run_ascii t = run_ascii is_ascii_hexdigit hexadecimal_ascii t
-
-pub ruleset hexadecimal_runs = (hexadecimal_digits, hexadecimal_run_ascii)
-
-octal_digits : (t : List ℕ) → AllDigits 8 (run_at is_octal t)
-octal_digits t = run_digits 8 is_octal octal_small t
-
-octal_run_ascii : (t : List ℕ) → IsAscii (run_at is_octal t)
-octal_run_ascii t = run_ascii is_octal octal_ascii t
-
-pub ruleset octal_runs = (octal_digits, octal_run_ascii)

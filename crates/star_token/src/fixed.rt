@@ -1,26 +1,67 @@
 // Tokens whose text is always the same.
-ghost use Rattle.std.specs.Prelude.{◌≡◌, ◌≤◌, IfSome, length, map as each};
+ghost use Rattle.std.specs.Prelude.{◌≡◌, map as each};
 ghost use Rattle.star_grammar.specs.Pieces as spec;
-ghost use Rattle.star_token.specs.View.{fixed_of, option_fixed_of};
 
-use star_grammar::Mark;
+use crate::bytes::at;
+use star_grammar::{Mark, Piece, TokenKind};
+use ytt_base::fault::FaultKind;
 
-/// A text, and the token that it is.
-#[derive(Clone, Copy)]
-pub struct Fixed {
-    pub text: &'static [u8],
-    pub mark: Mark,
+fn joining_word(word: &[u8]) -> Option<Mark>
+    ensures { result ≡ spec.joining_word word.now }
+{
+    if b"and".as_slice() == word {
+        Some(Mark::And)
+    } else if b"else".as_slice() == word {
+        Some(Mark::Else)
+    } else if b"for".as_slice() == word {
+        Some(Mark::For)
+    } else if b"if".as_slice() == word {
+        Some(Mark::If)
+    } else if b"in".as_slice() == word {
+        Some(Mark::In)
+    } else if b"lambda".as_slice() == word {
+        Some(Mark::Lambda)
+    } else if b"not".as_slice() == word {
+        Some(Mark::Not)
+    } else if b"or".as_slice() == word {
+        Some(Mark::Or)
+    } else {
+        None
+    }
 }
 
-fn mark_of_word(table: &[Fixed], word: &[u8]) -> Option<Mark>
-    ensures { result ≡ spec.mark_of_word (each fixed_of table.now) word.now }
+fn leading_word(word: &[u8]) -> Option<Mark>
+    ensures { result ≡ spec.leading_word word.now }
 {
-    for fixed in table {
-        if fixed.text == word {
-            return Some(fixed.mark);
-        }
+    if b"break".as_slice() == word {
+        Some(Mark::Break)
+    } else if b"continue".as_slice() == word {
+        Some(Mark::Continue)
+    } else if b"def".as_slice() == word {
+        Some(Mark::Def)
+    } else if b"elif".as_slice() == word {
+        Some(Mark::Elif)
+    } else if b"end".as_slice() == word {
+        Some(Mark::End)
+    } else if b"load".as_slice() == word {
+        Some(Mark::Load)
+    } else if b"pass".as_slice() == word {
+        Some(Mark::Pass)
+    } else if b"return".as_slice() == word {
+        Some(Mark::Return)
+    } else {
+        None
     }
-    None
+}
+
+/// The keyword that a word is.
+pub fn keyword(word: &[u8]) -> Option<Mark>
+    ensures { result ≡ spec.keyword word.now }
+{
+    match joining_word(word) {
+        Some(mark) => Some(mark),
+        None => leading_word(word),
+    }
 }
 
 fn is_among(words: &[&[u8]], word: &[u8]) -> bool
@@ -32,45 +73,6 @@ fn is_among(words: &[&[u8]], word: &[u8]) -> bool
         }
     }
     false
-}
-
-/// The first of these that the text begins with.
-fn at_front(table: &[Fixed], text: &[u8]) -> Option<Fixed>
-    ensures { option_fixed_of result ≡ spec.at_front (each fixed_of table.now) text.now }
-{
-    for fixed in table {
-        if text.starts_with(fixed.text) {
-            return Some(*fixed);
-        }
-    }
-    None
-}
-
-/// The keyword that a word is.
-pub fn keyword(word: &[u8]) -> Option<Mark>
-    ensures { result ≡ spec.mark_of_word spec.keywords word.now }
-{
-    mark_of_word(
-        &[
-            Fixed { text: b"and".as_slice(), mark: Mark::And },
-            Fixed { text: b"break".as_slice(), mark: Mark::Break },
-            Fixed { text: b"continue".as_slice(), mark: Mark::Continue },
-            Fixed { text: b"def".as_slice(), mark: Mark::Def },
-            Fixed { text: b"elif".as_slice(), mark: Mark::Elif },
-            Fixed { text: b"else".as_slice(), mark: Mark::Else },
-            Fixed { text: b"end".as_slice(), mark: Mark::End },
-            Fixed { text: b"for".as_slice(), mark: Mark::For },
-            Fixed { text: b"if".as_slice(), mark: Mark::If },
-            Fixed { text: b"in".as_slice(), mark: Mark::In },
-            Fixed { text: b"lambda".as_slice(), mark: Mark::Lambda },
-            Fixed { text: b"load".as_slice(), mark: Mark::Load },
-            Fixed { text: b"not".as_slice(), mark: Mark::Not },
-            Fixed { text: b"or".as_slice(), mark: Mark::Or },
-            Fixed { text: b"pass".as_slice(), mark: Mark::Pass },
-            Fixed { text: b"return".as_slice(), mark: Mark::Return },
-        ],
-        word,
-    )
 }
 
 /// Whether a word is no name.
@@ -99,52 +101,156 @@ pub fn is_refused(word: &[u8]) -> bool
     )
 }
 
-/// The operator at the front of a text, or its punctuation: the longest one.
-pub fn operator(text: &[u8]) -> Option<Fixed>
-    ensures { option_fixed_of result ≡ spec.at_front spec.operators text.now }
+fn operator_mark(byte: u8) -> Option<Mark>
+    ensures { result ≡ spec.operator_mark byte }
 {
-    at_front(
-        &[
-            Fixed { text: b"//=".as_slice(), mark: Mark::DoubleSlashAssign },
-            Fixed { text: b"<<=".as_slice(), mark: Mark::ShiftLeftAssign },
-            Fixed { text: b">>=".as_slice(), mark: Mark::ShiftRightAssign },
-            Fixed { text: b"**".as_slice(), mark: Mark::Stars },
-            Fixed { text: b"//".as_slice(), mark: Mark::DoubleSlash },
-            Fixed { text: b"<<".as_slice(), mark: Mark::ShiftLeft },
-            Fixed { text: b">>".as_slice(), mark: Mark::ShiftRight },
-            Fixed { text: b"==".as_slice(), mark: Mark::Equal },
-            Fixed { text: b"!=".as_slice(), mark: Mark::Unequal },
-            Fixed { text: b"<=".as_slice(), mark: Mark::AtMost },
-            Fixed { text: b">=".as_slice(), mark: Mark::AtLeast },
-            Fixed { text: b"+=".as_slice(), mark: Mark::PlusAssign },
-            Fixed { text: b"-=".as_slice(), mark: Mark::MinusAssign },
-            Fixed { text: b"*=".as_slice(), mark: Mark::StarAssign },
-            Fixed { text: b"%=".as_slice(), mark: Mark::PercentAssign },
-            Fixed { text: b"&=".as_slice(), mark: Mark::AmpersandAssign },
-            Fixed { text: b"|=".as_slice(), mark: Mark::BarAssign },
-            Fixed { text: b"^=".as_slice(), mark: Mark::CaretAssign },
-            Fixed { text: b"+".as_slice(), mark: Mark::Plus },
-            Fixed { text: b"-".as_slice(), mark: Mark::Minus },
-            Fixed { text: b"*".as_slice(), mark: Mark::Star },
-            Fixed { text: b"%".as_slice(), mark: Mark::Percent },
-            Fixed { text: b"~".as_slice(), mark: Mark::Tilde },
-            Fixed { text: b"&".as_slice(), mark: Mark::Ampersand },
-            Fixed { text: b"|".as_slice(), mark: Mark::Bar },
-            Fixed { text: b"^".as_slice(), mark: Mark::Caret },
-            Fixed { text: b"<".as_slice(), mark: Mark::Less },
-            Fixed { text: b">".as_slice(), mark: Mark::Greater },
-            Fixed { text: b"=".as_slice(), mark: Mark::Assign },
-            Fixed { text: b",".as_slice(), mark: Mark::Comma },
-            Fixed { text: b":".as_slice(), mark: Mark::Colon },
-            Fixed { text: b";".as_slice(), mark: Mark::Semicolon },
-            Fixed { text: b".".as_slice(), mark: Mark::Dot },
-            Fixed { text: b"(".as_slice(), mark: Mark::Open },
-            Fixed { text: b")".as_slice(), mark: Mark::Close },
-            Fixed { text: b"[".as_slice(), mark: Mark::OpenBracket },
-            Fixed { text: b"]".as_slice(), mark: Mark::CloseBracket },
-            Fixed { text: b"{".as_slice(), mark: Mark::OpenBrace },
-            Fixed { text: b"}".as_slice(), mark: Mark::CloseBrace },
-        ],
-        text,
-    )
+    match byte {
+        b'+' => Some(Mark::Plus),
+        b'-' => Some(Mark::Minus),
+        b'*' => Some(Mark::Star),
+        b'%' => Some(Mark::Percent),
+        b'~' => Some(Mark::Tilde),
+        b'&' => Some(Mark::Ampersand),
+        b'|' => Some(Mark::Bar),
+        b'^' => Some(Mark::Caret),
+        b'<' => Some(Mark::Less),
+        b'>' => Some(Mark::Greater),
+        b'=' => Some(Mark::Assign),
+        _ => None,
+    }
+}
+
+fn punctuation(byte: u8) -> Option<Mark>
+    ensures { result ≡ spec.punctuation byte }
+{
+    match byte {
+        b',' => Some(Mark::Comma),
+        b':' => Some(Mark::Colon),
+        b';' => Some(Mark::Semicolon),
+        b'.' => Some(Mark::Dot),
+        b'(' => Some(Mark::Open),
+        b')' => Some(Mark::Close),
+        b'[' => Some(Mark::OpenBracket),
+        b']' => Some(Mark::CloseBracket),
+        b'{' => Some(Mark::OpenBrace),
+        b'}' => Some(Mark::CloseBrace),
+        _ => None,
+    }
+}
+
+fn assigning(byte: u8) -> Option<Mark>
+    ensures { result ≡ spec.assigning byte }
+{
+    match byte {
+        b'=' => Some(Mark::Equal),
+        b'!' => Some(Mark::Unequal),
+        b'<' => Some(Mark::AtMost),
+        b'>' => Some(Mark::AtLeast),
+        b'+' => Some(Mark::PlusAssign),
+        b'-' => Some(Mark::MinusAssign),
+        b'*' => Some(Mark::StarAssign),
+        b'%' => Some(Mark::PercentAssign),
+        b'&' => Some(Mark::AmpersandAssign),
+        b'|' => Some(Mark::BarAssign),
+        b'^' => Some(Mark::CaretAssign),
+        _ => None,
+    }
+}
+
+fn doubled(byte: u8) -> Option<Mark>
+    ensures { result ≡ spec.doubled byte }
+{
+    match byte {
+        b'*' => Some(Mark::Stars),
+        b'/' => Some(Mark::DoubleSlash),
+        b'<' => Some(Mark::ShiftLeft),
+        b'>' => Some(Mark::ShiftRight),
+        _ => None,
+    }
+}
+
+fn doubled_assigning(byte: u8) -> Option<Mark>
+    ensures { result ≡ spec.doubled_assigning byte }
+{
+    match byte {
+        b'/' => Some(Mark::DoubleSlashAssign),
+        b'<' => Some(Mark::ShiftLeftAssign),
+        b'>' => Some(Mark::ShiftRightAssign),
+        _ => None,
+    }
+}
+
+fn single(byte: u8) -> Option<Mark>
+    ensures { result ≡ spec.single byte }
+{
+    match operator_mark(byte) {
+        Some(mark) => Some(mark),
+        None => punctuation(byte),
+    }
+}
+
+fn only_if(holds: bool, mark: Option<Mark>) -> Option<Mark>
+    ensures { result ≡ spec.only_if holds mark }
+{
+    if holds { mark } else { None }
+}
+
+fn is_double(text: &[u8]) -> bool
+    ensures { result ≡ spec.is_double text.now }
+{
+    at(text, 1) == at(text, 0)
+}
+
+/// A token of so many bytes whose text is always the same.
+pub fn mark_piece(mark: Mark, size: usize) -> Piece
+    ensures { result ≡ spec.mark_piece mark size }
+{
+    Piece::Whole(TokenKind::Mark(mark), size, 0)
+}
+
+fn short_piece(byte: u8) -> Piece
+    ensures { result ≡ spec.short_piece byte }
+{
+    match single(byte) {
+        Some(mark) => mark_piece(mark, 1),
+        None => Piece::Refused(if byte == b'/' {
+            FaultKind::FloatRefused
+        } else {
+            FaultKind::CodeForm
+        }),
+    }
+}
+
+fn middle_piece(text: &[u8]) -> Piece
+    ensures { result ≡ spec.middle_piece text.now }
+{
+    match only_if(at(text, 1) == b'=', assigning(at(text, 0))) {
+        Some(mark) => mark_piece(mark, 2),
+        None => short_piece(at(text, 0)),
+    }
+}
+
+fn double_piece(text: &[u8]) -> Piece
+    ensures { result ≡ spec.double_piece text.now }
+{
+    match only_if(is_double(text), doubled(at(text, 0))) {
+        Some(mark) => mark_piece(mark, 2),
+        None => middle_piece(text),
+    }
+}
+
+fn is_double_assign(text: &[u8]) -> bool
+    ensures { result ≡ spec.is_double_assign text.now }
+{
+    is_double(text) && at(text, 2) == b'='
+}
+
+/// The longest operator or punctuation at the front of a text.
+pub fn operator_piece(text: &[u8]) -> Piece
+    ensures { result ≡ spec.operator_piece text.now }
+{
+    match only_if(is_double_assign(text), doubled_assigning(at(text, 0))) {
+        Some(mark) => mark_piece(mark, 3),
+        None => double_piece(text),
+    }
 }

@@ -4,33 +4,14 @@ ghost use Rattle.std.specs.List.{prefix_len};
 ghost use Rattle.star_grammar.specs.Pieces as spec;
 
 use crate::bytes::{at, before, behind};
-use crate::fixed::{Fixed, is_refused, keyword, operator};
+use crate::fixed::{is_refused, keyword, mark_piece, operator_piece};
 use crate::numbers::number_piece;
 use crate::texts::text_piece;
-use star_grammar::{Mark, Origin, Piece, TokenKind};
+use star_grammar::{Origin, Piece, TokenKind};
 use std::alloc::Global;
 use std::str;
 use ytt_base::fault::FaultKind;
 use ytt_base::text::{Memory, Text};
-
-fn whole(mark: Mark, size: usize) -> Piece
-    ensures { result ≡ Piece.Whole (TokenKind.Mark mark) size 0 }
-{
-    Piece::Whole(TokenKind::Mark(mark), size, 0)
-}
-
-fn operator_piece(text: &[u8]) -> Piece
-    ensures { result ≡ spec.operator_piece text.now }
-{
-    match operator(text) {
-        Some(fixed) => whole(fixed.mark, fixed.text.len()),
-        None => Piece::Refused(if at(text, 0) == b'/' {
-            FaultKind::FloatRefused
-        } else {
-            FaultKind::CodeForm
-        }),
-    }
-}
 
 fn begins_word(byte: u8) -> bool
     ensures { result ≡ spec.begins_word byte }
@@ -72,7 +53,7 @@ fn word_piece(alloc: Global, text: &[u8]) -> Result<Piece, Memory>
 {
     let word = word_at(text);
     if let Some(mark) = keyword(word) {
-        return Ok(whole(mark, word.len()));
+        return Ok(mark_piece(mark, word.len()));
     }
     if is_refused(word) {
         return Ok(Piece::Refused(FaultKind::CodeForm));

@@ -23,7 +23,6 @@ fn decimal_size(text: &[u8]) -> usize
     text.iter().take_while(|b| b.is_ascii_digit()).count()
 }
 
-#[tactic(auto, using(crate::proofs::Runs::decimal_runs))]
 fn decimal_run(text: &[u8]) -> &[u8]
     ensures value { result.now ≡ spec.run_at is_ascii_digit text.now }
     ensures all { AllDigits 10 result.now }
@@ -38,7 +37,6 @@ fn hexadecimal_size(text: &[u8]) -> usize
     text.iter().take_while(|b| b.is_ascii_hexdigit()).count()
 }
 
-#[tactic(auto, using(crate::proofs::Runs::hexadecimal_runs))]
 fn hexadecimal_run(text: &[u8]) -> &[u8]
     ensures value { result.now ≡ spec.run_at is_ascii_hexdigit text.now }
     ensures all { AllDigits 16 result.now }
@@ -53,7 +51,6 @@ fn octal_size(text: &[u8]) -> usize
     text.iter().take_while(|b| is_octal(**b)).count()
 }
 
-#[tactic(auto, using(crate::proofs::Runs::octal_runs))]
 fn octal_run(text: &[u8]) -> &[u8]
     ensures value { result.now ≡ spec.run_at spec.is_octal text.now }
     ensures all { AllDigits 8 result.now }
