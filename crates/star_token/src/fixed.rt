@@ -1,29 +1,35 @@
 // Tokens whose text is always the same.
-ghost use Rattle.std.specs.Prelude.{◌≡◌, map as each};
+ghost use Rattle.std.specs.Prelude.{◌≡◌, bytes_eq, map as each};
 ghost use Rattle.star_grammar.specs.Pieces as spec;
 
 use crate::bytes::at;
 use star_grammar::{Mark, Piece, TokenKind};
 use ytt_base::fault::FaultKind;
 
+fn is_same(text: &[u8], word: &[u8]) -> bool
+    ensures { result ≡ bytes_eq text.now word.now }
+{
+    text == word
+}
+
 fn joining_word(word: &[u8]) -> Option<Mark>
     ensures { result ≡ spec.joining_word word.now }
 {
-    if b"and".as_slice() == word {
+    if is_same(b"and", word) {
         Some(Mark::And)
-    } else if b"else".as_slice() == word {
+    } else if is_same(b"else", word) {
         Some(Mark::Else)
-    } else if b"for".as_slice() == word {
+    } else if is_same(b"for", word) {
         Some(Mark::For)
-    } else if b"if".as_slice() == word {
+    } else if is_same(b"if", word) {
         Some(Mark::If)
-    } else if b"in".as_slice() == word {
+    } else if is_same(b"in", word) {
         Some(Mark::In)
-    } else if b"lambda".as_slice() == word {
+    } else if is_same(b"lambda", word) {
         Some(Mark::Lambda)
-    } else if b"not".as_slice() == word {
+    } else if is_same(b"not", word) {
         Some(Mark::Not)
-    } else if b"or".as_slice() == word {
+    } else if is_same(b"or", word) {
         Some(Mark::Or)
     } else {
         None
@@ -33,21 +39,21 @@ fn joining_word(word: &[u8]) -> Option<Mark>
 fn leading_word(word: &[u8]) -> Option<Mark>
     ensures { result ≡ spec.leading_word word.now }
 {
-    if b"break".as_slice() == word {
+    if is_same(b"break", word) {
         Some(Mark::Break)
-    } else if b"continue".as_slice() == word {
+    } else if is_same(b"continue", word) {
         Some(Mark::Continue)
-    } else if b"def".as_slice() == word {
+    } else if is_same(b"def", word) {
         Some(Mark::Def)
-    } else if b"elif".as_slice() == word {
+    } else if is_same(b"elif", word) {
         Some(Mark::Elif)
-    } else if b"end".as_slice() == word {
+    } else if is_same(b"end", word) {
         Some(Mark::End)
-    } else if b"load".as_slice() == word {
+    } else if is_same(b"load", word) {
         Some(Mark::Load)
-    } else if b"pass".as_slice() == word {
+    } else if is_same(b"pass", word) {
         Some(Mark::Pass)
-    } else if b"return".as_slice() == word {
+    } else if is_same(b"return", word) {
         Some(Mark::Return)
     } else {
         None
