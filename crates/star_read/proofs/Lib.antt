@@ -1,4 +1,10 @@
-pub mod Answering
-pub mod Lists
-pub mod Passing
-pub mod Turning
+pub mod Complete
+pub mod Examples
+pub mod Held
+pub mod Judge
+pub mod Laws
+pub mod Open
+pub mod Pieces
+pub mod Sound
+pub mod Steps
+pub mod Turns

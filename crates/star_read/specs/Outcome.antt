@@ -1,56 +1,56 @@
--- What the reader's calls say of their results.
-use Rattle.std.specs.Prelude.{◌≡◌, ℕ, if◌then◌else◌, List, Result, Ok, Err}
-use Rattle.ytt_base.specs.declared.fault.Fault.{Fault}
+-- What a call of the reader says of its result.
+use Rattle.std.specs.Prelude.{◌≡◌, ℕ, List, Some, None, Result, Ok, Err, Vec}
+use Rattle.std.specs.declared.alloc.Global.{Global}
+use Rattle.ytt_base.specs.Outcomes.{fault_at, place_at}
 use Rattle.ytt_base.specs.declared.fault.FaultKind.TheVariants as kind
+use Rattle.ytt_base.specs.declared.fault.Place.{Place}
 use Rattle.ytt_base.specs.declared.fault.Stop.{Stop}
 use Rattle.ytt_base.specs.declared.fault.Stop.TheVariants as stop
-use Rattle.ytt_base.specs.Outcomes.{fault_at, place_at}
-use Rattle.ll.specs.Machine as ll
-use Rattle.ll.specs.Machine.{Whole}
-use Rattle.star_grammar.specs.declared.part.Part.{Part}
-use Rattle.star_grammar.specs.declared.start.Stand.{Stand}
-use Rattle.star_grammar.specs.declared.start.Start.{Start}
-use Rattle.star_grammar.specs.declared.token.Token.{Token}
-use Rattle.star_grammar.specs.Language.{language, Value, kind_of_token}
-use Rattle.star_grammar.specs.Machine.{tables}
-use Rattle.star_grammar.specs.Reading.{IsRead, Refuses, Refusal, code_form, too_deep}
-use Rattle.star_grammar.specs.Standing.{opens_too_many}
-use Rattle.star_read.specs.Machine.{items_of, value_of}
-use Rattle.star_read.specs.declared.reader.Halt.{Halt}
-use Rattle.star_read.specs.declared.reader.Halt.TheVariants as halt
-use Rattle.star_read.specs.declared.state.State.{State}
+use Rattle.star_spec.specs.Code as plain
+use Rattle.star_spec.specs.Grammar.{Answers, code_form, too_deep}
+use Rattle.star_spec.specs.Reading.{IsExpr, Reads}
+use Rattle.star_spec.specs.Tokens as plain_token
+use Rattle.star_spec.specs.Tokens.{tokens}
+use Rattle.star_tree.specs.View.{expr_of}
+use Rattle.star_tree.specs.declared.expr.Expr.{Expr}
+use Rattle.star_read.specs.View.{tokens_of}
+use Rattle.star_read.specs.declared.halt.Halt.{Halt}
+use Rattle.star_read.specs.declared.halt.Halt.TheVariants as halt
+use Rattle.star_read.specs.declared.token.Token.{Token}
 
--- the parts that the tokens are, or the least token that is refused
-abbrev pub HasRead : Start → List Token → Result (List Part) Halt → Type 0
-HasRead s ts (Ok ps) = IsRead s ts ps
-HasRead s ts (Err (halt.CodeForm line)) = Refuses s ts (code_form line)
-HasRead s ts (Err (halt.TooDeep line)) = Refuses s ts (too_deep line)
-HasRead s ts (Err halt.Memory) = Unit {0}
+-- the tokens of a text from this line on, or that it has none
+abbrev pub HasCut : ℕ → List ℕ → Result (Vec Token Global) Halt → Type 0
+HasCut line text (Ok v) = tokens line text ≡ Some (tokens_of v.items)
+HasCut line text (Err (halt.CodeForm l)) = tokens line text ≡ None
+HasCut line text (Err (halt.TooDeep l)) = ⊥
+HasCut line text (Err halt.Memory) = Unit {0}
 
--- a token that no text goes on with is without form, or opens one block too many
-abbrev pub halt_of : Stand → Token → Halt
-halt_of s k = if opens_too_many s (kind_of_token k.kind) then halt.TooDeep k.line else halt.CodeForm k.line
+-- the tree of these tokens, in any file, or the least token that is refused
+abbrev pub HasAnswered : ℕ → List plain_token.Token → Result Expr Halt → Type 0
+HasAnswered limit ts (Ok x) = (file : ℕ) → Answers limit file ts (Ok (expr_of file x))
+HasAnswered limit ts (Err (halt.CodeForm line)) = (file : ℕ) → Answers limit file ts (Err (code_form line))
+HasAnswered limit ts (Err (halt.TooDeep line)) = (file : ℕ) → Answers limit file ts (Err (too_deep line))
+HasAnswered limit ts (Err halt.Memory) = Unit {0}
 
--- all alternatives that are left only end
-abbrev pub IsFinished : State → Type 0
-IsFinished s = (w : Value) × (ll.finished language tables (items_of s.stack) (value_of s) ≡ Whole w)
+-- the text is no expression, in any file
+abbrev pub IsNone : ℕ → List ℕ → Type 0
+IsNone line text = (file : ℕ) (e : plain.Expr) → IsExpr (place_at file line) text e → ⊥
 
--- these are the parts then
-abbrev pub HasFinished : State → List Part → Type 0
-HasFinished s ps = (w : Value) → ll.finished language tables (items_of s.stack) (value_of s) ≡ Whole w → ps ≡ w.parts
+-- the expression that a text from this line on is, in any file, or that it is none
+abbrev pub HasText : ℕ → List ℕ → Result Expr Halt → Type 0
+HasText line text (Ok x) = (file : ℕ) → IsExpr (place_at file line) text (expr_of file x)
+HasText line text (Err (halt.CodeForm l)) = IsNone line text
+HasText line text (Err (halt.TooDeep l)) = IsNone line text
+HasText line text (Err halt.Memory) = Unit {0}
 
--- what a caller is told of a refusal, in a file of this number
-abbrev pub fault_of : (file : ℕ) → Refusal → Fault
-fault_of file (code_form line) = fault_at kind.CodeForm (place_at file line)
-fault_of file (too_deep line) = fault_at kind.TooDeep (place_at file line)
+-- what a text reads as, unless memory ran out
+abbrev pub HasRead : Place → List ℕ → Result Expr Stop → Type 0
+HasRead place text (Ok x) = Reads place text (Ok (expr_of place.file x))
+HasRead place text (Err (stop.Fault f)) = Reads place text (Err f)
+HasRead place text (Err stop.Memory) = Unit {0}
 
--- What a reader answers of the tokens of a file: what it makes of the parts that they are, or their refusal.
-abbrev pub Answers : {A : Type 0} → Start → (List Part → A → Type 0) → (file : ℕ) → List Token → Result A Stop → Type 0
-Answers s Made file ts (Ok a) = (ps : List Part) × IsRead s ts ps × Made ps a
-Answers s Made file ts (Err (stop.Fault f)) = (r : Refusal) × Refuses s ts r × (f ≡ fault_of file r)
-Answers s Made file ts (Err stop.Memory) = Unit {0}
-
-abbrev pub stop_at : (file : ℕ) → Halt → Stop
-stop_at file (halt.CodeForm line) = stop.Fault (fault_at kind.CodeForm (place_at file line))
-stop_at file (halt.TooDeep line) = stop.Fault (fault_at kind.TooDeep (place_at file line))
-stop_at file halt.Memory = stop.Memory
+-- what a caller is told of a text at this place that wasn't read
+abbrev pub stop_at : Place → Halt → Stop
+stop_at place (halt.CodeForm l) = stop.Fault (fault_at kind.NotBuilt place)
+stop_at place (halt.TooDeep l) = stop.Fault (fault_at kind.NotBuilt place)
+stop_at place halt.Memory = stop.Memory

@@ -1,13 +1,12 @@
-//! Reading the tokens of code into syntax trees.
+//! Reading the text of code into syntax trees.
 #![tactic(auto)]
 
-mod blocks;
-mod heights;
+mod frame;
+mod halt;
+mod lexer;
 mod machine;
-mod reader;
-mod readers;
+mod read;
 mod stack;
-mod standing;
-mod state;
+mod token;
 
-pub use readers::{read_args, read_expr, read_file, read_header, read_simple};
+pub use read::{a_reader_exists, one_expression, read_flat, readers_agree};

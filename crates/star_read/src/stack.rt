@@ -1,86 +1,82 @@
-// What is still to be read.
-ghost use Rattle.std.specs.Prelude.{◌≡◌, [], ◌∷◌, reverse, OnOk, MatchOption};
-ghost use Rattle.star_read.specs.Machine as spec;
+// The rules that are begun, the innermost first.
+ghost use Rattle.std.specs.Prelude.{◌≡◌, ◌<◌, ◌≤◌, ◌^◌, [], ◌∷◌, reverse, IsTrue, ◌↔◌, OnOk, MatchOption};
+ghost use Rattle.star_read.specs.Machine.{total};
 
-use star_grammar::{Action, Choice, Symbol};
-use star_tables::{action_of, symbols_of};
+use crate::frame::Frame;
 use std::alloc::Global;
 use std::marker::Model;
 use ytt_base::text::Memory;
 
-/// What is still to be read, or the end of an alternative.
-#[derive(Clone, Copy)]
-pub enum Item {
-    Want(Symbol),
-    Close(Choice),
+/// Whether the whole around a part of this height is no higher than `limit`. The innermost rule is
+/// the last.
+fn fits(rules: &[Frame], start: u32, limit: u32) -> bool
+    requires { limit < 2 ^ 30 }
+    ensures { IsTrue result ↔ (total (reverse rules.now) start ≤ limit) }
+{
+    if start > limit {
+        return false;
+    }
+    let mut height = start;
+    let mut left = rules.len();
+    'rules: while left > 0 {
+        left -= 1;
+        height = rules[left].raised(height);
+        if height > limit {
+            return false;
+        }
+    }
+    true
 }
 
-/// Items, seen as their list, the innermost first.
+/// The rules that are begun, seen as their list, the innermost first.
 #[derive(Drop)]
 pub struct Stack {
-    items: Vec<Item>,
+    rules: Vec<Frame>,
 }
 
 impl Model for Stack {
     ghost use Rattle.std.specs.Prelude.{List, reverse};
-    ghost use Rattle.star_read.specs.declared.stack.Item.{Item};
+    ghost use Rattle.std.specs.Coded.{codes};
+    ghost use Rattle.star_read.specs.contracts.frame.Frame as frame;
+    ghost use Rattle.star_read.specs.declared.frame.Frame.{Frame};
 
-    ghost Value = { List Item };
+    ghost Value = { List Frame };
 
-    ghost view = { λ s. reverse s.items.items };
+    ghost coded = { Prim.hlevel (codes, frame.the_row.coded) };
+
+    ghost view = { λ s. reverse s.rules.items };
 }
 
 impl Stack {
-    /// Nothing. It takes no memory.
+    /// No rule. It takes no memory.
     pub fn new(alloc: Global) -> Stack
         ensures { result ≡ [] }
     {
         Stack {
-            items: Vec::new(alloc),
+            rules: Vec::new(alloc),
         }
     }
 
-    pub fn push(&mut self, item: Item) -> Result<(), Memory>
-        ensures { OnOk result (self.new ≡ item ∷ self.old) }
+    /// Begins a rule inside the others.
+    pub fn push(&mut self, rule: Frame) -> Result<(), Memory>
+        ensures { OnOk result (self.new ≡ rule ∷ self.old) }
     {
-        self.items.push(item)?;
+        self.rules.push(rule)?;
         Ok(())
     }
 
-    pub fn pop(&mut self) -> Option<Item>
-        ensures { MatchOption result ((self.old ≡ []) × (self.new ≡ [])) (λ item. self.old ≡ item ∷ self.new) }
+    /// Takes the innermost rule, if there is one.
+    pub fn pop(&mut self) -> Option<Frame>
+        ensures { MatchOption result ((self.old ≡ []) × (self.new ≡ [])) (λ rule. self.old ≡ rule ∷ self.new) }
     {
-        self.items.pop()
+        self.rules.pop()
     }
 
-    /// The items, the innermost last.
-    pub fn as_slice(&self) -> &[Item]
-        ensures { reverse result.now ≡ self.now }
+    /// Whether the whole around a part of this height is no higher than `limit`.
+    pub fn fits(&self, height: u32, limit: u32) -> bool
+        requires { limit < 2 ^ 30 }
+        ensures { IsTrue result ↔ (total self.now height ≤ limit) }
     {
-        &self.items
-    }
-
-    /// The end of an alternative, where it makes something.
-    fn end(&mut self, choice: Choice) -> Result<(), Memory>
-        ensures { OnOk result (self.new ≡ spec.ended choice self.old) }
-    {
-        match action_of(choice) {
-            Action::Keep => Ok(()),
-            _ => self.push(Item::Close(choice)),
-        }
-    }
-
-    /// Opens an alternative.
-    pub fn open(&mut self, choice: Choice) -> Result<(), Memory>
-        ensures { OnOk result (self.new ≡ spec.opened choice self.old) }
-    {
-        self.end(choice)?;
-        let symbols = symbols_of(choice);
-        let mut left = symbols.len();
-        while left > 0 {
-            left -= 1;
-            self.push(Item::Want(symbols[left]))?;
-        }
-        Ok(())
+        fits(&self.rules, height, limit)
     }
 }
