@@ -150,9 +150,9 @@ mark_piece m size = piece.Whole (token.Mark m) size 0
 -- `/` and `/=` divide to floats
 abbrev pub short_piece : ℕ → Piece
 short_piece b = elim (single b) [
-    None ↦ (if b == 47 then piece.Refused fault.FloatRefused else no_code)
+  | None ↦ (if b == 47 then piece.Refused fault.FloatRefused else no_code)
   | Some m ↦ mark_piece m 1
-  ]
+]
 
 abbrev pub middle_piece : List ℕ → Piece
 middle_piece t = elim (only_if (slice_index t 1 == 61) (assigning (first t))) [ None ↦ short_piece (first t) | Some m ↦ mark_piece m 2 ]
@@ -178,9 +178,9 @@ word_at t = take (prefix_len in_word t) t
 
 abbrev pub word_token : List ℕ → Piece
 word_token w = elim (keyword w) [
-    None ↦ (if is_among refused_words w then no_code else piece.Whole (token.Name w) (length w) 0)
+  | None ↦ (if is_among refused_words w then no_code else piece.Whole (token.Name w) (length w) 0)
   | Some m ↦ mark_piece m (length w)
-  ]
+]
 
 abbrev pub word_piece : List ℕ → Piece
 word_piece t = word_token (word_at t)
@@ -293,8 +293,8 @@ abbrev pub escape : (lines : Bool) → List ℕ → Option Letter
 escape lines t =
     if first t == 10 then (if lines then Some (letter said.Nothing 2) else None)
     else elim (short_escape (first t)) [
-      None ↦ long_escape (first t) (drop 1 t)
-    | Some c ↦ Some (letter (said.Byte c) 2)
+      | None ↦ long_escape (first t) (drop 1 t)
+      | Some c ↦ Some (letter (said.Byte c) 2)
     ]
 
 -- the letter at the front of a text that isn't closed there

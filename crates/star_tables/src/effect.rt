@@ -10,7 +10,8 @@ fn opened_effect(action: Opened) -> Effect
 {
     match action {
         Opened::Exprs => Effect::Push(0, Flag::Always),
-        Opened::Entries | Opened::Clauses | Opened::Params | Opened::Loads | Opened::Missing => Effect::Push(0, Flag::Never),
+        Opened::Entries | Opened::Clauses | Opened::Params | Opened::Loads | Opened::Missing =>
+            Effect::Push(0, Flag::Never),
         Opened::NoResult | Opened::EmptyTuple => Effect::Push(1, Flag::Never),
     }
 }
@@ -22,9 +23,17 @@ fn added_effect(action: Added) -> Effect
         Added::First => Effect::Beside(1, Flag::All),
         Added::Item => Effect::Beside(2, Flag::All),
         Added::EmptyList => Effect::Beside(1, Flag::Never),
-        Added::ListFor | Added::Entry | Added::ForClause | Added::LoadAs => Effect::Beside(3, Flag::Never),
+        Added::ListFor | Added::Entry | Added::ForClause | Added::LoadAs => Effect::Beside(
+            3,
+            Flag::Never,
+        ),
         Added::DictFor => Effect::Beside(4, Flag::Never),
-        Added::IfClause | Added::Required | Added::Default | Added::Star | Added::Stars | Added::Load => Effect::Beside(2, Flag::Never),
+        Added::IfClause
+        | Added::Required
+        | Added::Default
+        | Added::Star
+        | Added::Stars
+        | Added::Load => Effect::Beside(2, Flag::Never),
         Added::BareStar => Effect::Floor,
         Added::GroupIndex => Effect::Beside(3, Flag::Always),
     }
@@ -50,7 +59,10 @@ fn stated_effect(action: Stated) -> Effect
     match action {
         Stated::Word | Stated::Evaluate => Effect::Beside(2, Flag::Never),
         Stated::WordExpr | Stated::Assign => Effect::Beside(3, Flag::Never),
-        Stated::Load | Stated::Augment | Stated::For | Stated::Def => Effect::Beside(4, Flag::Never),
+        Stated::Load | Stated::Augment | Stated::For | Stated::Def => Effect::Beside(
+            4,
+            Flag::Never,
+        ),
     }
 }
 
@@ -173,41 +185,162 @@ pub fn least(rule: Rule) -> &'static [Effect]
     ensures { result.now ≡ spec.least rule }
 {
     match rule {
-        Rule::Stmt | Rule::ElseHead | Rule::EndHead | Rule::Header | Rule::Line | Rule::Simple | Rule::Small => &[Effect::Push(0, Flag::Always), Effect::Beside(2, Flag::Never)],
-        Rule::DefHead => &[Effect::Push(0, Flag::Always), Effect::Push(0, Flag::Never), Effect::Push(0, Flag::Never), Effect::Beside(4, Flag::Never)],
-        Rule::IfHead | Rule::ElifHead => &[Effect::Push(0, Flag::Always), Effect::Push(1, Flag::Always), Effect::Beside(3, Flag::Never)],
-        Rule::ForHead => &[Effect::Push(0, Flag::Always), Effect::Push(1, Flag::Always), Effect::Push(1, Flag::Always), Effect::Beside(4, Flag::Never)],
+        Rule::Stmt
+        | Rule::ElseHead
+        | Rule::EndHead
+        | Rule::Header
+        | Rule::Line
+        | Rule::Simple
+        | Rule::Small => &[
+            Effect::Push(0, Flag::Always),
+            Effect::Beside(2, Flag::Never),
+        ],
+        Rule::DefHead => &[
+            Effect::Push(0, Flag::Always),
+            Effect::Push(0, Flag::Never),
+            Effect::Push(0, Flag::Never),
+            Effect::Beside(4, Flag::Never),
+        ],
+        Rule::IfHead | Rule::ElifHead => &[
+            Effect::Push(0, Flag::Always),
+            Effect::Push(1, Flag::Always),
+            Effect::Beside(3, Flag::Never),
+        ],
+        Rule::ForHead => &[
+            Effect::Push(0, Flag::Always),
+            Effect::Push(1, Flag::Always),
+            Effect::Push(1, Flag::Always),
+            Effect::Beside(4, Flag::Never),
+        ],
         Rule::Result | Rule::Inside => &[Effect::Push(1, Flag::Never)],
         Rule::SmallMore => &[Effect::Beside(2, Flag::Never)],
-        Rule::LoadsOpen | Rule::ParamsOpen | Rule::OptionalTest | Rule::SliceStep | Rule::NoPart | Rule::EntriesOpen | Rule::ClausesOpen => &[Effect::Push(0, Flag::Never)],
-        Rule::LoadOne | Rule::ParamName | Rule::StarsName => &[Effect::Push(1, Flag::Never), Effect::Beside(2, Flag::Never)],
-        Rule::LoadAs => &[Effect::Push(0, Flag::Never), Effect::Push(1, Flag::Never), Effect::Beside(3, Flag::Never)],
-        Rule::Param => &[Effect::Push(1, Flag::Never), Effect::Beside(2, Flag::Never), Effect::Push(1, Flag::Always), Effect::Beside(2, Flag::Never)],
-        Rule::Default | Rule::IfClause => &[Effect::Push(1, Flag::Always), Effect::Beside(2, Flag::Never)],
+        Rule::LoadsOpen
+        | Rule::ParamsOpen
+        | Rule::OptionalTest
+        | Rule::SliceStep
+        | Rule::NoPart
+        | Rule::EntriesOpen
+        | Rule::ClausesOpen => &[Effect::Push(0, Flag::Never)],
+        Rule::LoadOne | Rule::ParamName | Rule::StarsName => &[
+            Effect::Push(1, Flag::Never),
+            Effect::Beside(2, Flag::Never),
+        ],
+        Rule::LoadAs => &[
+            Effect::Push(0, Flag::Never),
+            Effect::Push(1, Flag::Never),
+            Effect::Beside(3, Flag::Never),
+        ],
+        Rule::Param => &[
+            Effect::Push(1, Flag::Never),
+            Effect::Beside(2, Flag::Never),
+            Effect::Push(1, Flag::Always),
+            Effect::Beside(2, Flag::Never),
+        ],
+        Rule::Default | Rule::IfClause => &[
+            Effect::Push(1, Flag::Always),
+            Effect::Beside(2, Flag::Never),
+        ],
         Rule::StarName => &[Effect::Floor],
-        Rule::Expr | Rule::Test | Rule::Or | Rule::And | Rule::Not | Rule::Bar | Rule::Caret | Rule::Ampersand | Rule::Shift | Rule::Sum | Rule::Product | Rule::Unary | Rule::Operand | Rule::Arg | Rule::Targets | Rule::Target => &[Effect::Push(1, Flag::Always)],
-        Rule::TupleRest | Rule::TargetsRest => &[Effect::Beside(1, Flag::All), Effect::Node(1, Flag::All)],
+        Rule::Expr
+        | Rule::Test
+        | Rule::Or
+        | Rule::And
+        | Rule::Not
+        | Rule::Bar
+        | Rule::Caret
+        | Rule::Ampersand
+        | Rule::Shift
+        | Rule::Sum
+        | Rule::Product
+        | Rule::Unary
+        | Rule::Operand
+        | Rule::Arg
+        | Rule::Targets
+        | Rule::Target => &[Effect::Push(1, Flag::Always)],
+        Rule::TupleRest | Rule::TargetsRest => &[
+            Effect::Beside(1, Flag::All),
+            Effect::Node(1, Flag::All),
+        ],
         Rule::TupleOpen => &[Effect::Beside(1, Flag::All)],
-        Rule::Item | Rule::Argument | Rule::TargetItem => &[Effect::Push(1, Flag::Always), Effect::Beside(2, Flag::All)],
-        Rule::OrStep | Rule::AndStep | Rule::BarStep | Rule::CaretStep | Rule::AmpersandStep | Rule::ShiftStep | Rule::SumStep | Rule::ProductStep => &[Effect::Push(0, Flag::Always), Effect::Push(1, Flag::Always), Effect::Node(3, Flag::Never)],
-        Rule::Suffix | Rule::Dot => &[Effect::Push(0, Flag::Always), Effect::Push(0, Flag::Never), Effect::Node(3, Flag::Never)],
-        Rule::Call => &[Effect::Push(0, Flag::Always), Effect::Push(0, Flag::Always), Effect::Node(3, Flag::Never)],
-        Rule::Subscript => &[Effect::Push(0, Flag::Never), Effect::Push(0, Flag::Never), Effect::Push(0, Flag::Never), Effect::Node(5, Flag::Never)],
+        Rule::Item | Rule::Argument | Rule::TargetItem => &[
+            Effect::Push(1, Flag::Always),
+            Effect::Beside(2, Flag::All),
+        ],
+        Rule::OrStep
+        | Rule::AndStep
+        | Rule::BarStep
+        | Rule::CaretStep
+        | Rule::AmpersandStep
+        | Rule::ShiftStep
+        | Rule::SumStep
+        | Rule::ProductStep => &[
+            Effect::Push(0, Flag::Always),
+            Effect::Push(1, Flag::Always),
+            Effect::Node(3, Flag::Never),
+        ],
+        Rule::Suffix | Rule::Dot => &[
+            Effect::Push(0, Flag::Always),
+            Effect::Push(0, Flag::Never),
+            Effect::Node(3, Flag::Never),
+        ],
+        Rule::Call => &[
+            Effect::Push(0, Flag::Always),
+            Effect::Push(0, Flag::Always),
+            Effect::Node(3, Flag::Never),
+        ],
+        Rule::Subscript => &[
+            Effect::Push(0, Flag::Never),
+            Effect::Push(0, Flag::Never),
+            Effect::Push(0, Flag::Never),
+            Effect::Node(5, Flag::Never),
+        ],
         Rule::IndexMore | Rule::Index | Rule::TargetAfter => &[Effect::Node(3, Flag::Always)],
-        Rule::SliceRest => &[Effect::Push(0, Flag::Never), Effect::Push(0, Flag::Never), Effect::Node(5, Flag::Never)],
+        Rule::SliceRest => &[
+            Effect::Push(0, Flag::Never),
+            Effect::Push(0, Flag::Never),
+            Effect::Node(5, Flag::Never),
+        ],
         Rule::Slice => &[Effect::Node(5, Flag::Never)],
-        Rule::Group => &[Effect::Push(0, Flag::Always), Effect::Push(1, Flag::Never), Effect::Node(2, Flag::All)],
+        Rule::Group => &[
+            Effect::Push(0, Flag::Always),
+            Effect::Push(1, Flag::Never),
+            Effect::Node(2, Flag::All),
+        ],
         Rule::ExprsOpen => &[Effect::Push(0, Flag::Always)],
-        Rule::List => &[Effect::Push(0, Flag::Always), Effect::Push(0, Flag::Always), Effect::Beside(1, Flag::Never), Effect::Node(2, Flag::All)],
+        Rule::List => &[
+            Effect::Push(0, Flag::Always),
+            Effect::Push(0, Flag::Always),
+            Effect::Beside(1, Flag::Never),
+            Effect::Node(2, Flag::All),
+        ],
         Rule::Members => &[Effect::Beside(1, Flag::Never)],
         Rule::MembersMore | Rule::Joined => &[Effect::Beside(2, Flag::All)],
-        Rule::Dict => &[Effect::Push(0, Flag::Always), Effect::Push(0, Flag::Never), Effect::Node(2, Flag::Never)],
+        Rule::Dict => &[
+            Effect::Push(0, Flag::Always),
+            Effect::Push(0, Flag::Never),
+            Effect::Node(2, Flag::Never),
+        ],
         Rule::EntriesMore | Rule::EntryJoined => &[Effect::Beside(3, Flag::Never)],
-        Rule::Pair | Rule::ForClause => &[Effect::Push(1, Flag::Always), Effect::Push(1, Flag::Always), Effect::Beside(3, Flag::Never)],
-        Rule::MustIndex => &[Effect::Push(0, Flag::Always), Effect::Push(1, Flag::Always), Effect::Node(3, Flag::Always)],
+        Rule::Pair | Rule::ForClause => &[
+            Effect::Push(1, Flag::Always),
+            Effect::Push(1, Flag::Always),
+            Effect::Beside(3, Flag::Never),
+        ],
+        Rule::MustIndex => &[
+            Effect::Push(0, Flag::Always),
+            Effect::Push(1, Flag::Always),
+            Effect::Node(3, Flag::Always),
+        ],
         Rule::TargetSubscript => &[Effect::Push(1, Flag::Always), Effect::Node(3, Flag::Always)],
-        Rule::GroupMore => &[Effect::Push(0, Flag::Always), Effect::Push(1, Flag::Always), Effect::Beside(3, Flag::Always)],
-        Rule::GroupSubscript => &[Effect::Push(1, Flag::Always), Effect::Beside(3, Flag::Always)],
+        Rule::GroupMore => &[
+            Effect::Push(0, Flag::Always),
+            Effect::Push(1, Flag::Always),
+            Effect::Beside(3, Flag::Always),
+        ],
+        Rule::GroupSubscript => &[
+            Effect::Push(1, Flag::Always),
+            Effect::Beside(3, Flag::Always),
+        ],
         Rule::GroupAfter | Rule::GroupClose => &[Effect::Beside(3, Flag::Always)],
         _ => &[],
     }

@@ -202,7 +202,14 @@ fn at_expr_tail(kind: Kind) -> Choice
     ensures { result ≡ spec.at_expr_tail kind }
 {
     match kind {
-        Kind::Colon | Kind::Semicolon | Kind::Close | Kind::CloseBracket | Kind::Assign | Kind::Augment | Kind::LineEnd | Kind::TextEnd => Choice::ExprStop,
+        Kind::Colon
+        | Kind::Semicolon
+        | Kind::Close
+        | Kind::CloseBracket
+        | Kind::Assign
+        | Kind::Augment
+        | Kind::LineEnd
+        | Kind::TextEnd => Choice::ExprStop,
         _ => Choice::ExprNext,
     }
 }
