@@ -25,7 +25,8 @@ use Rattle.star_grammar.specs.Predict.{predict}
 use Rattle.star_grammar.specs.Reading.{rule_of, entry_of}
 use Rattle.star_grammar.specs.Table.{action_of}
 use Rattle.star_grammar.specs.Trees.{built}
-use Rattle.star_grammar.proofs.Numbers.{first, follow, kinds, choices, rules, choice_place, rule_place}
+use Rattle.star_grammar.proofs.Numbers.{first, follow, kinds, choices, rules}
+use Rattle.star_grammar.proofs.Places.{choice_place, rule_place}
 
 abbrev among : List Kind → Kind → Bool
 among [] k = false

@@ -2,3 +2,4 @@ pub mod Checked
 pub mod Ending
 pub mod Fills
 pub mod Numbers
+pub mod Places
