@@ -3,6 +3,7 @@
 //! `Expr::copy` and `copy_args` give an equal value; `specs/View` leads to the plain data that definitions speak of.
 #![tactic(auto)]
 
+pub mod code;
 mod expr;
 mod program;
 

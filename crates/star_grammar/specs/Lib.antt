@@ -1,0 +1,11 @@
+pub mod Effects
+pub mod Language
+pub mod Machine
+pub mod Parts
+pub mod Pieces
+pub mod Predict
+pub mod Reading
+pub mod Standing
+pub mod Table
+pub mod Tokens
+pub mod Trees

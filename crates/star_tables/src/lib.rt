@@ -1,0 +1,10 @@
+//! The table of the grammar of code, as the reader goes by it.
+#![tactic(auto)]
+
+mod body;
+mod effect;
+mod predict;
+
+pub use body::{action_of, symbols_of};
+pub use effect::{effect_of, given, least, takes};
+pub use predict::choice_at;
