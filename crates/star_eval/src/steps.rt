@@ -22,7 +22,12 @@ pub(crate) fn refusal(alloc: Global, kind: FaultKind, place: Place) -> Stop
 }
 
 /// Takes so many steps at a place, or refuses with `Steps` where fewer are left.
-pub(crate) fn pay(alloc: Global, place: Place, cost: u128, session: &mut Session) -> Result<(), Stop>
+pub(crate) fn pay(
+    alloc: Global,
+    place: Place,
+    cost: u128,
+    session: &mut Session,
+) -> Result<(), Stop>
     ensures { Meets (λ u. u) result (state_of session.new) (take_steps cost place (state_of session.old)) }
 {
     if u128::from(session.steps) < cost {

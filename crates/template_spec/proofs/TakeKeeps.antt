@@ -379,16 +379,16 @@ child_added m (a_child (child q ms (Some y) d) cs) p ns (Some x) b g k h l =
     let once = second_true (has_key y (child_keys cs)) (keys_distinct (child_keys cs)) g.2 in
     keeps_if (same_key y x)
     (λ e. let same = keys_same y x e in keeps_if (overrides ns)
-      (λ i. keeps_give _ (record {
-        good = (((k, h), g.0.1), (l, g.1.1), subst (λ z. (not (has_key z (child_keys cs)) && keys_distinct (child_keys cs)) ≡ true) same g.2);
-        avoids = λ z f j. subst (λ w. (same_key z w || has_key z (child_keys cs)) ≡ false) same f;
-      }))
-      (λ i. keeps_fail kind.KeyTwice p _))
+    (λ i. keeps_give _ (record {
+      good = (((k, h), g.0.1), (l, g.1.1), subst (λ z. (not (has_key z (child_keys cs)) && keys_distinct (child_keys cs)) ≡ true) same g.2);
+      avoids = λ z f j. subst (λ w. (same_key z w || has_key z (child_keys cs)) ≡ false) same f;
+    }))
+    (λ i. keeps_fail kind.KeyTwice p _))
     (λ e. keeps_then (child_added m cs p ns (Some x) b (g.0.1, g.1.1, once) k h l)
-      (λ all a. keeps_give _ (record {
-        good = ((g.0.0, a.good.0), (g.1.0, a.good.1), distinct (has_key y (child_keys all)) (keys_distinct (child_keys all)) (a.avoids y fresh e) a.good.2);
-        avoids = λ z f j. neither (same_key z y) (has_key z (child_keys all)) (not_first (same_key z y) (has_key z (child_keys cs)) f) (a.avoids z (not_second (same_key z y) (has_key z (child_keys cs)) f) j);
-      })))
+    (λ all a. keeps_give _ (record {
+      good = ((g.0.0, a.good.0), (g.1.0, a.good.1), distinct (has_key y (child_keys all)) (keys_distinct (child_keys all)) (a.avoids y fresh e) a.good.2);
+      avoids = λ z f j. neither (same_key z y) (has_key z (child_keys all)) (not_first (same_key z y) (has_key z (child_keys cs)) f) (a.avoids z (not_second (same_key z y) (has_key z (child_keys cs)) f) j);
+    })))
 
 one_added : {H : Type 0} (m : ℕ) (cs : Children) (c : Child) → Good m cs → HeldChild c → AreLow m (a_child c no_children) → Keeps {H = H} (Good m) (add_child cs c)
 one_added m cs (child p ns x b) g h l = keeps_weaker (λ all a. a.good) (child_added m cs p ns x b g h.0 h.1 l.0)
