@@ -5,7 +5,7 @@ ghost use Rattle.ytt_base.specs.declared.fault.FaultKind.TheVariants as kind;
 ghost use Rattle.ytt_base.specs.declared.fault.Stop.TheVariants as stop;
 ghost use Rattle.yaml_noted.specs.View.{comment_of};
 ghost use Rattle.yaml_spec.specs.Noted.{code_in, is_code};
-ghost use Rattle.star_spec.specs.Reading.{IsReader, Reader};
+ghost use Rattle.star_spec.specs.EachReader.{GivesRead};
 ghost use Rattle.template_spec.specs.Placing.{code_value};
 ghost use Rattle.template_tree.specs.Parts.{value_of};
 
@@ -38,7 +38,7 @@ fn code_in(text: &str) -> Option<&str>
 /// The value expression of a comment beside an item at this place. What is no code, and code that is
 /// no expression, is NotBuilt there.
 pub fn read_value(alloc: Global, comment: &RawComment, at: Place) -> Result<Expr, Stop>
-    ensures { (r : Reader) → IsReader r → Gives (value_of at.file) result (code_value r at (comment_of comment.now)) }
+    ensures { GivesRead (value_of at.file) result (λ r. code_value r at (comment_of comment.now)) }
 {
     let Some(code) = code_in(comment.text.as_str()) else {
         return Err(not_built(alloc, at));

@@ -4,7 +4,7 @@ ghost use Rattle.ytt_base.specs.Outcomes.{Gives};
 ghost use Rattle.yaml_noted.specs.View as held;
 ghost use Rattle.yaml_noted.specs.View.{documents_of, note_of};
 ghost use Rattle.star_spec.specs.Program.{document_item};
-ghost use Rattle.star_spec.specs.Reading.{IsReader, Reader};
+ghost use Rattle.star_spec.specs.EachReader.{GivesRead};
 ghost use Rattle.template_spec.specs.Placed.{Placed, PlacedItem, PlacedItems};
 ghost use Rattle.template_spec.specs.Placing.{map_in, placed, placed_document, placed_documents};
 ghost use Rattle.template_spec.specs.WellNested.{Ways};
@@ -33,7 +33,7 @@ fn map_in(content: Content) -> Option<NotedItems>
 /// The document of an item. One that is no map, and one with a key or a comment beside it, is
 /// NotBuilt at its line.
 fn place_document(alloc: Global, item: NotedItem, file: u32) -> Result<TItem, Stop>
-    ensures template { (r : Reader) → IsReader r → Gives (document_of file) result (placed_document r file (note_of item) (held.content_of item.content)) }
+    ensures template { GivesRead (document_of file) result (λ r. placed_document r file (note_of item) (held.content_of item.content)) }
     ensures placed { IfOk result (λ i. (w : Ways) → PlacedItem w document_item (document_of file i)) }
 {
     let place = place_of(alloc, &item, file)?;
@@ -55,7 +55,7 @@ fn place_document(alloc: Global, item: NotedItem, file: u32) -> Result<TItem, St
 
 #[tactic(auto, using(crate::proofs::Placing::placing))]
 fn place_documents(alloc: Global, items: NotedItems, file: u32) -> Result<TItems, Stop>
-    ensures template { (r : Reader) → IsReader r → Gives (items_of file) result (placed_documents r file (held.items_of items)) }
+    ensures template { GivesRead (items_of file) result (λ r. placed_documents r file (held.items_of items)) }
     ensures placed { IfOk result (λ is. (w : Ways) → PlacedItems w document_item (items_of file is)) }
 {
     let mut left = turned(alloc, items)?;
@@ -81,7 +81,7 @@ fn place_documents(alloc: Global, items: NotedItems, file: u32) -> Result<TItems
 ///
 /// The template is placed: its items are documents that hold pairs alone, and each pair has a key.
 pub fn place_flat(alloc: Global, docs: NotedDocs, file: u32) -> Result<Template, Stop>
-    ensures template { (r : Reader) → IsReader r → Gives template_of result (placed r file (documents_of docs)) }
+    ensures template { GivesRead template_of result (λ r. placed r file (documents_of docs)) }
     ensures placed { IfOk result (λ t. Placed (template_of t)) }
     ensures file { IfOk result (λ t. t.file ≡ file) }
 {

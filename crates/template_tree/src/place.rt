@@ -6,7 +6,7 @@ ghost use Rattle.ytt_base.specs.View.{key_of, tree_of};
 ghost use Rattle.yaml_noted.specs.View as held;
 ghost use Rattle.yaml_noted.specs.View.{comment_of, note_of};
 ghost use Rattle.star_spec.specs.Program.{pair_item};
-ghost use Rattle.star_spec.specs.Reading.{IsReader, Reader};
+ghost use Rattle.star_spec.specs.EachReader.{GivesRead};
 ghost use Rattle.template_spec.specs.Placed.{PlacedItem, PlacedItems};
 ghost use Rattle.template_spec.specs.Placing.{content_beside, own_place, placed_pair, placed_pairs, scalar_in};
 ghost use Rattle.template_spec.specs.Template as plain;
@@ -90,7 +90,7 @@ fn read_trailing(
     trailing: &Option<RawComment>,
     place: Place,
 ) -> Result<Option<Expr>, Stop>
-    ensures { (r : Reader) → IsReader r → (written : plain.Content) → Gives (content_with place.file written) result (content_beside r (option_map comment_of trailing.now) place written) }
+    ensures { (written : plain.Content) → GivesRead (content_with place.file written) result (λ r. content_beside r (option_map comment_of trailing.now) place written) }
 {
     match trailing {
         None => Ok(None),
@@ -101,7 +101,7 @@ fn read_trailing(
 /// The pair of an item. One that is no scalar under a key is NotBuilt at its line, and so is one with
 /// a comment beside it that is no code of an expression.
 fn place_pair(alloc: Global, item: NotedItem, file: u32) -> Result<TItem, Stop>
-    ensures template { (r : Reader) → IsReader r → Gives (pair_of file) result (placed_pair r file (note_of item) (held.content_of item.content)) }
+    ensures template { GivesRead (pair_of file) result (λ r. placed_pair r file (note_of item) (held.content_of item.content)) }
     ensures placed { IfOk result (λ i. (w : Ways) → PlacedItem w pair_item (pair_of file i)) }
 {
     let place = place_of(alloc, &item, file)?;
@@ -129,7 +129,7 @@ fn place_pair(alloc: Global, item: NotedItem, file: u32) -> Result<TItem, Stop>
 
 /// The pairs of the items of a map, or the first refusal.
 pub fn place_pairs(alloc: Global, items: NotedItems, file: u32) -> Result<TItems, Stop>
-    ensures template { (r : Reader) → IsReader r → Gives (pairs_of file) result (placed_pairs r file (held.items_of items)) }
+    ensures template { GivesRead (pairs_of file) result (λ r. placed_pairs r file (held.items_of items)) }
     ensures placed { IfOk result (λ is. (w : Ways) → PlacedItems w pair_item (pairs_of file is)) }
 {
     let mut left = turned(alloc, items)?;

@@ -1,20 +1,14 @@
 -- What rendering answers.
 use Rattle.std.specs.Prelude.{◌≡◌, ℕ, List, Result, Ok, Err}
-use Rattle.ytt_base.specs.Outcomes.{Gives, Outcome}
+use Rattle.ytt_base.specs.Outcomes.{Outcome}
 use Rattle.ytt_base.specs.Trees.{Trees}
 use Rattle.ytt_base.specs.View.{trees_of}
 use Rattle.ytt_base.specs.declared.fault.Fault.{Fault}
-use Rattle.ytt_base.specs.declared.fault.Stop.{Stop}
 use Rattle.ytt_base.specs.declared.tree.Tree.{Tree}
 use Rattle.ytt_outside.specs.Counts.{Rose}
 use Rattle.ytt_outside.specs.Standing.{Standing, nothing, file, folder}
-use Rattle.star_spec.specs.Reading.{IsReader, Reader}
 use Rattle.ytt_main.specs.declared.render.RenderStop.{RenderStop}
 use Rattle.ytt_main.specs.declared.render.RenderStop.TheVariants as stop
-
--- What a call returned is what each reader of code gives; want of memory says nothing.
-abbrev pub GivesRead : (Reader → Outcome Trees) → Result (List Tree) Stop → Type 0
-GivesRead outcome result = (r : Reader) → IsReader r → Gives trees_of result (outcome r)
 
 -- What was answered is an outcome of which this holds, unless the files failed or there was no room.
 abbrev pub Renders : (Outcome Trees → Type 0) → Result (List Tree) RenderStop → Type 0

@@ -4,9 +4,10 @@ ghost use Rattle.ytt_base.specs.Outcomes.{and_then};
 ghost use Rattle.ytt_base.specs.Trees.{AreTrees, Writable};
 ghost use Rattle.ytt_base.specs.View.{trees_of};
 ghost use Rattle.yaml_noted.specs.View.{documents_of};
+ghost use Rattle.star_spec.specs.EachReader.{GivesRead};
 ghost use Rattle.template_spec.specs.Placing.{placed};
 ghost use Rattle.ytt_spec.specs.Meaning.{Means, TextMeans, built, documents_meaning, gives_documents, has_ending, last_part, not_built, path_fault, text_meaning};
-ghost use Rattle.ytt_main.specs.Rendering.{Counts, GivesRead, IsNoFailure, IsNoFolder, IsReadFailure, Refuses, Renders};
+ghost use Rattle.ytt_main.specs.Rendering.{Counts, IsNoFailure, IsNoFolder, IsReadFailure, Refuses, Renders};
 
 use star_eval::run_flat;
 use star_read::a_reader_exists;
@@ -83,7 +84,7 @@ fn read_failed(alloc: Global, path: &str) -> RenderStop
 
 /// The documents that a template builds with so many steps, or its first fault.
 fn build(alloc: Global, documents: NotedDocs, steps: u64) -> Result<Trees, Stop>
-    ensures { GivesRead (λ r. and_then (built steps) (placed r 1 (documents_of documents))) result }
+    ensures { GivesRead trees_of result (λ r. and_then (built steps) (placed r 1 (documents_of documents))) }
 {
     let template = place_flat(alloc, documents, 1)?;
     let program = compile_flat(alloc, &template)?;
@@ -94,7 +95,7 @@ fn build(alloc: Global, documents: NotedDocs, steps: u64) -> Result<Trees, Stop>
 /// What noted documents mean: with code they are a template, which is built, and without they are
 /// documents.
 fn resolve(alloc: Global, documents: NotedDocs, steps: u64) -> Result<Trees, Stop>
-    ensures { GivesRead (λ r. documents_meaning r steps (documents_of documents)) result }
+    ensures { GivesRead trees_of result (λ r. documents_meaning r steps (documents_of documents)) }
 {
     if has_code(&documents) {
         return build(alloc, documents, steps);
@@ -105,7 +106,7 @@ fn resolve(alloc: Global, documents: NotedDocs, steps: u64) -> Result<Trees, Sto
 /// The documents of a text, or its first fault.
 fn read_text(alloc: Global, bytes: &[u8], steps: u64) -> Result<Trees, Stop>
     requires { length bytes.now < 2 ^ 32 }
-    ensures { GivesRead (λ r. text_meaning r steps bytes.now) result }
+    ensures { GivesRead trees_of result (λ r. text_meaning r steps bytes.now) }
 {
     let documents = read_noted(alloc, bytes, 1)?;
     resolve(alloc, documents, steps)

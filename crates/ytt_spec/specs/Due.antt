@@ -5,7 +5,8 @@ use Rattle.ytt_base.specs.Outcomes.{Outcome}
 use Rattle.ytt_base.specs.Trees.{Trees}
 use Rattle.ytt_outside.specs.Standing.{Standing}
 use Rattle.yaml_spec.specs.Text.{Text}
-use Rattle.star_spec.specs.Reading.{IsReader, Reader}
+use Rattle.star_spec.specs.EachReader.{MeansRead}
+use Rattle.star_spec.specs.Reading.{Reader}
 use Rattle.ytt_spec.specs.Meaning.{meaning, last_part}
 use Rattle.ytt_spec.specs.Words.{Asked, render, wrong, asked}
 
@@ -42,4 +43,4 @@ due r words tree = due_asked r (asked words) tree
 
 -- this is due, whichever reader reads the code as it reads
 abbrev pub IsDue : List (List ℕ) → (List ℕ → Standing) → Due → Type 0
-IsDue words tree d = (r : Reader) → IsReader r → due r words tree ≡ d
+IsDue words tree = MeansRead (λ r. due r words tree)

@@ -10,9 +10,10 @@ use Rattle.ytt_outside.specs.Standing.{Standing, nothing, file, folder}
 use Rattle.yaml_spec.specs.Noted.{Documents, has_code}
 use Rattle.yaml_spec.specs.Read.{Read, plain_trees}
 use Rattle.star_spec.specs.Calls.{Host, no_natives}
+use Rattle.star_spec.specs.EachReader.{MeansRead}
 use Rattle.star_spec.specs.Eval.{starlark}
 use Rattle.star_spec.specs.Outcomes.{State, Ending, done, bad}
-use Rattle.star_spec.specs.Reading.{IsReader, Reader}
+use Rattle.star_spec.specs.Reading.{Reader}
 use Rattle.template_spec.specs.Files.{FileResult, Loader, nothing_to_load}
 use Rattle.template_spec.specs.Meaning.{BuildFile, documents}
 use Rattle.template_spec.specs.Placing.{placed}
@@ -89,8 +90,8 @@ meaning r path steps (file bytes) =
 
 -- it means this outcome, whichever reader reads the code as it reads
 abbrev pub Means : (path : List ℕ) → (steps : ℕ) → Standing → Outcome Trees → Type 0
-Means path steps standing outcome = (r : Reader) → IsReader r → meaning r path steps standing ≡ outcome
+Means path steps standing = MeansRead (λ r. meaning r path steps standing)
 
 -- so does a text
 abbrev pub TextMeans : (steps : ℕ) → List ℕ → Outcome Trees → Type 0
-TextMeans steps bytes outcome = (r : Reader) → IsReader r → text_meaning r steps bytes ≡ outcome
+TextMeans steps bytes = MeansRead (λ r. text_meaning r steps bytes)
