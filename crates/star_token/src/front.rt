@@ -1,5 +1,6 @@
 // What stands at the front of a text.
 ghost use Rattle.std.specs.Prelude.{◌≡◌, IfOk, drop, true, if◌then◌else◌};
+ghost use Rattle.std.specs.List.{prefix_len};
 ghost use Rattle.star_grammar.specs.Pieces as spec;
 
 use crate::marks::{behind, byte, operator_piece};
@@ -23,12 +24,24 @@ fn is_quote(byte: u8) -> bool
     byte == b'"' || byte == b'\''
 }
 
+fn no_line_end(byte: u8) -> bool
+    ensures { result ≡ spec.no_line_end byte }
+{
+    !(byte == b'\n')
+}
+
+fn comment_size(text: &[u8]) -> usize
+    ensures { result ≡ prefix_len spec.no_line_end text.now }
+{
+    text.iter().take_while(|b| no_line_end(**b)).count()
+}
+
 /// A comment up to the line's end, in a file.
 fn comment_piece(origin: Origin, text: &[u8]) -> Piece
     ensures { result ≡ spec.comment_piece origin text.now }
 {
     match origin {
-        Origin::File => Piece::Blank(text.iter().take_while(|b| **b != b'\n').count()),
+        Origin::File => Piece::Blank(comment_size(text)),
         Origin::Comment => Piece::Refused(FaultKind::CodeForm),
     }
 }

@@ -1,4 +1,4 @@
-// Letters of a text, and their escapes.
+// Escapes of a text, and their escapes.
 ghost use Rattle.std.specs.Prelude.{◌≡◌, ◌<◌, IfSome, OnOk, ◌++◌};
 ghost use Rattle.star_grammar.specs.Pieces as spec;
 ghost use Rattle.star_grammar.specs.declared.token.Said.TheVariants as said;
@@ -21,32 +21,38 @@ fn hex1(byte: u8) -> Option<u32>
 }
 
 /// The value of two hexadecimal digits at the front.
+#[tactic(auto, using(crate::proofs::Escapes::digits))]
 fn hex2(text: &[u8]) -> Option<u32>
     ensures value { result ≡ spec.hex2 text.now }
     ensures small { IfSome result (λ n. n < 256) }
 {
-    let high = hex1(byte(text, 0))?;
-    let low = hex1(byte(text, 1))?;
-    Some(high * 16 + low)
+    match (hex1(byte(text, 0)), hex1(byte(text, 1))) {
+        (Some(high), Some(low)) => Some(high * 16 + low),
+        _ => None,
+    }
 }
 
 /// The value of four.
+#[tactic(auto, using(crate::proofs::Escapes::digits))]
 fn hex4(text: &[u8]) -> Option<u32>
     ensures value { result ≡ spec.hex4 text.now }
     ensures small { IfSome result (λ n. n < 65536) }
 {
-    let high = hex2(text)?;
-    let low = hex2(behind(text, 2))?;
-    Some(high * 256 + low)
+    match (hex2(text), hex2(behind(text, 2))) {
+        (Some(high), Some(low)) => Some(high * 256 + low),
+        _ => None,
+    }
 }
 
 /// The value of eight.
+#[tactic(auto, using(crate::proofs::Escapes::digits))]
 fn hex8(text: &[u8]) -> Option<u32>
     ensures value { result ≡ spec.hex8 text.now }
 {
-    let high = hex4(text)?;
-    let low = hex4(behind(text, 4))?;
-    Some(high * 65536 + low)
+    match (hex4(text), hex4(behind(text, 4))) {
+        (Some(high), Some(low)) => Some(high * 65536 + low),
+        _ => None,
+    }
 }
 
 fn letter(said: Said, size: usize) -> Letter
@@ -108,7 +114,11 @@ fn escape(lines: bool, text: &[u8]) -> Option<Letter>
     ensures { result ≡ spec.escape lines text.now }
 {
     if byte(text, 0) == b'\n' {
-        return if lines { Some(letter(Said::Nothing, 2)) } else { None };
+        return if lines {
+            Some(letter(Said::Nothing, 2))
+        } else {
+            None
+        };
     }
     match short_escape(byte(text, 0)) {
         Some(byte) => Some(letter(Said::Byte(byte), 2)),
@@ -121,7 +131,11 @@ pub fn letter_at(form: Form, text: &[u8]) -> Option<Letter>
     ensures { result ≡ spec.letter_at form text.now }
 {
     if byte(text, 0) == b'\n' {
-        return if form.lines { Some(letter(Said::Byte(10), 1)) } else { None };
+        return if form.lines {
+            Some(letter(Said::Byte(10), 1))
+        } else {
+            None
+        };
     }
     if byte(text, 0) == b'\\' && !form.raw {
         return escape(form.lines, behind(text, 1));

@@ -4,8 +4,8 @@ ghost use Rattle.star_grammar.specs.Tokens as spec;
 ghost use Rattle.star_grammar.specs.declared.token.Origin.TheVariants as origin;
 ghost use Rattle.star_token.specs.Outcome.{HasCut, HasTokens};
 
-use crate::front::front;
 use crate::found::Tokens;
+use crate::front::front;
 use crate::marks::behind;
 use sqlite_items::Items;
 use star_grammar::{Cursor, Mark, Origin, Piece, Token, TokenKind};
@@ -164,7 +164,13 @@ fn push_end(found: &mut Items<Token>, cursor: Cursor) -> Result<(), Memory>
     Ok(())
 }
 
-fn tokens_of(alloc: Global, text: &Text, origin: Origin, file: u32, line: u32) -> Result<Tokens, Stop>
+fn tokens_of(
+    alloc: Global,
+    text: &Text,
+    origin: Origin,
+    file: u32,
+    line: u32,
+) -> Result<Tokens, Stop>
     ensures cut { HasTokens origin file line text.now result }
     ensures ended { IfOk result (λ ts. spec.ends ts.tokens ≡ true) }
 {

@@ -7,8 +7,8 @@
 
 mod found;
 mod front;
-mod lexer;
 mod letters;
+mod lexer;
 mod marks;
 mod numbers;
 mod texts;

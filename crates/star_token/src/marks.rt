@@ -1,5 +1,5 @@
 // Operators and punctuation.
-ghost use Rattle.std.specs.Prelude.{◌≡◌, slice_index, drop};
+ghost use Rattle.std.specs.Prelude.{◌≡◌, slice_index, drop, take};
 ghost use Rattle.star_grammar.specs.Pieces as spec;
 
 use star_grammar::{Mark, Piece, TokenKind};
@@ -22,6 +22,16 @@ pub fn behind(text: &[u8], size: usize) -> &[u8]
     match text.get(size..) {
         Some(rest) => rest,
         None => &[],
+    }
+}
+
+/// So many bytes of the front, or all.
+pub fn before(text: &[u8], size: usize) -> &[u8]
+    ensures { result.now ≡ take size text.now }
+{
+    match text.get(..size) {
+        Some(front) => front,
+        None => text,
     }
 }
 

@@ -1,10 +1,11 @@
 // Integers.
 ghost use Rattle.std.specs.Prelude.{◌≡◌, ◌<◌, ◌≤◌, ◌==◌, ◌||◌, true, length, pos, MatchOption};
 ghost use Rattle.std.specs.Char.{is_ascii_digit, is_ascii_hexdigit};
+ghost use Rattle.std.specs.List.{prefix_len};
 ghost use Rattle.std.specs.Str.Parse.{AllDigits, digits_value};
 ghost use Rattle.star_grammar.specs.Pieces as spec;
 
-use crate::marks::{behind, byte};
+use crate::marks::{before, behind, byte};
 use star_grammar::{Piece, TokenKind};
 use std::str;
 use ytt_base::fault::FaultKind;
@@ -15,26 +16,44 @@ fn is_octal(byte: u8) -> bool
     (b'0'..=b'7').contains(&byte)
 }
 
+fn decimal_size(text: &[u8]) -> usize
+    ensures { result ≡ prefix_len is_ascii_digit text.now }
+{
+    text.iter().take_while(|b| b.is_ascii_digit()).count()
+}
+
 /// The longest run of decimal digits at the front.
 fn decimal_digits(text: &[u8]) -> &[u8]
-    ensures { result.now ≡ spec.run_at is_ascii_digit text.now }
+    ensures value { result.now ≡ spec.run_at is_ascii_digit text.now }
+    ensures all { AllDigits 10 result.now }
 {
-    let size = text.iter().take_while(|b| b.is_ascii_digit()).count();
-    &text[..size]
+    before(text, decimal_size(text))
+}
+
+fn octal_size(text: &[u8]) -> usize
+    ensures { result ≡ prefix_len spec.is_octal text.now }
+{
+    text.iter().take_while(|b| is_octal(**b)).count()
 }
 
 fn octal_digits(text: &[u8]) -> &[u8]
-    ensures { result.now ≡ spec.run_at spec.is_octal text.now }
+    ensures value { result.now ≡ spec.run_at spec.is_octal text.now }
+    ensures all { AllDigits 8 result.now }
 {
-    let size = text.iter().take_while(|b| is_octal(**b)).count();
-    &text[..size]
+    before(text, octal_size(text))
+}
+
+fn hexadecimal_size(text: &[u8]) -> usize
+    ensures { result ≡ prefix_len is_ascii_hexdigit text.now }
+{
+    text.iter().take_while(|b| b.is_ascii_hexdigit()).count()
 }
 
 fn hexadecimal_digits(text: &[u8]) -> &[u8]
-    ensures { result.now ≡ spec.run_at is_ascii_hexdigit text.now }
+    ensures value { result.now ≡ spec.run_at is_ascii_hexdigit text.now }
+    ensures all { AllDigits 16 result.now }
 {
-    let size = text.iter().take_while(|b| b.is_ascii_hexdigit()).count();
-    &text[..size]
+    before(text, hexadecimal_size(text))
 }
 
 /// The value of some digits, if it is not too great.

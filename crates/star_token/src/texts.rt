@@ -63,6 +63,7 @@ fn line_ends(size: usize, text: &[u8]) -> usize
 
 /// A text of this span behind its opening quotes, which stand behind so many bytes.
 fn text_token(alloc: Global, before: usize, text: &[u8], span: &Span) -> Result<Piece, Memory>
+    requires { before ≤ 4 }
     ensures { IfOk result (λ p. p ≡ spec.text_token before text.now (Some (span_of span.now))) }
 {
     let Ok(string) = str::from_utf8(span.bytes.as_slice()) else {
@@ -75,6 +76,7 @@ fn text_token(alloc: Global, before: usize, text: &[u8], span: &Span) -> Result<
 }
 
 fn text_of_form(alloc: Global, form: Form, before: usize, text: &[u8]) -> Result<Piece, Memory>
+    requires { before ≤ 4 }
     ensures { IfOk result (λ p. p ≡ spec.text_token before text.now (spec.quoted form text.now)) }
 {
     match quoted(alloc, form, text)? {
@@ -100,7 +102,13 @@ fn holds_lines(origin: Origin) -> bool
 }
 
 /// The text whose quote is the first byte here, behind so many bytes. Its only error is want of memory.
-pub fn text_piece(alloc: Global, origin: Origin, raw: bool, before: usize, text: &[u8]) -> Result<Piece, Memory>
+pub fn text_piece(
+    alloc: Global,
+    origin: Origin,
+    raw: bool,
+    before: usize,
+    text: &[u8],
+) -> Result<Piece, Memory>
     requires { before ≤ 1 }
     ensures { IfOk result (λ p. p ≡ spec.text_piece origin raw before text.now) }
 {

@@ -1,8 +1,10 @@
 // Names and keywords.
 ghost use Rattle.std.specs.Prelude.{◌≡◌, IfOk};
+ghost use Rattle.std.specs.List.{prefix_len};
 ghost use Rattle.star_grammar.specs.Pieces as spec;
+ghost use Rattle.star_token.specs.View.{early_words, late_words};
 
-use crate::marks::mark_piece;
+use crate::marks::{before, mark_piece};
 use star_grammar::{Mark, Piece, TokenKind};
 use std::alloc::Global;
 use std::str;
@@ -52,15 +54,29 @@ fn keyword(word: &[u8]) -> Option<Mark>
     }
 }
 
-/// A word that is no name.
+fn is_early_refused(word: &[u8]) -> bool
+    ensures { result ≡ spec.is_among early_words word.now }
+{
+    matches!(
+        word,
+        b"as" | b"class" | b"del" | b"except" | b"finally" | b"from" | b"global" | b"import"
+    )
+}
+
+fn is_late_refused(word: &[u8]) -> bool
+    ensures { result ≡ spec.is_among late_words word.now }
+{
+    matches!(
+        word,
+        b"is" | b"nonlocal" | b"raise" | b"try" | b"while" | b"with" | b"yield"
+    )
+}
+
+/// Whether a word is no name.
 fn is_refused(word: &[u8]) -> bool
     ensures { result ≡ spec.is_among spec.refused_words word.now }
 {
-    match word {
-        b"as" | b"class" | b"del" | b"except" | b"finally" | b"from" | b"global" | b"import" => true,
-        b"is" | b"nonlocal" | b"raise" | b"try" | b"while" | b"with" | b"yield" => true,
-        _ => false,
-    }
+    is_early_refused(word) || is_late_refused(word)
 }
 
 pub fn begins_word(byte: u8) -> bool
@@ -75,12 +91,17 @@ fn in_word(byte: u8) -> bool
     byte.is_ascii_alphanumeric() || byte == b'_'
 }
 
+fn word_size(text: &[u8]) -> usize
+    ensures { result ≡ prefix_len spec.in_word text.now }
+{
+    text.iter().take_while(|b| in_word(**b)).count()
+}
+
 /// The longest run of letters, digits and `_` at the front.
 fn word_at(text: &[u8]) -> &[u8]
     ensures { result.now ≡ spec.word_at text.now }
 {
-    let size = text.iter().take_while(|b| in_word(**b)).count();
-    &text[..size]
+    before(text, word_size(text))
 }
 
 /// The text of a word. Its only error is want of memory.
