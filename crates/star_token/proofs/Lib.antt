@@ -1,0 +1,5 @@
+pub mod Cut
+pub mod Digits
+pub mod Escapes
+pub mod Quoted
+pub mod Spelled
