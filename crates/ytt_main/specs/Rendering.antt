@@ -1,43 +1,55 @@
 -- What rendering answers.
 use Rattle.std.specs.Prelude.{◌≡◌, ℕ, List, Result, Ok, Err}
-use Rattle.ytt_base.specs.Outcomes.{Outcome}
-use Rattle.ytt_base.specs.Trees.{Trees}
 use Rattle.ytt_base.specs.View.{trees_of}
 use Rattle.ytt_base.specs.declared.fault.Fault.{Fault}
 use Rattle.ytt_base.specs.declared.tree.Tree.{Tree}
 use Rattle.ytt_outside.specs.Counts.{Rose}
 use Rattle.ytt_outside.specs.Standing.{Standing, nothing, file, folder}
+use Rattle.star_spec.specs.EachReader.{MeansRead}
+use Rattle.ytt_spec.specs.Meaning.{Meant, Refusal, file_names, named_in, text_meaning}
+use Rattle.ytt_spec.specs.Words.{Command, render}
+use Rattle.ytt_main.specs.declared.render.Refusal.{Refusal as Refused}
 use Rattle.ytt_main.specs.declared.render.RenderStop.{RenderStop}
 use Rattle.ytt_main.specs.declared.render.RenderStop.TheVariants as stop
 
--- What was answered is an outcome of which this holds, unless the files failed or there was no room.
-abbrev pub Renders : (Outcome Trees → Type 0) → Result (List Tree) RenderStop → Type 0
-Renders IsOutcome (Ok trees) = IsOutcome (Ok (trees_of trees))
-Renders IsOutcome (Err (stop.Fault f)) = IsOutcome (Err f)
-Renders IsOutcome (Err (stop.ReadFailed path)) = Unit {0}
-Renders IsOutcome (Err stop.Memory) = Unit {0}
+-- a refusal, as the meaning has it
+abbrev pub refusal_of : Refused → Refusal
+refusal_of r = record { fault = r.fault; names = r.names }
 
--- the files' count rose where they failed, at this path, and else stands as it was
-abbrev pub Counts : List ℕ → ℕ → ℕ → Result (List Tree) RenderStop → Type 0
-Counts path before now (Ok trees) = now ≡ before
-Counts path before now (Err (stop.Fault f)) = now ≡ before
-Counts path before now (Err (stop.ReadFailed at)) = Rose before now × (at ≡ path)
-Counts path before now (Err stop.Memory) = Unit {0}
+-- What was answered is a meaning of which this holds, unless the files failed or there was no room.
+abbrev pub Renders : (Meant → Type 0) → Result (List Tree) RenderStop → Type 0
+Renders IsMeaning (Ok trees) = IsMeaning (Ok (trees_of trees))
+Renders IsMeaning (Err (stop.Refused r)) = IsMeaning (Err (refusal_of r))
+Renders IsMeaning (Err (stop.ReadFailed path)) = Unit {0}
+Renders IsMeaning (Err stop.Memory) = Unit {0}
 
--- the files didn't fail
-abbrev pub IsNoFailure : Result (List Tree) RenderStop → Type 0
-IsNoFailure (Err (stop.ReadFailed path)) = ⊥
-IsNoFailure _ = Unit {0}
+-- what the bytes of its file mean for a command, whichever reader reads the code as it reads
+abbrev pub FileMeans : Command → List ℕ → Meant → Type 0
+FileMeans (render asked) bytes = MeansRead (λ r. named_in (file_names (render asked)) (text_meaning r asked.steps bytes))
 
--- a refusal by this fault, unless there was no room
-abbrev pub Refuses : Fault → RenderStop → Type 0
-Refuses f (stop.Fault g) = g ≡ f
-Refuses f (stop.ReadFailed path) = ⊥
-Refuses f stop.Memory = Unit {0}
+-- The files' count rose where they failed, at the path, and else stands as it was; a refusal has the names of the command's files.
+abbrev pub HasCause : Command → ℕ → ℕ → Result (List Tree) RenderStop → Type 0
+HasCause (render asked) before now (Ok trees) = now ≡ before
+HasCause (render asked) before now (Err (stop.Refused r)) = (now ≡ before) × (r.names ≡ file_names (render asked))
+HasCause (render asked) before now (Err (stop.ReadFailed path)) = Rose before now × (path ≡ asked.path)
+HasCause (render asked) before now (Err stop.Memory) = Unit {0}
+
+-- the files didn't fail, and a refusal has the names of the command's files
+abbrev pub IsNoFailure : Command → Result (List Tree) RenderStop → Type 0
+IsNoFailure command (Ok trees) = Unit {0}
+IsNoFailure command (Err (stop.Refused r)) = r.names ≡ file_names command
+IsNoFailure command (Err (stop.ReadFailed path)) = ⊥
+IsNoFailure command (Err stop.Memory) = Unit {0}
+
+-- a refusal by this fault, with the names of the command's files, unless there was no room
+abbrev pub Refuses : Command → Fault → RenderStop → Type 0
+Refuses command f (stop.Refused r) = (r.fault ≡ f) × (r.names ≡ file_names command)
+Refuses command f (stop.ReadFailed path) = ⊥
+Refuses command f stop.Memory = Unit {0}
 
 -- a failure at this path, unless there was no room
 abbrev pub IsReadFailure : List ℕ → RenderStop → Type 0
-IsReadFailure path (stop.Fault g) = ⊥
+IsReadFailure path (stop.Refused r) = ⊥
 IsReadFailure path (stop.ReadFailed at) = at ≡ path
 IsReadFailure path stop.Memory = Unit {0}
 
