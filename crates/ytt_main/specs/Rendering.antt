@@ -5,8 +5,7 @@ use Rattle.ytt_base.specs.declared.fault.Fault.{Fault}
 use Rattle.ytt_base.specs.declared.tree.Tree.{Tree}
 use Rattle.ytt_outside.specs.Counts.{Rose}
 use Rattle.ytt_outside.specs.Standing.{Standing, nothing, file, folder}
-use Rattle.star_spec.specs.EachReader.{MeansRead}
-use Rattle.ytt_spec.specs.Meaning.{Meant, Refusal, file_names, named_in, text_meaning}
+use Rattle.ytt_spec.specs.Meaning.{Meant, Refusal, file_names}
 use Rattle.ytt_spec.specs.Words.{Command, render}
 use Rattle.ytt_main.specs.declared.render.Refusal.{Refusal as Refused}
 use Rattle.ytt_main.specs.declared.render.RenderStop.{RenderStop}
@@ -23,23 +22,12 @@ Renders IsMeaning (Err (stop.Refused r)) = IsMeaning (Err (refusal_of r))
 Renders IsMeaning (Err (stop.ReadFailed path)) = Unit {0}
 Renders IsMeaning (Err stop.Memory) = Unit {0}
 
--- what the bytes of its file mean for a command, whichever reader reads the code as it reads
-abbrev pub FileMeans : Command → List ℕ → Meant → Type 0
-FileMeans (render asked) bytes = MeansRead (λ r. named_in (file_names (render asked)) (text_meaning r asked.steps bytes))
-
 -- The files' count rose where they failed, at the path, and else stands as it was; a refusal has the names of the command's files.
 abbrev pub HasCause : Command → ℕ → ℕ → Result (List Tree) RenderStop → Type 0
 HasCause (render asked) before now (Ok trees) = now ≡ before
 HasCause (render asked) before now (Err (stop.Refused r)) = (now ≡ before) × (r.names ≡ file_names (render asked))
 HasCause (render asked) before now (Err (stop.ReadFailed path)) = Rose before now × (path ≡ asked.path)
 HasCause (render asked) before now (Err stop.Memory) = Unit {0}
-
--- the files didn't fail, and a refusal has the names of the command's files
-abbrev pub IsNoFailure : Command → Result (List Tree) RenderStop → Type 0
-IsNoFailure command (Ok trees) = Unit {0}
-IsNoFailure command (Err (stop.Refused r)) = r.names ≡ file_names command
-IsNoFailure command (Err (stop.ReadFailed path)) = ⊥
-IsNoFailure command (Err stop.Memory) = Unit {0}
 
 -- a refusal by this fault, with the names of the command's files, unless there was no room
 abbrev pub Refuses : Command → Fault → RenderStop → Type 0

@@ -6,9 +6,9 @@ ghost use Rattle.ytt_base.specs.View.{trees_of};
 ghost use Rattle.yaml_noted.specs.View.{documents_of};
 ghost use Rattle.star_spec.specs.EachReader.{GivesRead};
 ghost use Rattle.template_spec.specs.Placing.{placed};
-ghost use Rattle.ytt_spec.specs.Meaning.{Means, built, documents_meaning, file_names, gives_documents, has_ending, last_part, not_built, path_fault, text_meaning};
+ghost use Rattle.ytt_spec.specs.Meaning.{Means, built, documents_meaning, file_names, gives_documents, has_ending, last_part, path_fault, text_meaning};
 ghost use Rattle.ytt_main.specs.Asks.{command_of};
-ghost use Rattle.ytt_main.specs.Rendering.{FileMeans, HasCause, IsNoFailure, IsNoFolder, IsReadFailure, Refuses, Renders};
+ghost use Rattle.ytt_main.specs.Rendering.{HasCause, IsNoFolder, IsReadFailure, Refuses, Renders};
 
 use crate::words::Request;
 use sqlite_items::Items;
@@ -79,27 +79,16 @@ fn refused(alloc: Global, request: Request<'_>, fault: Fault) -> RenderStop
 }
 
 /// The refusal by a fault of the whole path, of no place.
-fn path_fault(alloc: Global, request: Request<'_>, kind: FaultKind) -> RenderStop
-    ensures { Refuses (command_of request.entry) (path_fault kind request.entry.path.now) result }
+fn path_fault(alloc: Global, request: Request<'_>, kind: FaultKind, detail: &str) -> RenderStop
+    ensures { Refuses (command_of request.entry) (path_fault kind detail.now) result }
 {
-    let Ok(detail) = Text::of(alloc, request.path) else {
+    let Ok(detail) = Text::of(alloc, detail) else {
         return RenderStop::Memory;
     };
     let fault = Fault {
         kind,
         place: None,
         detail,
-    };
-    refused(alloc, request, fault)
-}
-
-fn not_built(alloc: Global, request: Request<'_>) -> RenderStop
-    ensures { Refuses (command_of request.entry) not_built result }
-{
-    let fault = Fault {
-        kind: FaultKind::NotBuilt,
-        place: None,
-        detail: Text::new(alloc),
     };
     refused(alloc, request, fault)
 }
@@ -143,20 +132,15 @@ fn read_text(alloc: Global, bytes: &[u8], steps: u64) -> Result<Trees, Stop>
     resolve(alloc, documents, steps)
 }
 
-/// The documents of the file that is asked for, by its bytes, or their first fault.
-fn read_documents(alloc: Global, request: Request<'_>, bytes: &[u8]) -> Result<Trees, RenderStop>
+/// The documents of a text, such as can be written, or its first fault.
+fn read_documents(alloc: Global, bytes: &[u8], steps: u64) -> Result<Trees, Stop>
     requires { length bytes.now < 2 ^ 32 }
-    ensures documents { Renders (FileMeans (command_of request.entry) bytes.now) result }
+    ensures documents { GivesRead trees_of result (λ r. text_meaning r steps bytes.now) }
     ensures held { IfOk result (λ trees. AreTrees (trees_of trees)) }
     ensures writable { IfOk result (λ trees. Writable (trees_of trees)) }
-    ensures none_failed { IsNoFailure (command_of request.entry) result }
 {
     a_reader_exists();
-    match read_text(alloc, bytes, request.steps) {
-        Ok(trees) => Ok(trees),
-        Err(Stop::Fault(fault)) => Err(refused(alloc, request, fault)),
-        Err(Stop::Memory) => Err(RenderStop::Memory),
-    }
+    read_text(alloc, bytes, steps)
 }
 
 /// The documents of the one file that is asked for, with its budget of steps, or the first fault.
@@ -175,12 +159,17 @@ pub fn render<F: Files>(
     match files.kind(path) {
         Err(FilesStop::Failed) => return Err(read_failed(alloc, path)),
         Err(FilesStop::Memory) => return Err(RenderStop::Memory),
-        Ok(PathKind::Missing) => return Err(path_fault(alloc, request, FaultKind::FileMissing)),
-        Ok(PathKind::Folder) => return Err(not_built(alloc, request)),
+        Ok(PathKind::Missing) => return Err(path_fault(
+            alloc,
+            request,
+            FaultKind::FileMissing,
+            path,
+        )),
+        Ok(PathKind::Folder) => return Err(path_fault(alloc, request, FaultKind::NotBuilt, "")),
         Ok(PathKind::File) => {}
     }
     if !gives_documents(last_part(path).as_bytes()) {
-        return Err(not_built(alloc, request));
+        return Err(path_fault(alloc, request, FaultKind::NotBuilt, ""));
     }
     read_file(alloc, request, files)
 }
@@ -203,8 +192,12 @@ fn read_file<F: Files>(
     match files.read(alloc, path, LARGEST_FILE) {
         Err(FilesStop::Failed) => Err(read_failed(alloc, path)),
         Err(FilesStop::Memory) => Err(RenderStop::Memory),
-        Ok(Got::Missing) => Err(path_fault(alloc, request, FaultKind::FileMissing)),
-        Ok(Got::TooLarge) => Err(path_fault(alloc, request, FaultKind::FileTooLarge)),
-        Ok(Got::Bytes(bytes)) => read_documents(alloc, request, bytes.as_slice()),
+        Ok(Got::Missing) => Err(path_fault(alloc, request, FaultKind::FileMissing, path)),
+        Ok(Got::TooLarge) => Err(path_fault(alloc, request, FaultKind::FileTooLarge, path)),
+        Ok(Got::Bytes(bytes)) => match read_documents(alloc, bytes.as_slice(), request.steps) {
+            Ok(trees) => Ok(trees),
+            Err(Stop::Fault(fault)) => Err(refused(alloc, request, fault)),
+            Err(Stop::Memory) => Err(RenderStop::Memory),
+        },
     }
 }

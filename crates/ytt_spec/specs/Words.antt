@@ -104,16 +104,12 @@ abbrev pub first_of : List (List ℕ) → Option (List ℕ)
 first_of [] = None
 first_of (v ∷ vs) = Some v
 
--- the path and the budget that are given
-abbrev pub path_given : List Given → List ℕ
-path_given gs = option_map_or (λ v. v) (first_of (values_of file_option.name gs)) []
-
-abbrev pub steps_given : List Given → ℕ
-steps_given gs = option_map_or number_of (first_of (values_of steps_option.name gs)) default_steps
-
--- the command that is asked for with them
+-- the command that is asked for with these options
 abbrev pub command_given : List Given → Command
-command_given gs = render (record { path = path_given gs; steps = steps_given gs })
+command_given gs = render (record {
+  path = option_map_or (λ v. v) (first_of (values_of file_option.name gs)) [];
+  steps = option_map_or number_of (first_of (values_of steps_option.name gs)) default_steps;
+})
 
 -- ---- words
 
