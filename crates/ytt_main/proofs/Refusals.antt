@@ -15,7 +15,7 @@ use Rattle.ytt_main.specs.declared.render.RenderStop.TheVariants as stop
 use Rattle.ytt_main.specs.declared.words.Request.{Request}
 
 means_refused : (command : Command) (tree : List ℕ → Standing) (f : Fault) (r : RenderStop) → Means command tree (Err (record { fault = f; names = file_names command })) → Refuses command f r → Renders (Means command tree) (Err r)
-means_refused command tree f (stop.Refused g) e h = λ r reads. e r reads ∙ (λ i. Err (record { fault = sym h.0 i; names = sym h.1 i }))
+means_refused command tree f (stop.Refused g names) e h = λ r reads. e r reads ∙ (λ i. Err (record { fault = sym h.0 i; names = sym h.1 i }))
 means_refused command tree f (stop.ReadFailed at) e h = tt
 means_refused command tree f stop.Memory e h = tt
 

@@ -1,12 +1,11 @@
 // The answer to the words, before anything is written.
 ghost use Rattle.std.specs.Prelude.{◌≡◌, IfOk, IfSome, map, string_bytes};
-ghost use Rattle.ytt_base.specs.FaultText.{fault_line};
 ghost use Rattle.ytt_spec.specs.Due.{IsDue, read_failed_line, usage_line};
 ghost use Rattle.ytt_main.specs.Answers.{Answers};
 ghost use Rattle.ytt_main.specs.Found.{Found};
 ghost use Rattle.ytt_main.specs.Seen.{seen_files};
 
-use crate::render::{Refusal, RenderStop, render};
+use crate::render::{RenderStop, render};
 use crate::words::read_words;
 use std::alloc::Global;
 use ytt_base::report::fault_text;
@@ -37,12 +36,6 @@ fn read_failed_text(alloc: Global, path: &Text) -> Result<Text, Memory>
     Ok(Text::of_string(format!(in alloc; "error: read failed: {path}\n")?))
 }
 
-fn fault_line(alloc: Global, refusal: &Refusal) -> Result<Text, Memory>
-    ensures { IfOk result (λ t. t ≡ fault_line refusal.now.names refusal.now.fault) }
-{
-    fault_text(alloc, &refusal.fault, &refusal.names)
-}
-
 /// The answer to the words.
 pub fn answer_words<F: Files>(alloc: Global, words: &[String], files: &mut F) -> Answer
     ensures told { IfSome (F.tree files.old) (λ tree. Answers (IsDue (map string_bytes words.now) tree) result) }
@@ -59,7 +52,7 @@ pub fn answer_words<F: Files>(alloc: Global, words: &[String], files: &mut F) ->
     };
     match render(alloc, request, files) {
         Ok(trees) => Answer::Documents(trees),
-        Err(RenderStop::Refused(refusal)) => match fault_line(alloc, &refusal) {
+        Err(RenderStop::Refused { fault, names }) => match fault_text(alloc, &fault, &names) {
             Ok(line) => Answer::Fault(line),
             Err(_) => Answer::Memory,
         },

@@ -26,17 +26,11 @@ use ytt_outside::files::{Files, FilesStop, Got, PathKind};
 /// How many bytes a file may have.
 const LARGEST_FILE: u64 = 8 * 1024 * 1024;
 
-/// A fault, with the names of the files in which it may stand: the first is that of file number 1.
-#[derive(Drop)]
-pub struct Refusal {
-    pub fault: Fault,
-    pub names: Names,
-}
-
-/// Why there are no documents: a refusal, the path at which the files failed, or want of memory.
+/// Why there are no documents: a fault with the names of the files in which it may stand, the first
+/// for number 1; the path at which the files failed; or want of memory.
 #[derive(Drop)]
 pub enum RenderStop {
-    Refused(Refusal),
+    Refused { fault: Fault, names: Names },
     ReadFailed(Text),
     Memory,
 }
@@ -73,7 +67,7 @@ fn refused(alloc: Global, request: Request<'_>, fault: Fault) -> RenderStop
     ensures { Refuses (command_of request.entry) fault result }
 {
     match file_names(alloc, request) {
-        Ok(names) => RenderStop::Refused(Refusal { fault, names }),
+        Ok(names) => RenderStop::Refused { fault, names },
         Err(_) => RenderStop::Memory,
     }
 }
