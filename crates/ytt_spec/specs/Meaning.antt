@@ -104,7 +104,7 @@ pub record Refusal : Type 0 where
 abbrev pub Meant : Type 0
 Meant = Result Trees Refusal
 
--- the names of the files of a command, by their numbers from 1: that of its one file is the last part of the path
+-- the names of a command's files, in the order of their numbers from 1: of `render` the last part of its path
 abbrev pub file_names : Command → List (List ℕ)
 file_names (render asked) = last_part asked.path ∷ []
 
