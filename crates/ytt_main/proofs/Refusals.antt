@@ -5,24 +5,29 @@ use Rattle.ytt_base.specs.declared.fault.FaultKind.TheVariants as kinds
 use Rattle.ytt_outside.specs.Files.{kind_of}
 use Rattle.ytt_outside.specs.Standing.{Standing, nothing, file, folder}
 use Rattle.ytt_outside.specs.declared.files.PathKind.TheVariants as kind
-use Rattle.ytt_spec.specs.Meaning.{Means, gives_documents, largest_file, last_part, not_built, path_fault, text_meaning}
+use Rattle.star_spec.specs.Reading.{Reader}
+use Rattle.ytt_spec.specs.Meaning.{Means, file_names, gives_documents, largest_file, last_part, named_in, not_built, path_fault, path_meaning, text_meaning}
+use Rattle.ytt_spec.specs.Words.{Command}
+use Rattle.ytt_main.specs.Asks.{command_of}
 use Rattle.ytt_main.specs.Rendering.{Refuses, Renders}
 use Rattle.ytt_main.specs.declared.render.RenderStop.{RenderStop}
 use Rattle.ytt_main.specs.declared.render.RenderStop.TheVariants as stop
+use Rattle.ytt_main.specs.declared.words.Request.{Request}
 
-means_refused : (path : List ℕ) (steps : ℕ) (s : Standing) (f : Fault) (r : RenderStop) → Means path steps s (Err f) → Refuses f r → Renders (Means path steps s) (Err r)
-means_refused path steps s f (stop.Fault g) e h = λ r reads. e r reads ∙ ap Err (sym h)
-means_refused path steps s f (stop.ReadFailed at) e h = tt
-means_refused path steps s f stop.Memory e h = tt
+means_refused : (command : Command) (tree : List ℕ → Standing) (f : Fault) (r : RenderStop) → Means command tree (Err (record { fault = f; names = file_names command })) → Refuses command f r → Renders (Means command tree) (Err r)
+means_refused command tree f (stop.Refused g names) e h = λ r reads. e r reads ∙ (λ i. Err (record { fault = sym h.0 i; names = sym h.1 i }))
+means_refused command tree f (stop.ReadFailed at) e h = tt
+means_refused command tree f stop.Memory e h = tt
 
-means-no_template : (path : List ℕ) (steps : ℕ) (s : Standing) → kind.File ≡ kind_of s → gives_documents (last_part path) ≡ false → Means path steps s (Err not_built)
-means-no_template path steps nothing k h = cc
-means-no_template path steps (file bytes) k h =
-    λ r reads. ap (λ b. cond (not b) (Err not_built) (cond (nat_lt largest_file (length bytes)) (Err (path_fault kinds.FileTooLarge path)) (text_meaning r steps bytes))) h
-means-no_template path steps (folder names) k h = cc
+means-no_template : (r : Reader) (path : List ℕ) (steps : ℕ) (s : Standing) → kind.File ≡ kind_of s → gives_documents (last_part path) ≡ false → path_meaning r path steps s ≡ Err not_built
+means-no_template r path steps nothing k h = cc
+means-no_template r path steps (file bytes) k h =
+    ap (λ b. cond (not b) (Err not_built) (cond (nat_lt largest_file (length bytes)) (Err (path_fault kinds.FileTooLarge path)) (text_meaning r steps bytes))) h
+means-no_template r path steps (folder names) k h = cc
 
 -- where a file of another name stands, NotBuilt is meant
-pub no_template : (tree : Option (List ℕ → Standing)) (path : List ℕ) (steps : ℕ) (r : RenderStop) → IfSome tree (λ t. kind.File ≡ kind_of (t path)) → gives_documents (last_part path) ≡ false → Refuses not_built r
-    → IfSome tree (λ t. Renders (Means path steps (t path)) (Err r))
-no_template None path steps r k h g = tt
-no_template (Some t) path steps r k h g = means_refused path steps (t path) not_built r (means-no_template path steps (t path) k h) g
+pub no_template : (tree : Option (List ℕ → Standing)) (q : Request) (r : RenderStop) → IfSome tree (λ t. kind.File ≡ kind_of (t q.path.now)) → gives_documents (last_part q.path.now) ≡ false → Refuses (command_of q) not_built r
+    → IfSome tree (λ t. Renders (Means (command_of q) t) (Err r))
+no_template None q r k h g = tt
+no_template (Some t) q r k h g =
+    means_refused (command_of q) t not_built r (λ reader reads. ap (named_in (file_names (command_of q))) (means-no_template reader q.path.now q.steps (t q.path.now) k h)) g

@@ -1,16 +1,17 @@
 -- What a text means, step by step, and that it reads back.
-use Rattle.std.proofs.Common.{◌≡◌, ℕ, true, false, if◌then◌else◌, List, Result, Ok, subst, sym}
+use Rattle.std.proofs.Common.{◌≡◌, ℕ, true, false, if◌then◌else◌, List, Result, Ok, Err, IfOk, subst, sym}
 use Rattle.ytt_base.specs.Outcomes.{Gives, ◌>>=◌}
-use Rattle.ytt_base.specs.Trees.{Trees}
+use Rattle.ytt_base.specs.Trees.{AreTrees, Writable}
 use Rattle.ytt_base.specs.View.{trees_of}
 use Rattle.ytt_base.specs.declared.fault.Stop.{Stop}
 use Rattle.ytt_base.specs.declared.tree.Tree.{Tree}
 use Rattle.yaml_spec.specs.Noted.{Documents, has_code}
 use Rattle.yaml_spec.specs.Read.{plain_trees}
+use Rattle.star_spec.specs.EachReader.{GivesRead}
 use Rattle.star_spec.specs.Reading.{IsReader, Reader}
 use Rattle.template_spec.specs.Placing.{placed}
-use Rattle.ytt_spec.proofs.HeldBuilt.{AreWritten, text_written}
-use Rattle.ytt_spec.specs.Meaning.{TextMeans, built, documents_meaning}
+use Rattle.ytt_spec.proofs.HeldBuilt.{text_written}
+use Rattle.ytt_spec.specs.Meaning.{built, documents_meaning, text_meaning}
 
 -- documents with code mean what their template builds
 pub template_means : (r : Reader) (steps : ℕ) (ds : Documents) (result : Result (List Tree) Stop) → has_code ds ≡ true → Gives trees_of result (placed r 1 ds >>= built steps) → Gives trees_of result (documents_meaning r steps ds)
@@ -21,5 +22,7 @@ pub plain_means : (r : Reader) (steps : ℕ) (ds : Documents) (result : Result (
 plain_means r steps ds result h g = subst (λ b. Gives trees_of result (if b then placed r 1 ds >>= built steps else plain_trees ds)) (sym h) g
 
 -- the documents of a text have a text that reads back
-pub written_documents : (r : Reader) → IsReader r → (steps : ℕ) (bytes : List ℕ) (ds : Trees) → TextMeans steps bytes (Ok ds) → AreWritten ds
-written_documents r reads steps bytes ds means = text_written r reads steps bytes ds (means r reads)
+pub written_documents : (r : Reader) → IsReader r → (steps : ℕ) (bytes : List ℕ) (result : Result (List Tree) Stop) → GivesRead trees_of result (λ r. text_meaning r steps bytes)
+    → IfOk result (λ ts. AreTrees (trees_of ts)) × IfOk result (λ ts. Writable (trees_of ts))
+written_documents r reads steps bytes (Ok ts) means = text_written r reads steps bytes (trees_of ts) (means r reads)
+written_documents r reads steps bytes (Err stop) means = (tt, tt)

@@ -6,7 +6,7 @@ use Rattle.ytt_spec.proofs.Options.{asked_next, begun_stands, named_holds, next,
 use Rattle.ytt_spec.proofs.WordsRead.{request_read}
 use Rattle.ytt_spec.proofs.WrongWords.{wrong_words}
 use Rattle.ytt_spec.specs.Words.{wrong, CommandOption, Given, Often, exactly_once, at_most_once, added, asked, asked_from, begun, command_options, equals, file_option, is_steps, may_follow, name_in, number_of, steps_option, value_in, values_of}
-use Rattle.ytt_main.specs.Asks.{Asks, AsksFor, HaveRead, value_behind}
+use Rattle.ytt_main.specs.Asks.{Asks, AsksFor, HaveRead, command_of, value_behind}
 use Rattle.ytt_main.specs.declared.words.Request.{Request}
 use Rattle.ytt_main.specs.declared.words.Values.{Values}
 
@@ -111,5 +111,5 @@ number_behind n None (v ∷ words) t e =
 
 -- what they ask for is a request, or which word is wrong
 pub asks_for : (words : List (List ℕ)) (r : Result Request ℕ) → Asks (asked words) r → AsksFor words r
-asks_for words (Ok r) e = request_read words r.path.now r.steps e
+asks_for words (Ok r) e = request_read words (command_of r) e
 asks_for words (Err n) e = wrong_words words n e

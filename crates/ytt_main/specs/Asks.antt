@@ -3,21 +3,25 @@ use Rattle.std.specs.Prelude.{◌≡◌, ℕ, ◌+◌, List, [], ◌∷◌, map,
 use Rattle.std.specs.Option.{option_map}
 use denote.Ref.{Bor}
 use Rattle.ytt_spec.specs.Requests.{IsFirstWrong, IsRequest}
-use Rattle.ytt_spec.specs.Words.{Asked, CommandOption, Given, file_option, number_of, render, steps_option, values_of, wrong}
+use Rattle.ytt_spec.specs.Words.{Asked, Command, CommandOption, Given, asked_for, file_option, number_of, render, steps_option, values_of, wrong}
 use Rattle.ytt_main.specs.declared.words.CommandOption.{CommandOption as Read}
 use Rattle.ytt_main.specs.declared.words.CommandOption.TheVariants as read
 use Rattle.ytt_main.specs.declared.words.Request.{Request}
 use Rattle.ytt_main.specs.declared.words.Value.{Value}
 use Rattle.ytt_main.specs.declared.words.Values.{Values}
 
--- the path and the steps that are asked for, or the number of the wrong word
+-- the command of a request
+abbrev pub command_of : Request → Command
+command_of r = render (record { path = r.path.now; steps = r.steps })
+
+-- the command that is asked for, or the number of the wrong word
 abbrev pub Asks : Asked → Result Request ℕ → Type 0
-Asks asked (Ok r) = asked ≡ render r.path.now r.steps
+Asks asked (Ok r) = asked ≡ asked_for (command_of r)
 Asks asked (Err n) = asked ≡ wrong n
 
--- The words are a request for them, or no request, with the number of the first wrong one.
+-- The words are a request for it, or no request, with the number of the first wrong one.
 abbrev pub AsksFor : List (List ℕ) → Result Request ℕ → Type 0
-AsksFor words (Ok r) = IsRequest words r.path.now r.steps
+AsksFor words (Ok r) = IsRequest words (command_of r)
 AsksFor words (Err n) = IsFirstWrong words n
 
 -- ---- steps of the reading

@@ -1,19 +1,15 @@
 // The answer to the words, before anything is written.
-ghost use Rattle.std.specs.Prelude.{◌≡◌, ◌∷◌, [], IfOk, IfSome, map, string_bytes};
-ghost use Rattle.ytt_base.specs.FaultText.{fault_line};
+ghost use Rattle.std.specs.Prelude.{◌≡◌, IfOk, IfSome, map, string_bytes};
 ghost use Rattle.ytt_spec.specs.Due.{IsDue, read_failed_line, usage_line};
-ghost use Rattle.ytt_spec.specs.Meaning.{last_part};
 ghost use Rattle.ytt_main.specs.Answers.{Answers};
 ghost use Rattle.ytt_main.specs.Found.{Found};
 ghost use Rattle.ytt_main.specs.Seen.{seen_files};
 
-use crate::render::{RenderStop, last_part, render};
+use crate::render::{RenderStop, render};
 use crate::words::read_words;
-use sqlite_items::Items;
 use std::alloc::Global;
-use ytt_base::fault::Fault;
 use ytt_base::report::fault_text;
-use ytt_base::text::{Memory, Names, Text};
+use ytt_base::text::{Memory, Text};
 use ytt_base::tree::Trees;
 use ytt_outside::files::Files;
 
@@ -40,14 +36,6 @@ fn read_failed_text(alloc: Global, path: &Text) -> Result<Text, Memory>
     Ok(Text::of_string(format!(in alloc; "error: read failed: {path}\n")?))
 }
 
-fn fault_line(alloc: Global, path: &str, fault: &Fault) -> Result<Text, Memory>
-    ensures { IfOk result (λ t. t ≡ fault_line (last_part path.now ∷ []) fault.now) }
-{
-    let mut names: Names = Items::new(alloc);
-    names.push(Text::of(alloc, last_part(path))?)?;
-    fault_text(alloc, fault, &names)
-}
-
 /// The answer to the words.
 pub fn answer_words<F: Files>(alloc: Global, words: &[String], files: &mut F) -> Answer
     ensures told { IfSome (F.tree files.old) (λ tree. Answers (IsDue (map string_bytes words.now) tree) result) }
@@ -62,9 +50,9 @@ pub fn answer_words<F: Files>(alloc: Global, words: &[String], files: &mut F) ->
             };
         }
     };
-    match render(alloc, request.path, request.steps, files) {
+    match render(alloc, request, files) {
         Ok(trees) => Answer::Documents(trees),
-        Err(RenderStop::Fault(fault)) => match fault_line(alloc, request.path, &fault) {
+        Err(RenderStop::Refused { fault, names }) => match fault_text(alloc, &fault, &names) {
             Ok(line) => Answer::Fault(line),
             Err(_) => Answer::Memory,
         },

@@ -6,9 +6,12 @@ ghost use Rattle.ytt_base.specs.View.{trees_of};
 ghost use Rattle.yaml_noted.specs.View.{documents_of};
 ghost use Rattle.star_spec.specs.EachReader.{GivesRead};
 ghost use Rattle.template_spec.specs.Placing.{placed};
-ghost use Rattle.ytt_spec.specs.Meaning.{Means, TextMeans, built, documents_meaning, gives_documents, has_ending, last_part, not_built, path_fault, text_meaning};
-ghost use Rattle.ytt_main.specs.Rendering.{Counts, IsNoFailure, IsNoFolder, IsReadFailure, Refuses, Renders};
+ghost use Rattle.ytt_spec.specs.Meaning.{Means, built, documents_meaning, file_names, gives_documents, has_ending, last_part, path_fault, text_meaning};
+ghost use Rattle.ytt_main.specs.Asks.{command_of};
+ghost use Rattle.ytt_main.specs.Rendering.{HasCause, IsNoFolder, IsReadFailure, Refuses, Renders};
 
+use crate::words::Request;
+use sqlite_items::Items;
 use star_eval::run_flat;
 use star_read::a_reader_exists;
 use std::alloc::Global;
@@ -16,23 +19,24 @@ use template_compile::compile_flat;
 use template_tree::place_flat;
 use yaml_read::{NotedDocs, has_code, plain_trees, read_noted};
 use ytt_base::fault::{Fault, FaultKind, Stop};
-use ytt_base::text::Text;
+use ytt_base::text::{Memory, Names, Text};
 use ytt_base::tree::Trees;
 use ytt_outside::files::{Files, FilesStop, Got, PathKind};
 
 /// How many bytes a file may have.
 const LARGEST_FILE: u64 = 8 * 1024 * 1024;
 
-/// Why there are no documents: a fault, the path at which the files failed, or want of memory.
+/// Why there are no documents: a fault with the names of the files in which it may stand, the first
+/// for number 1; the path at which the files failed; or want of memory.
 #[derive(Drop)]
 pub enum RenderStop {
-    Fault(Fault),
+    Refused { fault: Fault, names: Names },
     ReadFailed(Text),
     Memory,
 }
 
 /// What stands behind the last slash of a path.
-pub fn last_part(path: &str) -> &str
+fn last_part(path: &str) -> &str
     ensures { result.now ≡ last_part path.now }
 {
     let mut rest = path;
@@ -49,28 +53,38 @@ fn gives_documents(name: &[u8]) -> bool
         && !(name.ends_with(b".lib.yml".as_slice()) || name.ends_with(b".lib.yaml".as_slice()))
 }
 
-/// The fault of a whole path, of no place.
-fn path_fault(alloc: Global, kind: FaultKind, path: &str) -> RenderStop
-    ensures { Refuses (path_fault kind path.now) result }
+/// The names of the files that a request reads, the first for number 1.
+fn file_names(alloc: Global, request: Request<'_>) -> Result<Names, Memory>
+    ensures { IfOk result (λ names. names ≡ file_names (command_of request.entry)) }
 {
-    match Text::of(alloc, path) {
-        Ok(detail) => RenderStop::Fault(Fault {
-            kind,
-            place: None,
-            detail,
-        }),
+    let mut names: Names = Items::new(alloc);
+    names.push(Text::of(alloc, last_part(request.path))?)?;
+    Ok(names)
+}
+
+/// The refusal by a fault.
+fn refused(alloc: Global, request: Request<'_>, fault: Fault) -> RenderStop
+    ensures { Refuses (command_of request.entry) fault result }
+{
+    match file_names(alloc, request) {
+        Ok(names) => RenderStop::Refused { fault, names },
         Err(_) => RenderStop::Memory,
     }
 }
 
-fn not_built(alloc: Global) -> RenderStop
-    ensures { Refuses not_built result }
+/// The refusal by a fault of the whole path, of no place.
+fn path_fault(alloc: Global, request: Request<'_>, kind: FaultKind, detail: &str) -> RenderStop
+    ensures { Refuses (command_of request.entry) (path_fault kind detail.now) result }
 {
-    RenderStop::Fault(Fault {
-        kind: FaultKind::NotBuilt,
+    let Ok(detail) = Text::of(alloc, detail) else {
+        return RenderStop::Memory;
+    };
+    let fault = Fault {
+        kind,
         place: None,
-        detail: Text::new(alloc),
-    })
+        detail,
+    };
+    refused(alloc, request, fault)
 }
 
 fn read_failed(alloc: Global, path: &str) -> RenderStop
@@ -112,67 +126,72 @@ fn read_text(alloc: Global, bytes: &[u8], steps: u64) -> Result<Trees, Stop>
     resolve(alloc, documents, steps)
 }
 
-fn read_documents(alloc: Global, bytes: &[u8], steps: u64) -> Result<Trees, RenderStop>
+/// The documents of a text, such as can be written, or its first fault.
+fn read_documents(alloc: Global, bytes: &[u8], steps: u64) -> Result<Trees, Stop>
     requires { length bytes.now < 2 ^ 32 }
-    ensures documents { Renders (TextMeans steps bytes.now) result }
+    ensures documents { GivesRead trees_of result (λ r. text_meaning r steps bytes.now) }
     ensures held { IfOk result (λ trees. AreTrees (trees_of trees)) }
     ensures writable { IfOk result (λ trees. Writable (trees_of trees)) }
-    ensures none_failed { IsNoFailure result }
 {
     a_reader_exists();
-    match read_text(alloc, bytes, steps) {
-        Ok(trees) => Ok(trees),
-        Err(Stop::Fault(fault)) => Err(RenderStop::Fault(fault)),
-        Err(Stop::Memory) => Err(RenderStop::Memory),
-    }
+    read_text(alloc, bytes, steps)
 }
 
-/// The documents of the one file at the path with a budget of steps, or the first fault.
+/// The documents of the one file that is asked for, with its budget of steps, or the first fault.
 pub fn render<F: Files>(
     alloc: Global,
-    path: &str,
-    steps: u64,
+    request: Request<'_>,
     files: &mut F,
 ) -> Result<Trees, RenderStop>
-    ensures told { IfSome (F.tree files.old) (λ tree. Renders (Means path.now steps (tree path.now)) result) }
+    ensures told { IfSome (F.tree files.old) (λ tree. Renders (Means (command_of request.entry) tree) result) }
     ensures held { IfOk result (λ trees. AreTrees (trees_of trees)) }
     ensures writable { IfOk result (λ trees. Writable (trees_of trees)) }
     ensures keeps { F.tree files.new ≡ F.tree files.old }
-    ensures cause { Counts path.now (F.faults files.old) (F.faults files.new) result }
+    ensures cause { HasCause (command_of request.entry) (F.faults files.old) (F.faults files.new) result }
 {
+    let path = request.path;
     match files.kind(path) {
         Err(FilesStop::Failed) => return Err(read_failed(alloc, path)),
         Err(FilesStop::Memory) => return Err(RenderStop::Memory),
-        Ok(PathKind::Missing) => return Err(path_fault(alloc, FaultKind::FileMissing, path)),
-        Ok(PathKind::Folder) => return Err(not_built(alloc)),
+        Ok(PathKind::Missing) => return Err(path_fault(
+            alloc,
+            request,
+            FaultKind::FileMissing,
+            path,
+        )),
+        Ok(PathKind::Folder) => return Err(path_fault(alloc, request, FaultKind::NotBuilt, "")),
         Ok(PathKind::File) => {}
     }
     if !gives_documents(last_part(path).as_bytes()) {
-        return Err(not_built(alloc));
+        return Err(path_fault(alloc, request, FaultKind::NotBuilt, ""));
     }
-    read_file(alloc, path, steps, files)
+    read_file(alloc, request, files)
 }
 
-/// The documents of the file at the path, whose name is one that gives documents, or the first
+/// The documents of the file that is asked for, whose name is one that gives documents, or the first
 /// fault.
 fn read_file<F: Files>(
     alloc: Global,
-    path: &str,
-    steps: u64,
+    request: Request<'_>,
     files: &mut F,
 ) -> Result<Trees, RenderStop>
-    requires { gives_documents (last_part path.now) ≡ true }
-    ensures told { IfSome (F.tree files.old) (λ tree. IsNoFolder (tree path.now) → Renders (Means path.now steps (tree path.now)) result) }
+    requires { gives_documents (last_part request.path.now) ≡ true }
+    ensures told { IfSome (F.tree files.old) (λ tree. IsNoFolder (tree request.entry.path.now) → Renders (Means (command_of request.entry) tree) result) }
     ensures held { IfOk result (λ trees. AreTrees (trees_of trees)) }
     ensures writable { IfOk result (λ trees. Writable (trees_of trees)) }
     ensures keeps { F.tree files.new ≡ F.tree files.old }
-    ensures cause { Counts path.now (F.faults files.old) (F.faults files.new) result }
+    ensures cause { HasCause (command_of request.entry) (F.faults files.old) (F.faults files.new) result }
 {
+    let path = request.path;
     match files.read(alloc, path, LARGEST_FILE) {
         Err(FilesStop::Failed) => Err(read_failed(alloc, path)),
         Err(FilesStop::Memory) => Err(RenderStop::Memory),
-        Ok(Got::Missing) => Err(path_fault(alloc, FaultKind::FileMissing, path)),
-        Ok(Got::TooLarge) => Err(path_fault(alloc, FaultKind::FileTooLarge, path)),
-        Ok(Got::Bytes(bytes)) => read_documents(alloc, bytes.as_slice(), steps),
+        Ok(Got::Missing) => Err(path_fault(alloc, request, FaultKind::FileMissing, path)),
+        Ok(Got::TooLarge) => Err(path_fault(alloc, request, FaultKind::FileTooLarge, path)),
+        Ok(Got::Bytes(bytes)) => match read_documents(alloc, bytes.as_slice(), request.steps) {
+            Ok(trees) => Ok(trees),
+            Err(Stop::Fault(fault)) => Err(refused(alloc, request, fault)),
+            Err(Stop::Memory) => Err(RenderStop::Memory),
+        },
     }
 }

@@ -1,5 +1,5 @@
 -- What the definitions give for some command lines, by computing.
-use Rattle.std.proofs.Common.{◌≡◌, ℕ, List, [], ◌∷◌, Ok, refl, codes, pos}
+use Rattle.std.proofs.Common.{◌≡◌, ℕ, List, [], ◌∷◌, Ok, refl, bytes_eq, codes, pos, if◌then◌else◌}
 use Rattle.std.specs.Fmt.{digits}
 use Rattle.std.specs.Str.{chars, is_utf8}
 use lib.Utf8.{encode}
@@ -54,6 +54,10 @@ missing_file r = refl
 
 missing_comes_first : (r : Reader) → due_over r nothing (codes "render" ∷ codes "-f" ∷ codes "a.txt" ∷ []) ≡ fault (codes "error: FileMissing: a.txt\n")
 missing_comes_first r = refl
+
+-- only what stands at the path that is asked for is read
+other_path : (r : Reader) → due r (codes "-f" ∷ codes "b.yml" ∷ []) (λ path. if bytes_eq path (codes "a.yml") then file [] else nothing) ≡ fault (codes "error: FileMissing: b.yml\n")
+other_path r = refl
 
 library_file : (r : Reader) → due_over r (file []) (codes "render" ∷ codes "-f" ∷ codes "a.lib.yml" ∷ []) ≡ fault (codes "error: NotBuilt\n")
 library_file r = refl

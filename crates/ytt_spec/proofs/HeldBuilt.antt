@@ -1,6 +1,6 @@
 -- The documents that a text means have a text that reads back: they are what the program holds, none is null, and none
 -- nests too deep.
-use Rattle.std.proofs.Common.{◌≡◌, ℕ, nat_lt, Bool, true, false, not, List, [], length, Some, None, Ok, refl, if◌then◌else◌, arith}
+use Rattle.std.proofs.Common.{◌≡◌, ℕ, nat_lt, not, List, length, Ok, Err, subst}
 use Rattle.ytt_base.specs.Outcomes as outcome
 use Rattle.ytt_base.specs.Outcomes.{Outcome}
 use Rattle.ytt_base.specs.Trees.{Trees, AreTrees, Writable}
@@ -20,7 +20,8 @@ use Rattle.template_spec.specs.Placing.{placed}
 use Rattle.template_spec.specs.Template.{Items}
 use Rattle.template_spec.proofs.BuildKeeps.{HeldItems, HeldResult, nothing_keeps, built_keeps, documents_written}
 use Rattle.ytt_outside.specs.Standing.{Standing, nothing, file, folder}
-use Rattle.ytt_spec.specs.Meaning.{built, default_depth, documents_meaning, gives_documents, largest_file, last_part, meaning, outcome_of, started, text_meaning}
+use Rattle.ytt_spec.specs.Meaning.{built, default_depth, documents_meaning, file_names, gives_documents, largest_file, last_part, meaning, named_in, outcome_of, path_meaning, started, text_meaning}
+use Rattle.ytt_spec.specs.Words.{Command, render}
 use Rattle.ytt_spec.proofs.HeldTemplates.{template_held}
 use Rattle.std.specs.Result.{IfOk}
 use Rattle.std.proofs.lemmas.Result.{IfOk-at_ok}
@@ -57,7 +58,7 @@ text_holds r reads steps bytes =
     (λ k. yielded_then (HeldItems 0) AreWritten (placed r 1 ds) (built steps) (template_held r reads 1 ds h.1) (template_written steps))
     (λ k. yielded_where AreWritten (plain_trees ds) (λ ts e. plain_written bytes ds ts h.0 e)))
 
-path_holds : (r : Reader) → IsReader r → (path : List ℕ) (steps : ℕ) (standing : Standing) → IfOk (meaning r path steps standing) AreWritten
+path_holds : (r : Reader) → IsReader r → (path : List ℕ) (steps : ℕ) (standing : Standing) → IfOk (path_meaning r path steps standing) AreWritten
 path_holds r reads path steps nothing = tt
 path_holds r reads path steps (folder names) = tt
 path_holds r reads path steps (file bytes) =
@@ -68,6 +69,11 @@ path_holds r reads path steps (file bytes) =
 pub text_written : (r : Reader) → IsReader r → (steps : ℕ) (bytes : List ℕ) (ds : Trees) → text_meaning r steps bytes ≡ Ok ds → AreWritten ds
 text_written r reads steps bytes ds h = IfOk-at_ok AreWritten h (text_holds r reads steps bytes)
 
--- those of a path
-pub meaning_written : (r : Reader) → IsReader r → (path : List ℕ) (steps : ℕ) (standing : Standing) (ds : Trees) → meaning r path steps standing ≡ Ok ds → AreWritten ds
-meaning_written r reads path steps standing ds h = IfOk-at_ok AreWritten h (path_holds r reads path steps standing)
+named_written : (names : List (List ℕ)) (outcome : Outcome Trees) (ds : Trees) → IfOk outcome AreWritten → named_in names outcome ≡ Ok ds → AreWritten ds
+named_written names (Ok documents) ds h e = let same : documents ≡ ds = cc in subst AreWritten same h
+named_written names (Err fault) ds h e = cc
+
+-- those of a command
+pub meaning_written : (r : Reader) → IsReader r → (command : Command) (tree : List ℕ → Standing) (ds : Trees) → meaning r command tree ≡ Ok ds → AreWritten ds
+meaning_written r reads (render asked) tree ds h =
+    named_written (file_names (render asked)) (path_meaning r asked.path asked.steps (tree asked.path)) ds (path_holds r reads asked.path asked.steps (tree asked.path)) h

@@ -1,109 +1,106 @@
--- Words that ask for a path are the words of a request, and all requests are read so.
+-- Words that ask for a command are the words of a request, and all requests are read so.
 use Rattle.std.proofs.Common.{◌≡◌, ℕ, ◌+◌, Bool, true, false, not, ◌&&◌, ◌||◌, cond, List, [], ◌∷◌, ◌++◌, Option, Some, None, is_none, codes, refl, ap, sym, ◌∙◌, inl, inr, ⊎_elim, append_assoc, append-nil}
 use Rattle.std.proofs.lemmas.Slice.Eq.{bytes_eq-Decides}
 use Rattle.std.specs.Cmp.{first_so, second_so}
 use Rattle.std.specs.List.{list_all}
 use Rattle.ytt_spec.proofs.Options.{MayStand, asked_next, begun_stands, cut_back, cut_joined, cut_whole, named_holds, next, no_equals, same, stands_after, stands_begun, values_of-append}
 use Rattle.ytt_spec.specs.Requests.{IsRequest, is_good, spelled, spelled_alone}
-use Rattle.ytt_spec.specs.Words.{Asked, render, wrong, CommandOption, Given, added, are_all_given, asked, asked_from, asked_value, begun, command_options, equals, is_command, may_follow, may_have, name_in, named, path_given, steps_given, value_in, values_of}
+use Rattle.ytt_spec.specs.Words.{Asked, asked_for, wrong, Command, CommandOption, Given, added, are_all_given, asked, asked_from, asked_value, begun, command_given, command_options, equals, is_command, may_follow, may_have, name_in, named, value_in, values_of}
 
 -- ---- from words to a request
 
 -- what the options behind those that were read still give
-pub record Rest (gs : List Given) (words : List (List ℕ)) (p : List ℕ) (s : ℕ) : Type 0 where
+pub record Rest (gs : List Given) (words : List (List ℕ)) (c : Command) : Type 0 where
   pub more : List Given
   pub spelled_is : words ≡ spelled more
   pub good : list_all is_good more ≡ true
   pub complete : are_all_given (gs ++ more) ≡ true
-  pub path_is : p ≡ path_given (gs ++ more)
-  pub steps_is : s ≡ steps_given (gs ++ more)
+  pub command_is : c ≡ command_given (gs ++ more)
 
 abbrev given : List ℕ → List ℕ → Bool → Given
 given name value is_joined = record { name = name; value = value; is_joined = is_joined }
 
 -- the same, where the first word is the value of an option
-record AtValue (gs : List Given) (o : CommandOption) (name : List ℕ) (words : List (List ℕ)) (p : List ℕ) (s : ℕ) : Type 0 where
+record AtValue (gs : List Given) (o : CommandOption) (name : List ℕ) (words : List (List ℕ)) (c : Command) : Type 0 where
   value : List ℕ
   words_behind : List (List ℕ)
   words_are : words ≡ value ∷ words_behind
   good : o.is_value value ≡ true
-  after : Rest (added gs name value false) words_behind p s
+  after : Rest (added gs name value false) words_behind c
 
-no_more : (n : ℕ) (gs : List Given) (p : List ℕ) (s : ℕ) (b : Bool) → are_all_given gs ≡ b → cond b (render (path_given gs) (steps_given gs)) (wrong n) ≡ render p s → Rest gs [] p s
-no_more n gs p s true h e =
-    let path_is : p ≡ path_given gs = cc in
-    let steps_is : s ≡ steps_given gs = cc in
+no_more : (n : ℕ) (gs : List Given) (c : Command) (b : Bool) → are_all_given gs ≡ b → cond b (asked_for (command_given gs)) (wrong n) ≡ asked_for c → Rest gs [] c
+no_more n gs c true h e =
+    let command_is : c ≡ command_given gs = cc in
     let all = append-nil gs in
-    record { more = []; spelled_is = refl; good = refl; complete = ap are_all_given all ∙ h; path_is = path_is ∙ sym (ap path_given all); steps_is = steps_is ∙ sym (ap steps_given all) }
-no_more n gs p s false h e = cc
+    record { more = []; spelled_is = refl; good = refl; complete = ap are_all_given all ∙ h; command_is = command_is ∙ sym (ap command_given all) }
+no_more n gs c false h e = cc
 
-one_more : (gs : List Given) (g : Given) (words behind : List (List ℕ)) (p : List ℕ) (s : ℕ) → words ≡ spelled_alone g ++ behind → is_good g ≡ true → Rest (gs ++ (g ∷ [])) behind p s → Rest gs words p s
-one_more gs g words behind p s e h r =
+one_more : (gs : List Given) (g : Given) (words behind : List (List ℕ)) (c : Command) → words ≡ spelled_alone g ++ behind → is_good g ≡ true → Rest (gs ++ (g ∷ [])) behind c → Rest gs words c
+one_more gs g words behind c e h r =
     let all = append_assoc gs (g ∷ []) r.more in
     record {
       more = g ∷ r.more;
       spelled_is = e ∙ ap (λ ws. spelled_alone g ++ ws) r.spelled_is;
       good = (λ i. h i && r.good i);
       complete = sym (ap are_all_given all) ∙ r.complete;
-      path_is = r.path_is ∙ ap path_given all;
-      steps_is = r.steps_is ∙ ap steps_given all;
+      command_is = r.command_is ∙ ap command_given all;
     }
 
 good_given : (name value : List ℕ) (is_joined : Bool) (o : CommandOption) → named name command_options ≡ Some o → (o.is_long || not is_joined) ≡ true → o.is_value value ≡ true → is_good (given name value is_joined) ≡ true
 good_given name value is_joined o found joined h = ap (λ r. elim r [ None ↦ false | Some p ↦ (p.is_long || not is_joined) && p.is_value value ]) found ∙ (λ i. joined i && h i)
 
-by_value : (n : ℕ) (gs : List Given) (o : CommandOption) (word value : List ℕ) (words : List (List ℕ)) (p : List ℕ) (s : ℕ) (b : Bool) → MayStand gs (name_in word) (Some value) o → value_in word ≡ Some value
-    → (asked_from (n + 1) (added gs (name_in word) value true) words ≡ render p s → Rest (added gs (name_in word) value true) words p s)
-    → o.is_value value ≡ b → cond b (asked_from (n + 1) (added gs (name_in word) value true) words) (wrong n) ≡ render p s → Rest gs (word ∷ words) p s
-by_value n gs o word value words p s true m v read h e =
-    one_more gs (given (name_in word) value true) (word ∷ words) words p s (ap (λ w. w ∷ words) (sym (cut_back word value v))) (good_given (name_in word) value true o m.found m.joined h) (read e)
-by_value n gs o word value words p s false m v read h e = cc
+by_value : (n : ℕ) (gs : List Given) (o : CommandOption) (word value : List ℕ) (words : List (List ℕ)) (c : Command) (b : Bool) → MayStand gs (name_in word) (Some value) o → value_in word ≡ Some value
+    → (asked_from (n + 1) (added gs (name_in word) value true) words ≡ asked_for c → Rest (added gs (name_in word) value true) words c)
+    → o.is_value value ≡ b → cond b (asked_from (n + 1) (added gs (name_in word) value true) words) (wrong n) ≡ asked_for c → Rest gs (word ∷ words) c
+by_value n gs o word value words c true m v read h e =
+    one_more gs (given (name_in word) value true) (word ∷ words) words c (ap (λ w. w ∷ words) (sym (cut_back word value v))) (good_given (name_in word) value true o m.found m.joined h) (read e)
+by_value n gs o word value words c false m v read h e = cc
 
-by_next : (n : ℕ) (gs : List Given) (word : List ℕ) (words : List (List ℕ)) (p : List ℕ) (s : ℕ) (o : Option CommandOption) (v : Option (List ℕ)) → begun gs (name_in word) (value_in word) ≡ o → value_in word ≡ v
-    → ((value : List ℕ) → asked_from (n + 1) (added gs (name_in word) value true) words ≡ render p s → Rest (added gs (name_in word) value true) words p s)
-    → ((q : CommandOption) → asked_value (n + 1) gs q (name_in word) words ≡ render p s → AtValue gs q (name_in word) words p s)
-    → next n gs (name_in word) words o v ≡ render p s → Rest gs (word ∷ words) p s
-by_next n gs word words p s None v b w read read_value e = cc
-by_next n gs word words p s (Some o) (Some value) b w read read_value e =
+by_next : (n : ℕ) (gs : List Given) (word : List ℕ) (words : List (List ℕ)) (c : Command) (o : Option CommandOption) (v : Option (List ℕ)) → begun gs (name_in word) (value_in word) ≡ o → value_in word ≡ v
+    → ((value : List ℕ) → asked_from (n + 1) (added gs (name_in word) value true) words ≡ asked_for c → Rest (added gs (name_in word) value true) words c)
+    → ((q : CommandOption) → asked_value (n + 1) gs q (name_in word) words ≡ asked_for c → AtValue gs q (name_in word) words c)
+    → next n gs (name_in word) words o v ≡ asked_for c → Rest gs (word ∷ words) c
+by_next n gs word words c None v b w read read_value e = cc
+by_next n gs word words c (Some o) (Some value) b w read read_value e =
     let m = begun_stands gs (name_in word) (value_in word) o b in
-    by_value n gs o word value words p s (o.is_value value) (record { found = m.found; joined = ap (λ x. o.is_long || is_none x) (sym w) ∙ m.joined; follows = m.follows }) w (read value) refl e
-by_next n gs word words p s (Some o) None b w read read_value e =
+    by_value n gs o word value words c (o.is_value value) (record { found = m.found; joined = ap (λ x. o.is_long || is_none x) (sym w) ∙ m.joined; follows = m.follows }) w (read value) refl e
+by_next n gs word words c (Some o) None b w read read_value e =
     let m = begun_stands gs (name_in word) (value_in word) o b in
     let at = read_value o e in
-    one_more gs (given (name_in word) at.value false) (word ∷ words) at.words_behind p s (λ i. sym (cut_whole word w) i ∷ at.words_are i) (good_given (name_in word) at.value false o m.found (or_true o.is_long) at.good) at.after
+    one_more gs (given (name_in word) at.value false) (word ∷ words) at.words_behind c (λ i. sym (cut_whole word w) i ∷ at.words_are i) (good_given (name_in word) at.value false o m.found (or_true o.is_long) at.good) at.after
   where
     or_true : (b : Bool) → (b || true) ≡ true
     or_true true = refl
     or_true false = refl
 
-at_value : (n : ℕ) (gs : List Given) (o : CommandOption) (name value : List ℕ) (words : List (List ℕ)) (p : List ℕ) (s : ℕ) (b : Bool)
-    → (asked_from (n + 1) (added gs name value false) words ≡ render p s → Rest (added gs name value false) words p s)
-    → o.is_value value ≡ b → cond b (asked_from (n + 1) (added gs name value false) words) (wrong n) ≡ render p s → AtValue gs o name (value ∷ words) p s
-at_value n gs o name value words p s true read h e = record { value = value; words_behind = words; words_are = refl; good = h; after = read e }
-at_value n gs o name value words p s false read h e = cc
+at_value : (n : ℕ) (gs : List Given) (o : CommandOption) (name value : List ℕ) (words : List (List ℕ)) (c : Command) (b : Bool)
+    → (asked_from (n + 1) (added gs name value false) words ≡ asked_for c → Rest (added gs name value false) words c)
+    → o.is_value value ≡ b → cond b (asked_from (n + 1) (added gs name value false) words) (wrong n) ≡ asked_for c → AtValue gs o name (value ∷ words) c
+at_value n gs o name value words c true read h e = record { value = value; words_behind = words; words_are = refl; good = h; after = read e }
+at_value n gs o name value words c false read h e = cc
 
 mutual
-  pub read_from : (n : ℕ) (gs : List Given) (words : List (List ℕ)) (p : List ℕ) (s : ℕ) → asked_from n gs words ≡ render p s → Rest gs words p s
-  read_from n gs [] p s e = no_more n gs p s (are_all_given gs) refl e
-  read_from n gs (word ∷ words) p s e =
-      by_next n gs word words p s (begun gs (name_in word) (value_in word)) (value_in word) refl refl (λ value. read_from (n + 1) (added gs (name_in word) value true) words p s) (λ o. read_value (n + 1) gs o (name_in word) words p s) (sym (asked_next n gs word words) ∙ e)
+  pub read_from : (n : ℕ) (gs : List Given) (words : List (List ℕ)) (c : Command) → asked_from n gs words ≡ asked_for c → Rest gs words c
+  read_from n gs [] c e = no_more n gs c (are_all_given gs) refl e
+  read_from n gs (word ∷ words) c e =
+      by_next n gs word words c (begun gs (name_in word) (value_in word)) (value_in word) refl refl (λ value. read_from (n + 1) (added gs (name_in word) value true) words c) (λ o. read_value (n + 1) gs o (name_in word) words c) (sym (asked_next n gs word words) ∙ e)
 
-  read_value : (n : ℕ) (gs : List Given) (o : CommandOption) (name : List ℕ) (words : List (List ℕ)) (p : List ℕ) (s : ℕ) → asked_value n gs o name words ≡ render p s → AtValue gs o name words p s
-  read_value n gs o name [] p s e = cc
-  read_value n gs o name (value ∷ words) p s e = at_value n gs o name value words p s (o.is_value value) (read_from (n + 1) (added gs name value false) words p s) refl e
+  read_value : (n : ℕ) (gs : List Given) (o : CommandOption) (name : List ℕ) (words : List (List ℕ)) (c : Command) → asked_value n gs o name words ≡ asked_for c → AtValue gs o name words c
+  read_value n gs o name [] c e = cc
+  read_value n gs o name (value ∷ words) c e = at_value n gs o name value words c (o.is_value value) (read_from (n + 1) (added gs name value false) words c) refl e
 
-by_command : (word : List ℕ) (words : List (List ℕ)) (p : List ℕ) (s : ℕ) (b : Bool) → is_command word ≡ b → cond b (asked_from 2 [] words) (asked_from 1 [] (word ∷ words)) ≡ render p s → IsRequest (word ∷ words) p s
-by_command word words p s true h e =
-    let r = read_from 2 [] words p s e in
-    record { given = r.more; spelled_is = inr (λ i. same word (codes "render") h i ∷ r.spelled_is i); good = r.good; complete = r.complete; path_is = r.path_is; steps_is = r.steps_is }
-by_command word words p s false h e =
-    let r = read_from 1 [] (word ∷ words) p s e in
-    record { given = r.more; spelled_is = inl r.spelled_is; good = r.good; complete = r.complete; path_is = r.path_is; steps_is = r.steps_is }
+by_command : (word : List ℕ) (words : List (List ℕ)) (c : Command) (b : Bool) → is_command word ≡ b → cond b (asked_from 2 [] words) (asked_from 1 [] (word ∷ words)) ≡ asked_for c → IsRequest (word ∷ words) c
+by_command word words c true h e =
+    let r = read_from 2 [] words c e in
+    record { given = r.more; spelled_is = inr (λ i. same word (codes "render") h i ∷ r.spelled_is i); good = r.good; complete = r.complete; command_is = r.command_is }
+by_command word words c false h e =
+    let r = read_from 1 [] (word ∷ words) c e in
+    record { given = r.more; spelled_is = inl r.spelled_is; good = r.good; complete = r.complete; command_is = r.command_is }
 
--- words that ask for a path with a budget are a request for them
-pub request_read : (words : List (List ℕ)) (p : List ℕ) (s : ℕ) → asked words ≡ render p s → IsRequest words p s
-request_read [] p s e = cc
-request_read (word ∷ words) p s e = by_command word words p s (is_command word) refl e
+-- words that ask for a command are a request for it
+pub request_read : (words : List (List ℕ)) (c : Command) → asked words ≡ asked_for c → IsRequest words c
+request_read [] c e = cc
+request_read (word ∷ words) c e = by_command word words c (is_command word) refl e
 
 -- ---- from a request to its words
 
@@ -133,7 +130,7 @@ is_next gs name value is_joined more h all =
     record { option = o; found = found; joined = joined; good = good; follows = stands_after o.often (values_of name gs) (values_of name more) value (sym (ap (may_have o.often) values) ∙ stands.0) }
 
 abbrev asks : List Given → Asked
-asks gs = render (path_given gs) (steps_given gs)
+asks gs = asked_for (command_given gs)
 
 request_next : (n : ℕ) (gs : List Given) (name value : List ℕ) (is_joined : Bool) (more : List Given) → is_good (given name value is_joined) ≡ true → are_all_given (gs ++ (given name value is_joined ∷ more)) ≡ true
     → ((k : ℕ) (hs : List Given) → are_all_given (hs ++ more) ≡ true → asked_from k hs (spelled more) ≡ asks (hs ++ more))
@@ -168,17 +165,17 @@ request_from n gs (g ∷ more) good all =
     request_next n gs g.name g.value g.is_joined more (first_so (is_good g) (list_all is_good more) good) all (λ k hs. request_from k hs more (second_so (is_good g) (list_all is_good more) good))
 
 -- what is read as options begins with no command
-pub without_command : (words : List (List ℕ)) (p : List ℕ) (s : ℕ) → asked_from 1 [] words ≡ render p s → asked words ≡ render p s
-without_command [] p s e = e
-without_command (word ∷ words) p s e = by (is_command word) refl
+pub without_command : (words : List (List ℕ)) (c : Command) → asked_from 1 [] words ≡ asked_for c → asked words ≡ asked_for c
+without_command [] c e = e
+without_command (word ∷ words) c e = by (is_command word) refl
   where
-    by : (b : Bool) → is_command word ≡ b → cond b (asked_from 2 [] words) (asked_from 1 [] (word ∷ words)) ≡ render p s
+    by : (b : Bool) → is_command word ≡ b → cond b (asked_from 2 [] words) (asked_from 1 [] (word ∷ words)) ≡ asked_for c
     by true h = let refused : asked_from 1 [] (word ∷ words) ≡ wrong 1 = ap (λ w. asked_from 1 [] (w ∷ words)) (same word (codes "render") h) in cc
     by false h = e
 
 -- a request is read as what it asks for
-pub read_request : (words : List (List ℕ)) (p : List ℕ) (s : ℕ) → IsRequest words p s → asked words ≡ render p s
-read_request words p s r = ⊎_elim
-    (λ (e : words ≡ spelled r.given). ap asked e ∙ without_command (spelled r.given) p s (request_from 1 [] r.given r.good r.complete ∙ (λ i. render (sym r.path_is i) (sym r.steps_is i))))
-    (λ (e : words ≡ codes "render" ∷ spelled r.given). ap asked e ∙ request_from 2 [] r.given r.good r.complete ∙ (λ i. render (sym r.path_is i) (sym r.steps_is i)))
+pub read_request : (words : List (List ℕ)) (c : Command) → IsRequest words c → asked words ≡ asked_for c
+read_request words c r = ⊎_elim
+    (λ (e : words ≡ spelled r.given). ap asked e ∙ without_command (spelled r.given) c (request_from 1 [] r.given r.good r.complete ∙ ap asked_for (sym r.command_is)))
+    (λ (e : words ≡ codes "render" ∷ spelled r.given). ap asked e ∙ request_from 2 [] r.given r.good r.complete ∙ ap asked_for (sym r.command_is))
     r.spelled_is

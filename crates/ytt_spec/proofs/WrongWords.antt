@@ -4,7 +4,7 @@ use Rattle.std.proofs.Math.Seq.{take-append_seam, take-append-add}
 use Rattle.ytt_spec.proofs.Options.{asked_next, begun_stands, next, same, stands_begun, values_of-append}
 use Rattle.ytt_spec.proofs.WordsRead.{read_request, request_read}
 use Rattle.ytt_spec.specs.Requests.{Begins, IsFirstWrong, IsRequest}
-use Rattle.ytt_spec.specs.Words.{Asked, render, wrong, CommandOption, Given, Often, exactly_once, at_most_once, added, are_all_given, asked, asked_from, asked_value, begun, command_options, default_steps, file_option, is_command, may_follow, may_have, name_in, named, path_given, steps_given, steps_option, value_in, values_of}
+use Rattle.ytt_spec.specs.Words.{Asked, asked_for, wrong, Command, CommandOption, Given, Often, exactly_once, at_most_once, added, are_all_given, asked, asked_from, asked_value, begun, command_given, command_options, default_steps, file_option, is_command, may_follow, may_have, name_in, named, render, steps_option, value_in, values_of}
 
 -- Of words from number n on, the one of number m is the first at which the reading can't end in a request.
 pub record Stops (read : List (List ℕ) → Asked) (n : ℕ) (words : List (List ℕ)) (m : ℕ) : Type 0 where
@@ -13,9 +13,8 @@ pub record Stops (read : List (List ℕ) → Asked) (n : ℕ) (words : List (Lis
   pub split : words ≡ front ++ rest
   pub number : m ≡ n + length front
   pub more : List (List ℕ)
-  pub path : List ℕ
-  pub steps : ℕ
-  pub goes_on : read (front ++ more) ≡ render path steps
+  pub command : Command
+  pub goes_on : read (front ++ more) ≡ asked_for command
   pub refused : (word : List ℕ) (words : List (List ℕ)) → rest ≡ word ∷ words → (others : List (List ℕ)) → read (front ++ (word ∷ others)) ≡ wrong m
 
 -- one word is read, and then the others
@@ -27,23 +26,21 @@ one_read read more n word words m same s = record {
   split = ap (λ ws. word ∷ ws) s.split;
   number = s.number ∙ (omega arith);
   more = s.more;
-  path = s.path;
-  steps = s.steps;
+  command = s.command;
   goes_on = same (s.front ++ s.more) ∙ s.goes_on;
   refused = λ w ws e others. same (s.front ++ (w ∷ others)) ∙ s.refused w ws e others;
 }
 
 -- the very first word is wrong, or missing, where some words are read to a request
-here : (read : List (List ℕ) → Asked) (n : ℕ) (words : List (List ℕ)) (m : ℕ) (more : List (List ℕ)) (path : List ℕ) (steps : ℕ) → m ≡ n → read more ≡ render path steps
+here : (read : List (List ℕ) → Asked) (n : ℕ) (words : List (List ℕ)) (m : ℕ) (more : List (List ℕ)) (command : Command) → m ≡ n → read more ≡ asked_for command
     → ((word : List ℕ) (rest : List (List ℕ)) → words ≡ word ∷ rest → (others : List (List ℕ)) → read (word ∷ others) ≡ wrong m) → Stops read n words m
-here read n words m more path steps is goes refused = record {
+here read n words m more command is goes refused = record {
   front = [];
   rest = words;
   split = refl;
   number = is ∙ omega arith;
   more = more;
-  path = path;
-  steps = steps;
+  command = command;
   goes_on = goes;
   refused = refused;
 }
@@ -100,7 +97,7 @@ added_within gs name value is_joined o w found follows other =
 
 -- some words go on to a request
 abbrev Completes : (List (List ℕ) → Asked) → Type 0
-Completes read = (more : List (List ℕ)) × (p : List ℕ) × (s : ℕ) × (read more ≡ render p s)
+Completes read = (more : List (List ℕ)) × (command : Command) × (read more ≡ asked_for command)
 
 steps_fit : (vs : List (List ℕ)) → may_begin at_most_once vs ≡ true → may_have at_most_once vs ≡ true
 steps_fit [] h = refl
@@ -121,12 +118,11 @@ completes n gs w = by (values_of file_option.name gs) refl (w file_option.name)
         let paths : values_of file_option.name all ≡ codes "a" ∷ [] = values_of-append file_option.name gs _ ∙ ap (λ vs. vs ++ (codes "a" ∷ [])) e in
         let numbers : values_of steps_option.name all ≡ values_of steps_option.name gs = values_of-append steps_option.name gs _ ∙ append-nil (values_of steps_option.name gs) in (
           file_option.name ∷ codes "a" ∷ [],
-          path_given all,
-          steps_given all,
+          command_given all,
           asked_next n gs file_option.name (codes "a" ∷ []) ∙ ap (λ o. next n gs file_option.name (codes "a" ∷ []) o None) starts
-              ∙ (λ i. cond (may_have exactly_once (paths i) && ((ap (may_have at_most_once) numbers ∙ steps_done) i && true)) (render (path_given all) (steps_given all)) (wrong (n + 1 + 1))),
+              ∙ (λ i. cond (may_have exactly_once (paths i) && ((ap (may_have at_most_once) numbers ∙ steps_done) i && true)) (asked_for (command_given all)) (wrong (n + 1 + 1))),
         )
-    by (v ∷ []) e h = ([], path_given gs, steps_given gs, λ i. cond (may_have exactly_once (e i) && (steps_done i && true)) (render (path_given gs) (steps_given gs)) (wrong n))
+    by (v ∷ []) e h = ([], command_given gs, λ i. cond (may_have exactly_once (e i) && (steps_done i && true)) (asked_for (command_given gs)) (wrong n))
     by (v ∷ u ∷ vs) e h = cc
 
 -- each option has a value
@@ -142,13 +138,13 @@ completes_value : (n : ℕ) (gs : List Given) (o : CommandOption) (name : List �
 completes_value n gs o name w found follows =
     let v = sample name o found in
     let c = completes (n + 1) (added gs name v.0 false) (added_within gs name v.0 false o w found follows) in
-    (v.0 ∷ c.0, c.1, c.2, ap (λ b. cond b (asked_from (n + 1) (added gs name v.0 false) c.0) (wrong n)) v.1 ∙ c.3)
+    (v.0 ∷ c.0, c.1, ap (λ b. cond b (asked_from (n + 1) (added gs name v.0 false) c.0) (wrong n)) v.1 ∙ c.2)
 
 -- ---- by the tests that are made of a word
 
 stops_here : (read : List (List ℕ) → Asked) (n : ℕ) (words : List (List ℕ)) (m : ℕ) → Completes read → m ≡ n
     → ((word : List ℕ) (rest : List (List ℕ)) → words ≡ word ∷ rest → (others : List (List ℕ)) → read (word ∷ others) ≡ wrong m) → Stops read n words m
-stops_here read n words m c is refused = here read n words m c.0 c.1 c.2 is c.3 refused
+stops_here read n words m c is refused = here read n words m c.0 c.1 is c.2 refused
 
 -- where the first word is refused, whatever stands behind it
 refused_here : (read : List (List ℕ) → Asked) (n : ℕ) (word : List ℕ) (words : List (List ℕ)) (m : ℕ) → Completes read → m ≡ n → ((others : List (List ℕ)) → read (word ∷ others) ≡ wrong n) → Stops read n (word ∷ words) m
@@ -190,7 +186,7 @@ at_value n gs o name value words m false c read h e =
     let is : m ≡ n = cc in
     refused_here (asked_value n gs o name) n value words m c is (λ others. ap (λ t. cond t (asked_from (n + 1) (added gs name value false) others) (wrong n)) h)
 
-no_more : (n : ℕ) (gs : List Given) (m : ℕ) (b : Bool) → Within gs → cond b (render (path_given gs) (steps_given gs)) (wrong n) ≡ wrong m → Stops (asked_from n gs) n [] m
+no_more : (n : ℕ) (gs : List Given) (m : ℕ) (b : Bool) → Within gs → cond b (asked_for (command_given gs)) (wrong n) ≡ wrong m → Stops (asked_from n gs) n [] m
 no_more n gs m true w e = cc
 no_more n gs m false w e = let is : m ≡ n = cc in stops_here (asked_from n gs) n [] m (completes n gs w) is (λ word ws f. no_word word ws f)
 
@@ -215,7 +211,7 @@ mutual
 without_command : (word : List ℕ) (words : List (List ℕ)) (m : ℕ) → is_command word ≡ false → (front : List (List ℕ)) (s : Stops (asked_from 1 []) 1 (word ∷ words) m) → s.front ≡ front → Stops asked 1 (word ∷ words) m
 without_command word words m h [] s f =
     let is : m ≡ 1 = s.number ∙ ap (λ l. 1 + length l) f in
-    here asked 1 (word ∷ words) m (codes "-f" ∷ codes "a" ∷ []) (codes "a") default_steps is refl
+    here asked 1 (word ∷ words) m (codes "-f" ∷ codes "a" ∷ []) (render (record { path = codes "a"; steps = default_steps })) is refl
     (λ w ws e others.
     let same : w ≡ word = cc in
     let rest : s.rest ≡ w ∷ words = sym (s.split ∙ ap (λ l. l ++ s.rest) f) ∙ ap (λ v. v ∷ words) (sym same) in
@@ -231,8 +227,7 @@ without_command word words m h (x ∷ front) s f =
       split = s.split;
       number = s.number;
       more = s.more;
-      path = s.path;
-      steps = s.steps;
+      command = s.command;
       goes_on = read s.more ∙ s.goes_on;
       refused = λ w ws e others. read (w ∷ others) ∙ s.refused w ws e others;
     }
@@ -243,7 +238,7 @@ by_command word words m true h e =
 by_command word words m false h e = let s = options_stop 1 [] (word ∷ words) m none_within e in without_command word words m h s.front s refl
 
 asked_stops : (words : List (List ℕ)) (m : ℕ) → asked words ≡ wrong m → Stops asked 1 words m
-asked_stops [] m e = let is : m ≡ 1 = cc in here asked 1 [] m (codes "-f" ∷ codes "a" ∷ []) (codes "a") default_steps is refl (λ w ws f. no_word w ws f)
+asked_stops [] m e = let is : m ≡ 1 = cc in here asked 1 [] m (codes "-f" ∷ codes "a" ∷ []) (render (record { path = codes "a"; steps = default_steps })) is refl (λ w ws f. no_word w ws f)
 asked_stops (word ∷ words) m e = by_command word words m (is_command word) refl e
 
 front_taken : (words front rest : List (List ℕ)) (n : ℕ) → words ≡ front ++ rest → n ≡ 1 + length front → take (n - 1) words ≡ front
@@ -264,7 +259,7 @@ none_begins words n s [] r l b =
     absurd (omega arith)
 none_begins words n s (w ∷ ws) r l b =
     let taken : take n words ≡ s.front ++ (w ∷ []) = one_more_taken words s.front ws w n (s.split ∙ ap (λ rest. s.front ++ rest) r) s.number in
-    let goes = read_request (take n words ++ b.more) b.path b.steps b.request in
+    let goes = read_request (take n words ++ b.more) b.command b.request in
     let stops : asked (take n words ++ b.more) ≡ wrong n = ap (λ front. asked (front ++ b.more)) taken ∙ ap asked (append_assoc s.front (w ∷ []) b.more) ∙ s.refused w ws r b.more in
     cc
 
@@ -275,8 +270,8 @@ number_within words front rest n split number =
     omega arith
 
 -- words of which one is wrong are no request, since each request is read
-is_no_request : (words : List (List ℕ)) (n : ℕ) → asked words ≡ wrong n → (path : List ℕ) (steps : ℕ) → IsRequest words path steps → ⊥
-is_no_request words n e path steps r = let reads = read_request words path steps r in cc
+is_no_request : (words : List (List ℕ)) (n : ℕ) → asked words ≡ wrong n → (command : Command) → IsRequest words command → ⊥
+is_no_request words n e command r = let reads = read_request words command r in cc
 
 -- the number that is told is that of the first wrong word
 pub wrong_words : (words : List (List ℕ)) (n : ℕ) → asked words ≡ wrong n → IsFirstWrong words n
@@ -285,9 +280,8 @@ wrong_words words n e =
     record {
       before = record {
         more = s.more;
-        path = s.path;
-        steps = s.steps;
-        request = request_read (take (n - 1) words ++ s.more) s.path s.steps (ap (λ front. asked (front ++ s.more)) (front_taken words s.front s.rest n s.split s.number) ∙ s.goes_on);
+        command = s.command;
+        request = request_read (take (n - 1) words ++ s.more) s.command (ap (λ front. asked (front ++ s.more)) (front_taken words s.front s.rest n s.split s.number) ∙ s.goes_on);
       };
       at = none_begins words n s s.rest refl;
       within = number_within words s.front s.rest n s.split s.number;

@@ -1,14 +1,12 @@
 -- What is due: the status, and the bytes for `out` and for `err`.
-use Rattle.std.specs.Prelude.{◌≡◌, ℕ, List, [], ◌∷◌, ◌++◌, codes, decimal, Ok, Err}
+use Rattle.std.specs.Prelude.{ℕ, List, [], ◌∷◌, ◌++◌, codes, decimal, Ok, Err}
 use Rattle.ytt_base.specs.FaultText.{fault_line}
-use Rattle.ytt_base.specs.Outcomes.{Outcome}
-use Rattle.ytt_base.specs.Trees.{Trees}
 use Rattle.ytt_outside.specs.Standing.{Standing}
 use Rattle.yaml_spec.specs.Text.{Text}
 use Rattle.star_spec.specs.EachReader.{MeansRead}
 use Rattle.star_spec.specs.Reading.{Reader}
-use Rattle.ytt_spec.specs.Meaning.{meaning, last_part}
-use Rattle.ytt_spec.specs.Words.{Asked, render, wrong, asked}
+use Rattle.ytt_spec.specs.Meaning.{Meant, meaning}
+use Rattle.ytt_spec.specs.Words.{Asked, asked_for, wrong, asked}
 
 -- Done with a text for `out`, or Fault or Usage with a line for `err`
 pub data Due : Type 0 where
@@ -28,14 +26,14 @@ write_failed_line = codes "error: write failed\n"
 abbrev pub out_of_memory_line : List ℕ
 out_of_memory_line = codes "error: out of memory\n"
 
--- the file is shown by the last part of its path
-abbrev pub due_for : List ℕ → Outcome Trees → Due
-due_for path (Ok documents) = done (Text documents)
-due_for path (Err f) = fault (fault_line (last_part path ∷ []) f)
+-- the text of documents, or the line of a refusal
+abbrev pub due_for : Meant → Due
+due_for (Ok documents) = done (Text documents)
+due_for (Err refusal) = fault (fault_line refusal.names refusal.fault)
 
 abbrev pub due_asked : Reader → Asked → (List ℕ → Standing) → Due
 due_asked r (wrong n) tree = usage (usage_line n)
-due_asked r (render path steps) tree = due_for path (meaning r path steps (tree path))
+due_asked r (asked_for command) tree = due_for (meaning r command tree)
 
 -- what is due for these words over these files, where code is read so
 abbrev pub due : Reader → List (List ℕ) → (List ℕ → Standing) → Due

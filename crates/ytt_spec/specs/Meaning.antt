@@ -1,5 +1,5 @@
--- What a request means: documents, or a fault.
-use Rattle.std.specs.Prelude.{◌≡◌, ℕ, nat_lt, nat_eq, ◌==◌, ◌||◌, ◌&&◌, not, Bool, List, [], ◌∷◌, length, codes, None, Ok, Err, if◌then◌else◌}
+-- What a request means: documents, or a fault with the names of its files.
+use Rattle.std.specs.Prelude.{ℕ, nat_lt, nat_eq, ◌==◌, ◌||◌, ◌&&◌, not, Bool, List, [], ◌∷◌, length, codes, None, Result, Ok, Err, if◌then◌else◌}
 use Rattle.std.specs.List.{ends_with, list_any}
 use Rattle.ytt_base.specs.declared.fault.Fault.{Fault}
 use Rattle.ytt_base.specs.declared.fault.FaultKind.{FaultKind}
@@ -18,6 +18,7 @@ use Rattle.template_spec.specs.Files.{FileResult, Loader, nothing_to_load}
 use Rattle.template_spec.specs.Meaning.{BuildFile, documents}
 use Rattle.template_spec.specs.Placing.{placed}
 use Rattle.template_spec.specs.Template.{Items}
+use Rattle.ytt_spec.specs.Words.{Command, render}
 
 abbrev pub is_slash : ℕ → Bool
 is_slash b = b == 47
@@ -79,19 +80,43 @@ documents_meaning r steps ds = if has_code ds then placed r 1 ds >>= built steps
 abbrev pub text_meaning : Reader → (steps : ℕ) → List ℕ → Outcome Trees
 text_meaning r steps bytes = Read 1 bytes >>= documents_meaning r steps
 
--- What a path means, by what stands at it: the documents of a file of such a name. The reader of code is a parameter: each that reads as code reads gives the same.
-abbrev pub meaning : Reader → (path : List ℕ) → (steps : ℕ) → Standing → Outcome Trees
-meaning r path steps nothing = Err (path_fault kind.FileMissing path)
-meaning r path steps (folder names) = Err not_built
-meaning r path steps (file bytes) =
+-- What a path means, by what stands at it: the documents of a file of such a name.
+abbrev pub path_meaning : Reader → (path : List ℕ) → (steps : ℕ) → Standing → Outcome Trees
+path_meaning r path steps nothing = Err (path_fault kind.FileMissing path)
+path_meaning r path steps (folder names) = Err not_built
+path_meaning r path steps (file bytes) =
     if not (gives_documents (last_part path)) then Err not_built
     else if nat_lt largest_file (length bytes) then Err (path_fault kind.FileTooLarge path)
     else text_meaning r steps bytes
 
--- it means this outcome, whichever reader reads the code as it reads
-abbrev pub Means : (path : List ℕ) → (steps : ℕ) → Standing → Outcome Trees → Type 0
-Means path steps standing = MeansRead (λ r. meaning r path steps standing)
-
--- so does a text
+-- a text means this outcome, whichever reader reads the code as it reads
 abbrev pub TextMeans : (steps : ℕ) → List ℕ → Outcome Trees → Type 0
 TextMeans steps bytes = MeansRead (λ r. text_meaning r steps bytes)
+
+-- ---- what a request means
+
+-- a fault, with the names of the files in which it may stand: the first is that of file number 1
+pub record Refusal : Type 0 where
+  pub fault : Fault
+  pub names : List (List ℕ)
+
+-- documents, or why there are none
+abbrev pub Meant : Type 0
+Meant = Result Trees Refusal
+
+-- the names of a command's files, in the order of their numbers from 1: of `render` the last part of its path
+abbrev pub file_names : Command → List (List ℕ)
+file_names (render asked) = last_part asked.path ∷ []
+
+-- an outcome, whose fault stands in the files of these names
+abbrev pub named_in : List (List ℕ) → Outcome Trees → Meant
+named_in names (Ok documents) = Ok documents
+named_in names (Err fault) = Err (record { fault = fault; names = names })
+
+-- What a command means over a whole tree of files. The reader of code is a parameter: each that reads as code reads gives the same.
+abbrev pub meaning : Reader → Command → (tree : List ℕ → Standing) → Meant
+meaning r (render asked) tree = named_in (file_names (render asked)) (path_meaning r asked.path asked.steps (tree asked.path))
+
+-- it means this, whichever reader reads the code as it reads
+abbrev pub Means : Command → (tree : List ℕ → Standing) → Meant → Type 0
+Means command tree = MeansRead (λ r. meaning r command tree)

@@ -5,9 +5,18 @@ use Rattle.std.specs.Option.{option_map_or}
 use Rattle.std.specs.Str.{all_ascii_digits}
 use Rattle.std.specs.Str.Parse.{digits_value}
 
--- a path to render with a budget of steps, or the number, from 1, of the first word at which no request goes on
+-- what `render` is asked with: the path, and the budget of steps
+pub record Render : Type 0 where
+  pub path : List ℕ
+  pub steps : ℕ
+
+-- what may be asked for
+pub data Command : Type 0 where
+  render : Render → Command
+
+-- a command, or the number, from 1, of the first word at which no request goes on
 pub data Asked : Type 0 where
-  render : (path : List ℕ) → (steps : ℕ) → Asked
+  asked_for : Command → Asked
   wrong : ℕ → Asked
 
 -- ---- values
@@ -95,12 +104,12 @@ abbrev pub first_of : List (List ℕ) → Option (List ℕ)
 first_of [] = None
 first_of (v ∷ vs) = Some v
 
--- the path and the budget that are given
-abbrev pub path_given : List Given → List ℕ
-path_given gs = option_map_or (λ v. v) (first_of (values_of file_option.name gs)) []
-
-abbrev pub steps_given : List Given → ℕ
-steps_given gs = option_map_or number_of (first_of (values_of steps_option.name gs)) default_steps
+-- the command that is asked for with these options
+abbrev pub command_given : List Given → Command
+command_given gs = render (record {
+  path = option_map_or (λ v. v) (first_of (values_of file_option.name gs)) [];
+  steps = option_map_or number_of (first_of (values_of steps_option.name gs)) default_steps;
+})
 
 -- ---- words
 
@@ -126,7 +135,7 @@ added gs name value is_joined = gs ++ record { name = name; value = value; is_jo
 abbrev mutual
   -- the words from number n on, behind these options; where a word is missing, its number is the one behind the last
   pub asked_from : ℕ → List Given → List (List ℕ) → Asked
-  asked_from n gs [] = if are_all_given gs then render (path_given gs) (steps_given gs) else wrong n
+  asked_from n gs [] = if are_all_given gs then asked_for (command_given gs) else wrong n
   asked_from n gs (word ∷ words) =
       elim (begun gs (name_in word) (value_in word)) [
         | None ↦ wrong n
