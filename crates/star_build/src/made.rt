@@ -5,8 +5,8 @@ ghost use Rattle.star_grammar.specs.declared.table.Made.TheVariants as made;
 
 use crate::operators::{operation, unary_of};
 use crate::parts::Parts;
-use crate::values::{boxed_of, name_of, optional_of};
-use sqlite_items::{Boxed, Items};
+use crate::values::{boxed_of, name_of, no_items, optional_of};
+use sqlite_items::Boxed;
 use star_grammar::{Made, Mark, Part};
 use star_tree::code::Expr;
 use std::alloc::Global;
@@ -28,7 +28,7 @@ fn listed(alloc: Global, line: u32, part: Part) -> Expr
     match part {
         Part::Exprs(_, exprs) => Expr::List(line, exprs),
         Part::ListFor(value, clauses) => Expr::ListFor(line, value, clauses),
-        _ => Expr::List(line, Items::new(alloc)),
+        other => Expr::List(line, no_items(alloc, other)),
     }
 }
 
@@ -38,7 +38,7 @@ fn dicted(alloc: Global, line: u32, part: Part) -> Expr
     match part {
         Part::Entries(entries) => Expr::Dict(line, entries),
         Part::DictFor(key, value, clauses) => Expr::DictFor(line, key, value, clauses),
-        _ => Expr::Dict(line, Items::new(alloc)),
+        other => Expr::Dict(line, no_items(alloc, other)),
     }
 }
 

@@ -43,6 +43,20 @@ pub fn nothing(alloc: Global) -> Expr
     Expr::Tuple(0, Items::new(alloc))
 }
 
+/// No expression, where a part is none.
+fn no_expr(alloc: Global, _part: Part) -> Expr
+    ensures { result ≡ spec.nothing }
+{
+    nothing(alloc)
+}
+
+/// No text, where an expression has none.
+fn no_text(alloc: Global, _expr: Expr) -> Text
+    ensures { result ≡ [] }
+{
+    Text::new(alloc)
+}
+
 /// The expression; several without brackets are a tuple. It takes no memory.
 pub fn expr_of(alloc: Global, part: Part) -> Expr
     ensures { result ≡ spec.expr_in part }
@@ -50,7 +64,7 @@ pub fn expr_of(alloc: Global, part: Part) -> Expr
     match part {
         Part::Expr(_, expr) => expr.into_inner(),
         Part::Exprs(line, exprs) => Expr::Tuple(line, exprs),
-        _ => nothing(alloc),
+        other => no_expr(alloc, other),
     }
 }
 
@@ -72,7 +86,7 @@ pub fn optional_of(alloc: Global, part: Part) -> Result<Option<Boxed<Expr>>, Mem
         Part::Missing => Ok(None),
         Part::Expr(_, expr) => Ok(Some(expr)),
         Part::Exprs(line, exprs) => Ok(Some(Boxed::new(alloc, Expr::Tuple(line, exprs))?)),
-        _ => Ok(Some(Boxed::new(alloc, nothing(alloc))?)),
+        other => Ok(Some(Boxed::new(alloc, no_expr(alloc, other))?)),
     }
 }
 
@@ -82,7 +96,7 @@ pub fn name_of(alloc: Global, expr: Expr) -> Text
 {
     match expr {
         Expr::Name(_, name) => name,
-        _ => Text::new(alloc),
+        other => no_text(alloc, other),
     }
 }
 
@@ -92,8 +106,15 @@ pub fn text_of(alloc: Global, expr: Expr) -> Text
 {
     match expr {
         Expr::Text(_, text) => text,
-        _ => Text::new(alloc),
+        other => no_text(alloc, other),
     }
+}
+
+/// No items, where a part holds others.
+pub fn no_items<T>(alloc: Global, _part: Part) -> Items<T>
+    ensures { result ≡ [] }
+{
+    Items::new(alloc)
 }
 
 pub fn exprs_of(alloc: Global, part: Part) -> Items<Expr>
@@ -101,7 +122,7 @@ pub fn exprs_of(alloc: Global, part: Part) -> Items<Expr>
 {
     match part {
         Part::Exprs(_, exprs) => exprs,
-        _ => Items::new(alloc),
+        other => no_items(alloc, other),
     }
 }
 
@@ -110,7 +131,7 @@ pub fn entries_of(alloc: Global, part: Part) -> Items<Entry>
 {
     match part {
         Part::Entries(entries) => entries,
-        _ => Items::new(alloc),
+        other => no_items(alloc, other),
     }
 }
 
@@ -119,7 +140,7 @@ pub fn clauses_of(alloc: Global, part: Part) -> Items<Clause>
 {
     match part {
         Part::Clauses(clauses) => clauses,
-        _ => Items::new(alloc),
+        other => no_items(alloc, other),
     }
 }
 
@@ -128,7 +149,7 @@ pub fn params_of(alloc: Global, part: Part) -> Items<Param>
 {
     match part {
         Part::Params(params) => params,
-        _ => Items::new(alloc),
+        other => no_items(alloc, other),
     }
 }
 
@@ -137,7 +158,7 @@ pub fn loads_of(alloc: Global, part: Part) -> Items<Loaded>
 {
     match part {
         Part::Loads(loads) => loads,
-        _ => Items::new(alloc),
+        other => no_items(alloc, other),
     }
 }
 
@@ -146,6 +167,6 @@ pub fn code_of(alloc: Global, part: Part) -> Items<Stmt>
 {
     match part {
         Part::Code(code) => code,
-        _ => Items::new(alloc),
+        other => no_items(alloc, other),
     }
 }
