@@ -9,7 +9,7 @@ ghost use Rattle.star_grammar.specs.declared.table.Opened.TheVariants as opened;
 use crate::made::index;
 use crate::params::defaulted;
 use crate::parts::Parts;
-use crate::values::{entries_of, loads_of, name_of, text_of, with};
+use crate::values::{name_of, text_of, with};
 use sqlite_items::Items;
 use star_grammar::{Added, Opened, Part};
 use star_tree::code::{Clause, Entry, Expr, Loaded, Param};
@@ -81,7 +81,7 @@ fn add_entry(alloc: Global, parts: &mut Parts) -> Result<(), Memory>
 {
     let value = parts.pop_boxed(alloc)?;
     let key = parts.pop_boxed(alloc)?;
-    let entries = entries_of(alloc, parts.pop());
+    let entries = parts.pop_entries(alloc);
     parts.push(Part::Entries(with(entries, Entry::Pair(key, value))?))
 }
 
@@ -144,7 +144,7 @@ fn add_load(alloc: Global, parts: &mut Parts) -> Result<(), Memory>
 {
     let origin = text_of(alloc, parts.pop_expr(alloc));
     let bound = origin.copy()?;
-    let loads = loads_of(alloc, parts.pop());
+    let loads = parts.pop_loads(alloc);
     parts.push(Part::Loads(with(loads, Loaded { bound, origin })?))
 }
 
@@ -153,7 +153,7 @@ fn add_load_as(alloc: Global, parts: &mut Parts) -> Result<(), Memory>
 {
     let origin = text_of(alloc, parts.pop_expr(alloc));
     let bound = name_of(alloc, parts.pop_expr(alloc));
-    let loads = loads_of(alloc, parts.pop());
+    let loads = parts.pop_loads(alloc);
     parts.push(Part::Loads(with(loads, Loaded { bound, origin })?))
 }
 

@@ -4,10 +4,10 @@ ghost use Rattle.star_grammar.specs.Parts as spec;
 ghost use Rattle.star_grammar.specs.declared.part.Part.TheVariants as part;
 
 use crate::params::{has_name, has_star, has_stars, may_be_required};
-use crate::values::{boxed_of, clauses_of, expr_of, exprs_of, line_of, mark_of, params_of};
+use crate::values::{boxed_of, expr_of, line_of, mark_of, no_items};
 use sqlite_items::{Boxed, Items};
 use star_grammar::{Mark, Part};
-use star_tree::code::{Clause, Expr, Param};
+use star_tree::code::{Clause, Entry, Expr, Loaded, Param, Stmt};
 use std::alloc::Global;
 use std::marker::Model;
 use ytt_base::text::Memory;
@@ -185,21 +185,60 @@ impl Parts {
         ensures value { result ≡ spec.exprs_in (spec.top self.old) }
         ensures rest { self.new ≡ spec.under self.old }
     {
-        exprs_of(alloc, self.pop())
+        match self.pop() {
+            Part::Exprs(_, exprs) => exprs,
+            other => no_items(alloc, other),
+        }
+    }
+
+    pub fn pop_entries(&mut self, alloc: Global) -> Items<Entry>
+        ensures value { result ≡ spec.entries_in (spec.top self.old) }
+        ensures rest { self.new ≡ spec.under self.old }
+    {
+        match self.pop() {
+            Part::Entries(entries) => entries,
+            other => no_items(alloc, other),
+        }
     }
 
     pub fn pop_clauses(&mut self, alloc: Global) -> Items<Clause>
         ensures value { result ≡ spec.clauses_in (spec.top self.old) }
         ensures rest { self.new ≡ spec.under self.old }
     {
-        clauses_of(alloc, self.pop())
+        match self.pop() {
+            Part::Clauses(clauses) => clauses,
+            other => no_items(alloc, other),
+        }
     }
 
     pub fn pop_params(&mut self, alloc: Global) -> Items<Param>
         ensures value { result ≡ spec.params_in (spec.top self.old) }
         ensures rest { self.new ≡ spec.under self.old }
     {
-        params_of(alloc, self.pop())
+        match self.pop() {
+            Part::Params(params) => params,
+            other => no_items(alloc, other),
+        }
+    }
+
+    pub fn pop_loads(&mut self, alloc: Global) -> Items<Loaded>
+        ensures value { result ≡ spec.loads_in (spec.top self.old) }
+        ensures rest { self.new ≡ spec.under self.old }
+    {
+        match self.pop() {
+            Part::Loads(loads) => loads,
+            other => no_items(alloc, other),
+        }
+    }
+
+    pub fn pop_code(&mut self, alloc: Global) -> Items<Stmt>
+        ensures value { result ≡ spec.code_in (spec.top self.old) }
+        ensures rest { self.new ≡ spec.under self.old }
+    {
+        match self.pop() {
+            Part::Code(code) => code,
+            other => no_items(alloc, other),
+        }
     }
 
     /// Adds an expression, whose first token stands on this line.

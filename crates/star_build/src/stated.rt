@@ -6,7 +6,7 @@ ghost use Rattle.star_grammar.specs.declared.table.Stated.TheVariants as stated;
 
 use crate::operators::augmented_of;
 use crate::parts::Parts;
-use crate::values::{code_of, loads_of, name_of, text_of, with};
+use crate::values::{name_of, text_of, with};
 use sqlite_items::Boxed;
 use star_grammar::{Mark, Part, Stated};
 use star_tree::code::{Expr, Stmt};
@@ -39,7 +39,7 @@ fn statement_with(line: u32, mark: Mark, expr: Boxed<Expr>) -> Stmt
 fn add_statement(alloc: Global, parts: &mut Parts, statement: Stmt) -> Result<(), Memory>
     ensures { OnOk result (parts.new ≡ spec.with_statement (top parts.old) statement ∷ under parts.old) }
 {
-    let code = code_of(alloc, parts.pop());
+    let code = parts.pop_code(alloc);
     parts.push(Part::Code(with(code, statement)?))
 }
 
@@ -63,7 +63,7 @@ fn word_expr(alloc: Global, parts: &mut Parts) -> Result<(), Memory>
 fn load(alloc: Global, parts: &mut Parts) -> Result<(), Memory>
     ensures { OnOk result (parts.new ≡ spec.stated_parts stated.Load parts.old) }
 {
-    let loads = loads_of(alloc, parts.pop());
+    let loads = parts.pop_loads(alloc);
     let path = text_of(alloc, parts.pop_expr(alloc));
     let line = parts.pop_line();
     add_statement(alloc, parts, Stmt::Load(line, path, loads))

@@ -4,7 +4,7 @@ ghost use Rattle.star_grammar.specs.Parts as spec;
 
 use sqlite_items::{Boxed, Items};
 use star_grammar::{Mark, Part};
-use star_tree::code::{Clause, Entry, Expr, Loaded, Param, Stmt};
+use star_tree::code::Expr;
 use std::alloc::Global;
 use ytt_base::text::{Memory, Text};
 
@@ -115,58 +115,4 @@ pub fn no_items<T>(alloc: Global, _part: Part) -> Items<T>
     ensures { result ≡ [] }
 {
     Items::new(alloc)
-}
-
-pub fn exprs_of(alloc: Global, part: Part) -> Items<Expr>
-    ensures { result ≡ spec.exprs_in part }
-{
-    match part {
-        Part::Exprs(_, exprs) => exprs,
-        other => no_items(alloc, other),
-    }
-}
-
-pub fn entries_of(alloc: Global, part: Part) -> Items<Entry>
-    ensures { result ≡ spec.entries_in part }
-{
-    match part {
-        Part::Entries(entries) => entries,
-        other => no_items(alloc, other),
-    }
-}
-
-pub fn clauses_of(alloc: Global, part: Part) -> Items<Clause>
-    ensures { result ≡ spec.clauses_in part }
-{
-    match part {
-        Part::Clauses(clauses) => clauses,
-        other => no_items(alloc, other),
-    }
-}
-
-pub fn params_of(alloc: Global, part: Part) -> Items<Param>
-    ensures { result ≡ spec.params_in part }
-{
-    match part {
-        Part::Params(params) => params,
-        other => no_items(alloc, other),
-    }
-}
-
-pub fn loads_of(alloc: Global, part: Part) -> Items<Loaded>
-    ensures { result ≡ spec.loads_in part }
-{
-    match part {
-        Part::Loads(loads) => loads,
-        other => no_items(alloc, other),
-    }
-}
-
-pub fn code_of(alloc: Global, part: Part) -> Items<Stmt>
-    ensures { result ≡ spec.code_in part }
-{
-    match part {
-        Part::Code(code) => code,
-        other => no_items(alloc, other),
-    }
 }
