@@ -19,24 +19,6 @@ fn has_this_name(param: &Param, name: &str) -> bool
     }
 }
 
-fn is_defaulted(param: &Param) -> bool
-    ensures { result ≡ spec.is_defaulted_one param.now }
-{
-    matches!(param, Param::Defaulted(..))
-}
-
-fn is_starred(param: &Param) -> bool
-    ensures { result ≡ spec.is_starred_one param.now }
-{
-    matches!(param, Param::BareStar | Param::Starred(_))
-}
-
-fn is_double_starred(param: &Param) -> bool
-    ensures { result ≡ spec.is_double_starred_one param.now }
-{
-    matches!(param, Param::DoubleStarred(_))
-}
-
 /// Whether one has this name.
 pub fn has_name(params: &[Param], name: &str) -> bool
     ensures { result ≡ spec.has_name name.now params.now }
@@ -47,21 +29,25 @@ pub fn has_name(params: &[Param], name: &str) -> bool
 fn has_default(params: &[Param]) -> bool
     ensures { result ≡ spec.has_default params.now }
 {
-    params.iter().any(|param| is_defaulted(param))
+    params
+        .iter()
+        .any(|param| matches!(param, Param::Defaulted(..)))
 }
 
 /// Whether one has a star, or is one alone.
 pub fn has_star(params: &[Param]) -> bool
     ensures { result ≡ spec.has_star params.now }
 {
-    params.iter().any(|param| is_starred(param))
+    params.iter().any(|param| matches!(param, Param::BareStar | Param::Starred(_)))
 }
 
 /// Whether one has two stars.
 pub fn has_stars(params: &[Param]) -> bool
     ensures { result ≡ spec.has_stars params.now }
 {
-    params.iter().any(|param| is_double_starred(param))
+    params
+        .iter()
+        .any(|param| matches!(param, Param::DoubleStarred(_)))
 }
 
 /// Whether the last one may go without a default.
