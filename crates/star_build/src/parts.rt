@@ -60,24 +60,6 @@ impl Parts {
     }
 }
 
-fn is_name(part: &Part) -> bool
-    ensures { result ≡ spec.is_name part.now }
-{
-    match part {
-        Part::Expr(_, expr) => matches!(expr.get(), Expr::Name(..)),
-        _ => false,
-    }
-}
-
-fn is_place(part: &Part) -> bool
-    ensures { result ≡ spec.is_place part.now }
-{
-    match part {
-        Part::Expr(_, expr) => matches!(expr.get(), Expr::Name(..) | Expr::Index(..)),
-        _ => false,
-    }
-}
-
 // What the last part is.
 impl Parts {
     /// Whether it is a name.
@@ -85,8 +67,8 @@ impl Parts {
         ensures { result ≡ spec.is_name (spec.top self.now) }
     {
         match self.parts.last() {
-            Some(part) => is_name(part),
-            None => false,
+            Some(Part::Expr(_, expr)) => matches!(expr.get(), Expr::Name(..)),
+            _ => false,
         }
     }
 
@@ -95,8 +77,8 @@ impl Parts {
         ensures { result ≡ spec.is_place (spec.top self.now) }
     {
         match self.parts.last() {
-            Some(part) => is_place(part),
-            None => false,
+            Some(Part::Expr(_, expr)) => matches!(expr.get(), Expr::Name(..) | Expr::Index(..)),
+            _ => false,
         }
     }
 
