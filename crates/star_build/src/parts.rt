@@ -60,6 +60,24 @@ impl Parts {
     }
 }
 
+fn is_name(part: &Part) -> bool
+    ensures { result ≡ spec.is_name part.now }
+{
+    match part {
+        Part::Expr(_, expr) => matches!(expr.get(), Expr::Name(..)),
+        _ => false,
+    }
+}
+
+fn is_place(part: &Part) -> bool
+    ensures { result ≡ spec.is_place part.now }
+{
+    match part {
+        Part::Expr(_, expr) => matches!(expr.get(), Expr::Name(..) | Expr::Index(..)),
+        _ => false,
+    }
+}
+
 // What the last part is.
 impl Parts {
     /// Whether it is a name.
@@ -67,8 +85,8 @@ impl Parts {
         ensures { result ≡ spec.is_name (spec.top self.now) }
     {
         match self.parts.last() {
-            Some(Part::Expr(_, expr)) => matches!(expr.get(), Expr::Name(..)),
-            _ => false,
+            Some(part) => is_name(part),
+            None => false,
         }
     }
 
@@ -77,8 +95,8 @@ impl Parts {
         ensures { result ≡ spec.is_place (spec.top self.now) }
     {
         match self.parts.last() {
-            Some(Part::Expr(_, expr)) => matches!(expr.get(), Expr::Name(..) | Expr::Index(..)),
-            _ => false,
+            Some(part) => is_place(part),
+            None => false,
         }
     }
 

@@ -84,9 +84,7 @@ pub fn optional_of(alloc: Global, part: Part) -> Result<Option<Boxed<Expr>>, Mem
 {
     match part {
         Part::Missing => Ok(None),
-        Part::Expr(_, expr) => Ok(Some(expr)),
-        Part::Exprs(line, exprs) => Ok(Some(Boxed::new(alloc, Expr::Tuple(line, exprs))?)),
-        other => Ok(Some(Boxed::new(alloc, no_expr(alloc, other))?)),
+        other => Ok(Some(boxed_of(alloc, other)?)),
     }
 }
 
