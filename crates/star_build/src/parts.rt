@@ -139,7 +139,7 @@ impl Parts {
     }
 
     /// The line of its first token, or 0.
-    pub fn line(&self) -> u32
+    pub(crate) fn line(&self) -> u32
         ensures { result ≡ spec.line_in (spec.top self.now) }
     {
         match self.parts.last() {
@@ -151,7 +151,7 @@ impl Parts {
 
 // Takes the last part, as what is wanted there.
 impl Parts {
-    pub fn pop_line(&mut self) -> u32
+    pub(crate) fn pop_line(&mut self) -> u32
         ensures value { result ≡ spec.line_in (spec.top self.old) }
         ensures rest { self.new ≡ spec.under self.old }
     {
@@ -159,7 +159,7 @@ impl Parts {
         line_of(&part)
     }
 
-    pub fn pop_mark(&mut self) -> Mark
+    pub(crate) fn pop_mark(&mut self) -> Mark
         ensures value { result ≡ spec.mark_in (spec.top self.old) }
         ensures rest { self.new ≡ spec.under self.old }
     {
@@ -167,21 +167,21 @@ impl Parts {
         mark_of(&part)
     }
 
-    pub fn pop_expr(&mut self, alloc: Global) -> Expr
+    pub(crate) fn pop_expr(&mut self, alloc: Global) -> Expr
         ensures value { result ≡ spec.expr_in (spec.top self.old) }
         ensures rest { self.new ≡ spec.under self.old }
     {
         expr_of(alloc, self.pop())
     }
 
-    pub fn pop_boxed(&mut self, alloc: Global) -> Result<Boxed<Expr>, Memory>
+    pub(crate) fn pop_boxed(&mut self, alloc: Global) -> Result<Boxed<Expr>, Memory>
         ensures value { IfOk result (λ e. e ≡ spec.expr_in (spec.top self.old)) }
         ensures rest { OnOk result (self.new ≡ spec.under self.old) }
     {
         boxed_of(alloc, self.pop())
     }
 
-    pub fn pop_exprs(&mut self, alloc: Global) -> Items<Expr>
+    pub(crate) fn pop_exprs(&mut self, alloc: Global) -> Items<Expr>
         ensures value { result ≡ spec.exprs_in (spec.top self.old) }
         ensures rest { self.new ≡ spec.under self.old }
     {
@@ -191,7 +191,7 @@ impl Parts {
         }
     }
 
-    pub fn pop_entries(&mut self, alloc: Global) -> Items<Entry>
+    pub(crate) fn pop_entries(&mut self, alloc: Global) -> Items<Entry>
         ensures value { result ≡ spec.entries_in (spec.top self.old) }
         ensures rest { self.new ≡ spec.under self.old }
     {
@@ -201,7 +201,7 @@ impl Parts {
         }
     }
 
-    pub fn pop_clauses(&mut self, alloc: Global) -> Items<Clause>
+    pub(crate) fn pop_clauses(&mut self, alloc: Global) -> Items<Clause>
         ensures value { result ≡ spec.clauses_in (spec.top self.old) }
         ensures rest { self.new ≡ spec.under self.old }
     {
@@ -211,7 +211,7 @@ impl Parts {
         }
     }
 
-    pub fn pop_params(&mut self, alloc: Global) -> Items<Param>
+    pub(crate) fn pop_params(&mut self, alloc: Global) -> Items<Param>
         ensures value { result ≡ spec.params_in (spec.top self.old) }
         ensures rest { self.new ≡ spec.under self.old }
     {
@@ -221,7 +221,7 @@ impl Parts {
         }
     }
 
-    pub fn pop_loads(&mut self, alloc: Global) -> Items<Loaded>
+    pub(crate) fn pop_loads(&mut self, alloc: Global) -> Items<Loaded>
         ensures value { result ≡ spec.loads_in (spec.top self.old) }
         ensures rest { self.new ≡ spec.under self.old }
     {
@@ -231,7 +231,7 @@ impl Parts {
         }
     }
 
-    pub fn pop_code(&mut self, alloc: Global) -> Items<Stmt>
+    pub(crate) fn pop_code(&mut self, alloc: Global) -> Items<Stmt>
         ensures value { result ≡ spec.code_in (spec.top self.old) }
         ensures rest { self.new ≡ spec.under self.old }
     {
@@ -242,7 +242,7 @@ impl Parts {
     }
 
     /// Adds an expression, whose first token stands on this line.
-    pub fn push_expr(&mut self, alloc: Global, line: u32, expr: Expr) -> Result<(), Memory>
+    pub(crate) fn push_expr(&mut self, alloc: Global, line: u32, expr: Expr) -> Result<(), Memory>
         ensures { OnOk result (self.new ≡ part.Expr line expr ∷ self.old) }
     {
         self.push(Part::Expr(line, Boxed::new(alloc, expr)?))
