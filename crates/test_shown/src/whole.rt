@@ -4,6 +4,7 @@
 use sqlite_items::{Boxed, Items};
 use star_tree::code::{BinOp, Clause, Entry, Expr, Header, Loaded, Param, Stmt, UnOp};
 use std::alloc::{AllocError, Global};
+use ytt_base::text::Memory;
 
 fn put_line(out: &mut String, line: u32) -> Result<(), AllocError> {
     if line == 1 {
@@ -353,14 +354,14 @@ fn put_statement(out: &mut String, statement: &Stmt) -> Result<(), AllocError> {
 }
 
 /// An expression of whole code: `(+ 1 (at x@2 0))`. The error is want of memory.
-pub fn shown_code(alloc: Global, expr: &Expr) -> Result<String, AllocError> {
+pub fn shown_code(alloc: Global, expr: &Expr) -> Result<String, Memory> {
     let mut out = String::new(alloc);
     put_expr(&mut out, expr)?;
     Ok(out)
 }
 
 /// Arguments, each behind a space. The error is want of memory.
-pub fn shown_args(alloc: Global, args: &Items<Expr>) -> Result<String, AllocError> {
+pub fn shown_args(alloc: Global, args: &Items<Expr>) -> Result<String, Memory> {
     let mut out = String::new(alloc);
     put_head(&mut out, "args", 1)?;
     put_exprs(&mut out, args)?;
@@ -368,7 +369,7 @@ pub fn shown_args(alloc: Global, args: &Items<Expr>) -> Result<String, AllocErro
 }
 
 /// Statements with ` | ` between. The error is want of memory.
-pub fn shown_statements(alloc: Global, code: &Items<Stmt>) -> Result<String, AllocError> {
+pub fn shown_statements(alloc: Global, code: &Items<Stmt>) -> Result<String, Memory> {
     let mut out = String::new(alloc);
     for statement in code.as_slice() {
         out.push_str(if out.is_empty() { "" } else { " | " })?;
@@ -378,7 +379,7 @@ pub fn shown_statements(alloc: Global, code: &Items<Stmt>) -> Result<String, All
 }
 
 /// The head or the end of a block. The error is want of memory.
-pub fn shown_header(alloc: Global, header: &Header) -> Result<String, AllocError> {
+pub fn shown_header(alloc: Global, header: &Header) -> Result<String, Memory> {
     let mut out = String::new(alloc);
     match header {
         Header::If(test) => put_one(&mut out, "if", 1, test.get())?,
