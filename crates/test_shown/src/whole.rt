@@ -1,0 +1,393 @@
+// Code whole: expressions, statements, and heads of blocks. A part that stands on another line than the first has its line
+// behind `@`.
+
+use sqlite_items::{Boxed, Items};
+use star_tree::code::{BinOp, Clause, Entry, Expr, Header, Loaded, Param, Stmt, UnOp};
+use std::alloc::{AllocError, Global};
+use ytt_base::text::Memory;
+
+fn put_line(out: &mut String, line: u32) -> Result<(), AllocError> {
+    if line == 1 {
+        return Ok(());
+    }
+    let alloc = *out.allocator();
+    let number = format!(in alloc; "@{line}")?;
+    out.push_str(number.as_str())
+}
+
+fn put_word(out: &mut String, word: &str, line: u32) -> Result<(), AllocError> {
+    out.push_str(word)?;
+    put_line(out, line)
+}
+
+fn put_text(out: &mut String, text: &str, line: u32) -> Result<(), AllocError> {
+    out.push_str("'")?;
+    out.push_str(text)?;
+    put_word(out, "'", line)
+}
+
+fn put_int(out: &mut String, value: i128, line: u32) -> Result<(), AllocError> {
+    let alloc = *out.allocator();
+    let number = format!(in alloc; "{value}")?;
+    put_word(out, number.as_str(), line)
+}
+
+/// `(WORD`
+fn put_head(out: &mut String, word: &str, line: u32) -> Result<(), AllocError> {
+    out.push_str("(")?;
+    put_word(out, word, line)
+}
+
+fn unary_word(op: UnOp) -> &'static str {
+    match op {
+        UnOp::Minus => "-",
+        UnOp::Plus => "+",
+        UnOp::Invert => "~",
+        UnOp::Not => "not",
+    }
+}
+
+fn binary_word(op: BinOp) -> &'static str {
+    match op {
+        BinOp::Add => "+",
+        BinOp::Subtract => "-",
+        BinOp::Multiply => "*",
+        BinOp::FloorDivide => "//",
+        BinOp::Remainder => "%",
+        BinOp::BitAnd => "&",
+        BinOp::BitOr => "|",
+        BinOp::BitXor => "^",
+        BinOp::ShiftLeft => "<<",
+        BinOp::ShiftRight => ">>",
+        BinOp::Equal => "==",
+        BinOp::Unequal => "!=",
+        BinOp::Less => "<",
+        BinOp::Greater => ">",
+        BinOp::AtMost => "<=",
+        BinOp::AtLeast => ">=",
+        BinOp::In => "in",
+        BinOp::NotIn => "not-in",
+    }
+}
+
+/// ` PART`
+#[cycle(code)]
+fn put_part(out: &mut String, part: &Expr) -> Result<(), AllocError> {
+    out.push_str(" ")?;
+    put_expr(out, part)
+}
+
+/// ` PART)`
+#[cycle(code)]
+fn put_last(out: &mut String, part: &Expr) -> Result<(), AllocError> {
+    put_part(out, part)?;
+    out.push_str(")")
+}
+
+/// ` PART`, or ` _` where it is left out.
+#[cycle(code)]
+fn put_optional(out: &mut String, part: &Option<Boxed<Expr>>) -> Result<(), AllocError> {
+    match part {
+        Some(part) => put_part(out, part.get()),
+        None => out.push_str(" _"),
+    }
+}
+
+/// Expressions, each behind a space, and `)`.
+#[cycle(code)]
+fn put_exprs(out: &mut String, exprs: &Items<Expr>) -> Result<(), AllocError> {
+    for expr in exprs.as_slice() {
+        put_part(out, expr)?;
+    }
+    out.push_str(")")
+}
+
+#[cycle(code)]
+fn put_entry(out: &mut String, entry: &Entry) -> Result<(), AllocError> {
+    match entry {
+        Entry::Pair(key, value) => {
+            put_part(out, key.get())?;
+            out.push_str(":")?;
+            put_expr(out, value.get())
+        }
+    }
+}
+
+#[cycle(code)]
+fn put_entries(out: &mut String, entries: &Items<Entry>) -> Result<(), AllocError> {
+    for entry in entries.as_slice() {
+        put_entry(out, entry)?;
+    }
+    out.push_str(")")
+}
+
+#[cycle(code)]
+fn put_clause(out: &mut String, clause: &Clause) -> Result<(), AllocError> {
+    match clause {
+        Clause::ForIn(target, members) => {
+            out.push_str(" for")?;
+            put_part(out, target.get())?;
+            put_part(out, members.get())
+        }
+        Clause::OnlyIf(test) => {
+            out.push_str(" if")?;
+            put_part(out, test.get())
+        }
+    }
+}
+
+#[cycle(code)]
+fn put_clauses(out: &mut String, clauses: &Items<Clause>) -> Result<(), AllocError> {
+    for clause in clauses.as_slice() {
+        put_clause(out, clause)?;
+    }
+    out.push_str(")")
+}
+
+fn put_marked(out: &mut String, mark: &str, name: &str) -> Result<(), AllocError> {
+    out.push_str(mark)?;
+    out.push_str(name)
+}
+
+#[cycle(code)]
+fn put_param(out: &mut String, param: &Param) -> Result<(), AllocError> {
+    match param {
+        Param::Required(name) => put_marked(out, " ", name.as_str()),
+        Param::BareStar => put_marked(out, " *", ""),
+        Param::Starred(name) => put_marked(out, " *", name.as_str()),
+        Param::DoubleStarred(name) => put_marked(out, " **", name.as_str()),
+        Param::Defaulted(name, value) => {
+            put_marked(out, " ", name.as_str())?;
+            out.push_str("=")?;
+            put_expr(out, value.get())
+        }
+    }
+}
+
+/// Parameters, each behind a space.
+#[cycle(code)]
+fn put_params(out: &mut String, params: &Items<Param>) -> Result<(), AllocError> {
+    for param in params.as_slice() {
+        put_param(out, param)?;
+    }
+    Ok(())
+}
+
+fn put_attribute(out: &mut String, name: &str) -> Result<(), AllocError> {
+    put_marked(out, " ", name)?;
+    out.push_str(")")
+}
+
+/// Puts an expression behind the text. The error is want of memory.
+#[cycle(code)]
+fn put_expr(out: &mut String, expr: &Expr) -> Result<(), AllocError> {
+    match expr {
+        Expr::Int(line, value) => put_int(out, *value, *line),
+        Expr::Text(line, text) => put_text(out, text.as_str(), *line),
+        Expr::Name(line, name) => put_word(out, name.as_str(), *line),
+        Expr::Template(line, _) => put_word(out, "template", *line),
+        Expr::List(line, parts) => {
+            put_head(out, "list", *line)?;
+            put_exprs(out, parts)
+        }
+        Expr::Tuple(line, parts) => {
+            put_head(out, "tuple", *line)?;
+            put_exprs(out, parts)
+        }
+        Expr::Dict(line, entries) => {
+            put_head(out, "dict", *line)?;
+            put_entries(out, entries)
+        }
+        Expr::Unary(line, op, a) => {
+            put_head(out, unary_word(*op), *line)?;
+            put_last(out, a.get())
+        }
+        Expr::Star(line, a) => {
+            put_head(out, "*", *line)?;
+            put_last(out, a.get())
+        }
+        Expr::Stars(line, a) => {
+            put_head(out, "**", *line)?;
+            put_last(out, a.get())
+        }
+        Expr::Named(line, name, value) => {
+            put_word(out, name.as_str(), *line)?;
+            out.push_str("=")?;
+            put_expr(out, value.get())
+        }
+        Expr::Binary(line, op, a, b) => {
+            put_head(out, binary_word(*op), *line)?;
+            put_part(out, a.get())?;
+            put_last(out, b.get())
+        }
+        Expr::And(line, a, b) => {
+            put_head(out, "and", *line)?;
+            put_part(out, a.get())?;
+            put_last(out, b.get())
+        }
+        Expr::Or(line, a, b) => {
+            put_head(out, "or", *line)?;
+            put_part(out, a.get())?;
+            put_last(out, b.get())
+        }
+        Expr::Index(line, a, at) => {
+            put_head(out, "at", *line)?;
+            put_part(out, a.get())?;
+            put_last(out, at.get())
+        }
+        Expr::If(line, test, a, b) => {
+            put_head(out, "if", *line)?;
+            put_part(out, test.get())?;
+            put_part(out, a.get())?;
+            put_last(out, b.get())
+        }
+        Expr::Call(line, function, args) => {
+            put_head(out, "call", *line)?;
+            put_part(out, function.get())?;
+            put_exprs(out, args)
+        }
+        Expr::Slice(line, whole, low, high, step) => {
+            put_head(out, "slice", *line)?;
+            put_part(out, whole.get())?;
+            put_optional(out, low)?;
+            put_optional(out, high)?;
+            put_optional(out, step)?;
+            out.push_str(")")
+        }
+        Expr::Dot(line, whole, name) => {
+            put_head(out, ".", *line)?;
+            put_part(out, whole.get())?;
+            put_attribute(out, name.as_str())
+        }
+        Expr::Lambda(line, params, body) => {
+            put_head(out, "lambda", *line)?;
+            put_params(out, params)?;
+            out.push_str(" :")?;
+            put_last(out, body.get())
+        }
+        Expr::ListFor(line, value, clauses) => {
+            put_head(out, "list-for", *line)?;
+            put_part(out, value.get())?;
+            put_clauses(out, clauses)
+        }
+        Expr::DictFor(line, key, value, clauses) => {
+            put_head(out, "dict-for", *line)?;
+            put_part(out, key.get())?;
+            put_part(out, value.get())?;
+            put_clauses(out, clauses)
+        }
+    }
+}
+
+fn put_one(out: &mut String, word: &str, line: u32, a: &Expr) -> Result<(), AllocError> {
+    put_head(out, word, line)?;
+    put_last(out, a)
+}
+
+fn put_two(out: &mut String, word: &str, line: u32, a: &Expr, b: &Expr) -> Result<(), AllocError> {
+    put_head(out, word, line)?;
+    put_part(out, a)?;
+    put_last(out, b)
+}
+
+fn put_load(
+    out: &mut String,
+    line: u32,
+    path: &str,
+    names: &Items<Loaded>,
+) -> Result<(), AllocError> {
+    put_head(out, "load", line)?;
+    out.push_str(" ")?;
+    put_text(out, path, 1)?;
+    for name in names.as_slice() {
+        put_marked(out, " ", name.bound.as_str())?;
+        put_marked(out, "=", name.origin.as_str())?;
+    }
+    out.push_str(")")
+}
+
+fn put_def(
+    out: &mut String,
+    line: u32,
+    name: &str,
+    params: &Items<Param>,
+) -> Result<(), AllocError> {
+    put_head(out, "def", line)?;
+    put_marked(out, " ", name)?;
+    put_params(out, params)?;
+    out.push_str(")")
+}
+
+fn put_augment(
+    out: &mut String,
+    line: u32,
+    op: BinOp,
+    target: &Expr,
+    value: &Expr,
+) -> Result<(), AllocError> {
+    put_head(out, binary_word(op), line)?;
+    out.push_str("=")?;
+    put_part(out, target)?;
+    put_last(out, value)
+}
+
+/// Puts a statement behind the text. The error is want of memory.
+fn put_statement(out: &mut String, statement: &Stmt) -> Result<(), AllocError> {
+    match statement {
+        Stmt::Expr(line, value) => put_one(out, "do", *line, value.get()),
+        Stmt::Assign(line, target, value) => put_two(out, "=", *line, target.get(), value.get()),
+        Stmt::Augment(line, op, _, target, value) => {
+            put_augment(out, *line, *op, target.get(), value.get())
+        }
+        Stmt::Load(line, path, names) => put_load(out, *line, path.as_str(), names),
+        Stmt::Return(line, value) => put_one(out, "return", *line, value.get()),
+        Stmt::Break(line) => put_word(out, "break", *line),
+        Stmt::Continue(line) => put_word(out, "continue", *line),
+        Stmt::Pass(line) => put_word(out, "pass", *line),
+        Stmt::If(line, test) => put_one(out, "if", *line, test.get()),
+        Stmt::Elif(line, test) => put_one(out, "elif", *line, test.get()),
+        Stmt::Else(line) => put_word(out, "else", *line),
+        Stmt::For(line, target, members) => put_two(out, "for", *line, target.get(), members.get()),
+        Stmt::Def(line, name, params) => put_def(out, *line, name.as_str(), params),
+        Stmt::Close(line) => put_word(out, "end", *line),
+    }
+}
+
+/// An expression of whole code: `(+ 1 (at x@2 0))`. The error is want of memory.
+pub fn shown_code(alloc: Global, expr: &Expr) -> Result<String, Memory> {
+    let mut out = String::new(alloc);
+    put_expr(&mut out, expr)?;
+    Ok(out)
+}
+
+/// Arguments, each behind a space. The error is want of memory.
+pub fn shown_args(alloc: Global, args: &Items<Expr>) -> Result<String, Memory> {
+    let mut out = String::new(alloc);
+    put_head(&mut out, "args", 1)?;
+    put_exprs(&mut out, args)?;
+    Ok(out)
+}
+
+/// Statements with ` | ` between. The error is want of memory.
+pub fn shown_statements(alloc: Global, code: &Items<Stmt>) -> Result<String, Memory> {
+    let mut out = String::new(alloc);
+    for statement in code.as_slice() {
+        out.push_str(if out.is_empty() { "" } else { " | " })?;
+        put_statement(&mut out, statement)?;
+    }
+    Ok(out)
+}
+
+/// The head or the end of a block. The error is want of memory.
+pub fn shown_header(alloc: Global, header: &Header) -> Result<String, Memory> {
+    let mut out = String::new(alloc);
+    match header {
+        Header::If(test) => put_one(&mut out, "if", 1, test.get())?,
+        Header::Elif(test) => put_one(&mut out, "elif", 1, test.get())?,
+        Header::Else => out.push_str("else")?,
+        Header::For(target, members) => put_two(&mut out, "for", 1, target.get(), members.get())?,
+        Header::Def(name, params) => put_def(&mut out, 1, name.as_str(), params)?,
+        Header::End => out.push_str("end")?,
+    }
+    Ok(out)
+}
