@@ -1,6 +1,6 @@
 // What differs from what is due, shown so that a person sees it.
 
-use crate::rows::Row;
+use crate::rows::{Row, Steps};
 use crate::run::{Ran, run_row, run_text};
 use crate::stop::Stop;
 use std::alloc::{AllocError, Global};
@@ -92,22 +92,39 @@ fn push_lines(text: &mut String, about: &str, lines: &str) -> Result<(), AllocEr
     Ok(())
 }
 
+/// Runs the row with one step less than just suffices, which is to be short where the row says.
+fn short(alloc: Global, row: &Row, steps: &Steps, text: &mut String) -> Result<(), Stop> {
+    let ran = run_row(alloc, row, Some(steps.enough.saturating_sub(1)))?;
+    let err = format!(in alloc; "error: Steps at {}\n", steps.place.as_str())?;
+    let lines = compared(alloc, &ran, 1, b"", err.as_bytes())?;
+    push_lines(text, "with one step less ", lines.as_str())?;
+    Ok(())
+}
+
+/// Renders what the row prints, which is to give itself.
+fn again(alloc: Global, out: &[u8], text: &mut String) -> Result<(), Stop> {
+    let ran = run_text(alloc, out)?;
+    let lines = compared(alloc, &ran, 0, out, b"")?;
+    push_lines(text, "printed again ", lines.as_str())?;
+    Ok(())
+}
+
 /// What the row gives in place of what is due, a line for each difference.
 pub fn differences(alloc: Global, row: &Row) -> Result<String, Stop> {
-    let (status, out, err) = (row.status, row.out.as_slice(), row.err.as_slice());
     let enough = row.steps.as_ref().map(|steps| steps.enough);
     let ran = run_row(alloc, row, enough)?;
-    let mut text = compared(alloc, &ran, status, out, err)?;
+    let mut text = compared(
+        alloc,
+        &ran,
+        row.status,
+        row.out.as_slice(),
+        row.err.as_slice(),
+    )?;
     if let Some(steps) = &row.steps {
-        let ran = run_row(alloc, row, Some(steps.enough.saturating_sub(1)))?;
-        let err = format!(in alloc; "error: Steps at {}\n", steps.place.as_str())?;
-        let lines = compared(alloc, &ran, 1, b"", err.as_bytes())?;
-        push_lines(&mut text, "with one step less ", lines.as_str())?;
+        short(alloc, row, steps, &mut text)?;
     }
-    if status == 0 {
-        let ran = run_text(alloc, out)?;
-        let lines = compared(alloc, &ran, 0, out, b"")?;
-        push_lines(&mut text, "printed again ", lines.as_str())?;
+    if row.status == 0 {
+        again(alloc, row.out.as_slice(), &mut text)?;
     }
     Ok(text)
 }

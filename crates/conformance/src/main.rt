@@ -23,9 +23,9 @@ mod stop;
 
 use crate::archive::sections;
 use crate::difference::differences;
-use crate::rows::{read_file, rows_of};
+use crate::rows::{Row, read_file, rows_of};
 use crate::stop::Stop;
-use std::alloc::Global;
+use std::alloc::{AllocError, Global};
 use std::io;
 use std::process::ExitCode;
 use ytt_outside::files::Files;
@@ -38,6 +38,50 @@ struct Count {
     differ: u64,
 }
 
+/// Puts a line for each difference of a row behind the text, with where the row stands.
+fn push_wrong(
+    alloc: Global,
+    wrong: &mut String,
+    name: &str,
+    row: &Row,
+    lines: &str,
+) -> Result<(), AllocError> {
+    let title = row.title.as_str();
+    for line in lines.split_inclusive('\n') {
+        let line = format!(in alloc; "{name}:{} {title}: {line}", row.line)?;
+        wrong.push_str(line.as_str())?;
+    }
+    Ok(())
+}
+
+/// Runs a row, and puts a line for each difference behind the text.
+fn run_counted(
+    alloc: Global,
+    wrong: &mut String,
+    name: &str,
+    row: &Row,
+    count: &mut Count,
+) -> Result<(), Stop> {
+    let lines = differences(alloc, row)?;
+    count.rows = count.rows.saturating_add(1);
+    if lines.is_empty() {
+        return Ok(());
+    }
+    count.differ = count.differ.saturating_add(1);
+    push_wrong(alloc, wrong, name, row, lines.as_str())?;
+    Ok(())
+}
+
+/// The rows of an archive's file.
+fn read_rows(alloc: Global, outside: &mut impl Files, name: &str) -> Result<Vec<Row>, Stop> {
+    let archive = read_file(alloc, outside, name, 1)?;
+    let Ok(archive) = String::from_utf8(archive) else {
+        return Err(Stop::Form(1, "no UTF-8"));
+    };
+    let sections = sections(alloc, archive.as_str())?;
+    rows_of(alloc, outside, sections.as_slice())
+}
+
 /// Runs the rows of an archive, and gives a line for each difference.
 fn run_archive(
     alloc: Global,
@@ -45,57 +89,57 @@ fn run_archive(
     name: &str,
     count: &mut Count,
 ) -> Result<String, Stop> {
-    let archive = read_file(alloc, outside, name, 1)?;
-    let Ok(archive) = String::from_utf8(archive) else {
-        return Err(Stop::Form(1, "no UTF-8"));
-    };
-    let sections = sections(alloc, archive.as_str())?;
     let mut wrong = String::new(alloc);
-    for row in rows_of(alloc, outside, sections.as_slice())? {
-        count.rows = count.rows.saturating_add(1);
-        let lines = differences(alloc, &row)?;
-        if !lines.is_empty() {
-            count.differ = count.differ.saturating_add(1);
-        }
-        for line in lines.as_str().split_inclusive('\n') {
-            let title = row.title.as_str();
-            let line = format!(in alloc; "{name}:{} {title}: {line}", row.line)?;
-            wrong.push_str(line.as_str())?;
-        }
+    let rows = read_rows(alloc, outside, name)?;
+    for row in rows.as_slice() {
+        run_counted(alloc, &mut wrong, name, row, count)?;
     }
     Ok(wrong)
 }
 
-/// Runs all archives, and says whether each row gives what is due.
-fn run_archives<R: Print + std::rt::Files + AllocGlobal + Clone + Drop>(
+/// Writes what an archive gave, and says whether it has the form of an archive.
+fn show<R: Print>(rt: &R, name: &str, given: Result<String, Stop>) -> io::Result<bool> {
+    match given {
+        Ok(wrong) => {
+            print!(rt; "{wrong}")?;
+            Ok(true)
+        }
+        Err(Stop::Form(line, what)) => {
+            println!(rt; "{name}:{line}: {what}")?;
+            Ok(false)
+        }
+        Err(Stop::Memory) => {
+            println!(rt; "{name}: out of memory")?;
+            Ok(false)
+        }
+    }
+}
+
+/// Runs an archive, if a file of this name is one, and says whether it has the form of an archive.
+fn run_named<R: Print + AllocGlobal>(
     rt: &R,
     outside: &mut impl Files,
+    name: &str,
+    count: &mut Count,
 ) -> io::Result<bool> {
-    let alloc = rt.alloc();
+    if !name.ends_with(".txtar") {
+        return Ok(true);
+    }
+    let given = run_archive(rt.alloc(), outside, name, count);
+    show(rt, name, given)
+}
+
+/// Runs all archives, and says whether each row gives what is due.
+fn run_archives<R: Print + AllocGlobal>(rt: &R, outside: &mut impl Files) -> io::Result<bool> {
+    let Ok(names) = outside.list(rt.alloc(), ".") else {
+        println!(rt; "the folder can't be read")?;
+        return Ok(false);
+    };
     let mut count = Count { rows: 0, differ: 0 };
     let mut is_right = true;
-    let names = match outside.list(alloc, ".") {
-        Ok(names) => names,
-        Err(_) => {
-            println!(rt; "the folder can't be read")?;
-            return Ok(false);
-        }
-    };
     for name in names.as_slice() {
-        let name = name.as_str();
-        if !name.ends_with(".txtar") {
-            continue;
-        }
-        match run_archive(alloc, outside, name, &mut count) {
-            Ok(wrong) => print!(rt; "{wrong}")?,
-            Err(Stop::Form(line, what)) => {
-                is_right = false;
-                println!(rt; "{name}:{line}: {what}")?;
-            }
-            Err(Stop::Memory) => {
-                is_right = false;
-                println!(rt; "{name}: out of memory")?;
-            }
+        if !run_named(rt, outside, name.as_str(), &mut count)? {
+            is_right = false;
         }
     }
     println!(rt; "{} rows, {} differ", count.rows, count.differ)?;

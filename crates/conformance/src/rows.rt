@@ -5,7 +5,7 @@ use crate::rule::ruled;
 use crate::scan::words_of;
 use crate::stop::Stop;
 use sqlite_items::Items;
-use std::alloc::Global;
+use std::alloc::{AllocError, Global};
 use std::collections::BTreeSet;
 use ytt_outside::files::{Files, Got};
 use ytt_outside::mem_files::Numbers;
@@ -180,30 +180,65 @@ impl Row {
         }
     }
 
-    /// Takes what isn't taken as it stands: `words`, `status`, `steps` and `fails`.
-    fn take_line(&mut self, alloc: Global, name: &str, text: &str, line: u64) -> Result<(), Stop> {
-        let is_right = match name {
+    /// Takes an exit status. It says whether it is one.
+    fn take_status(&mut self, text: &str) -> bool {
+        match text.parse::<u8>() {
+            Ok(status) => {
+                self.status = status;
+                true
+            }
+            Err(_) => false,
+        }
+    }
+
+    /// Takes what isn't taken as it stands: `words`, `status`, `steps` and `fails`. It says whether it has that form.
+    fn take_line(
+        &mut self,
+        alloc: Global,
+        name: &str,
+        text: &str,
+        line: u64,
+    ) -> Result<bool, Stop> {
+        match name {
             "words" => {
                 self.words = words_in(alloc, text, line)?;
-                true
+                Ok(true)
             }
             "steps" => {
                 self.steps = steps_in(alloc, text)?;
-                self.steps.is_some()
+                Ok(self.steps.is_some())
             }
-            "fails" => self.take_fail(text)?,
-            _ => match text.parse::<u8>() {
-                Ok(status) => {
-                    self.status = status;
-                    true
-                }
-                Err(_) => false,
-            },
-        };
-        if is_right {
-            return Ok(());
+            "fails" => self.take_fail(text),
+            _ => Ok(self.take_status(text)),
         }
-        Err(Stop::Form(line, "a line of another form"))
+    }
+
+    /// Takes the lines below one of these names.
+    fn take_lines(
+        &mut self,
+        alloc: Global,
+        name: &str,
+        text: Vec<u8>,
+        line: u64,
+    ) -> Result<(), Stop> {
+        let Ok(text) = String::from_utf8(text) else {
+            return Err(Stop::Form(line, "a line that is no UTF-8"));
+        };
+        if name == "words" && text.is_empty() {
+            self.words = Vec::new(alloc);
+        }
+        for text in text.as_str().lines() {
+            if !self.take_line(alloc, name, text, line)? {
+                return Err(Stop::Form(line, "a line of another form"));
+            }
+        }
+        Ok(())
+    }
+
+    fn take_file(&mut self, alloc: Global, name: &str, text: Vec<u8>) -> Result<(), AllocError> {
+        let path = String::from_str(alloc, name)?;
+        self.files.push((path, text))?;
+        Ok(())
     }
 
     /// Takes the text below a name.
@@ -215,19 +250,29 @@ impl Row {
             "out" => self.out = text,
             "err" => self.err = text,
             "words" | "status" | "steps" | "fails" => {
-                let Ok(text) = String::from_utf8(text) else {
-                    return Err(Stop::Form(line, "a line that is no UTF-8"));
-                };
-                if name == "words" && text.is_empty() {
-                    self.words = Vec::new(alloc);
-                }
-                for text in text.as_str().lines() {
-                    self.take_line(alloc, name, text, line)?;
-                }
+                return self.take_lines(alloc, name, text, line);
             }
-            _ => self.files.push((String::from_str(alloc, name)?, text))?,
+            _ => self.take_file(alloc, name, text)?,
         }
         Ok(())
+    }
+}
+
+/// Takes a section: a new row, or a part of the last one.
+fn take_section(
+    alloc: Global,
+    outside: &mut impl Files,
+    rows: &mut Vec<Row>,
+    section: &Section,
+) -> Result<(), Stop> {
+    if let Some(title) = section.title() {
+        rows.push(Row::new(alloc, title, section.line)?)?;
+        return Ok(());
+    }
+    let (name, text) = part_of(alloc, outside, section)?;
+    match rows.last_mut() {
+        Some(row) => row.take(alloc, name, text, section.line),
+        None => Err(Stop::Form(section.line, "a text before the first row")),
     }
 }
 
@@ -239,16 +284,7 @@ pub fn rows_of(
 ) -> Result<Vec<Row>, Stop> {
     let mut rows: Vec<Row> = Vec::new(alloc);
     for section in sections {
-        let line = section.line;
-        if let Some(title) = section.title() {
-            rows.push(Row::new(alloc, title, line)?)?;
-            continue;
-        }
-        let (name, text) = part_of(alloc, outside, section)?;
-        match rows.last_mut() {
-            Some(row) => row.take(alloc, name, text, line)?,
-            None => return Err(Stop::Form(line, "a text before the first row")),
-        }
+        take_section(alloc, outside, &mut rows, section)?;
     }
     Ok(rows)
 }

@@ -4,6 +4,7 @@ use crate::rows::{Row, SinkFails};
 use crate::stop::Stop;
 use sqlite_items::Items;
 use std::alloc::Global;
+use ytt_base::text::Memory;
 use ytt_main::ytt_main;
 use ytt_outside::mem_files::MemFiles;
 use ytt_outside::mem_sink::MemSink;
@@ -24,16 +25,35 @@ fn sink(alloc: Global, fails: &SinkFails, due: usize) -> Result<MemSink, Stop> {
     Ok(MemSink::new(alloc, points, fails.room.unwrap_or(ample))?)
 }
 
+/// Adds a file where none stands. It says whether that is so.
+fn add(alloc: Global, files: &mut MemFiles, path: &str, bytes: &[u8]) -> Result<bool, Memory> {
+    if !files.is_free(path) {
+        return Ok(false);
+    }
+    files.add(alloc, path, bytes)?;
+    Ok(true)
+}
+
 fn files(alloc: Global, row: &Row) -> Result<MemFiles, Stop> {
     let fails = Items::from_slice(alloc, row.files_fail.as_slice())?;
     let mut files = MemFiles::new(alloc, fails);
     for (path, bytes) in &row.files {
-        if !files.is_free(path.as_str()) {
+        if !add(alloc, &mut files, path.as_str(), bytes.as_slice())? {
             return Err(Stop::Form(row.line, "a file where another stands"));
         }
-        files.add(alloc, path.as_str(), bytes.as_slice())?;
     }
     Ok(files)
+}
+
+/// Runs the words, and gives the exit status.
+fn status_of(
+    alloc: Global,
+    words: &[String],
+    files: &mut MemFiles,
+    out: &mut MemSink,
+    err: &mut MemSink,
+) -> u8 {
+    ytt_main(alloc, words, files, out, err).code()
 }
 
 /// Runs the words over what the row says of the outside.
@@ -41,7 +61,7 @@ pub fn run_words(alloc: Global, row: &Row, words: &[String]) -> Result<Ran, Stop
     let mut files = files(alloc, row)?;
     let mut out = sink(alloc, &row.out_fails, row.out.len())?;
     let mut err = sink(alloc, &row.err_fails, row.err.len())?;
-    let status = ytt_main(alloc, words, &mut files, &mut out, &mut err).code();
+    let status = status_of(alloc, words, &mut files, &mut out, &mut err);
     Ok(Ran { status, out, err })
 }
 
