@@ -1,10 +1,5 @@
-pub mod Complete
-pub mod Examples
-pub mod Held
-pub mod Judge
-pub mod Laws
-pub mod Open
-pub mod Pieces
-pub mod Sound
-pub mod Steps
-pub mod Turns
+pub mod Anchored
+pub mod Answering
+pub mod Deciding
+pub mod Lists
+pub mod Turning

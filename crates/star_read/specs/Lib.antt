@@ -1,3 +1,3 @@
-pub mod Machine
-pub mod Outcome
-pub mod View
+pub mod Answers
+pub mod Pending
+pub mod Turns

@@ -1,0 +1,211 @@
+// The readers.
+ghost use Rattle.std.specs.Prelude.{◌≡◌, true, IfOk};
+ghost use Rattle.star_grammar.specs.declared.start.Start.TheVariants as start;
+ghost use Rattle.star_grammar.specs.Parts.{expr_in, exprs_in};
+ghost use Rattle.star_grammar.specs.Reading as spec;
+ghost use Rattle.star_grammar.specs.Tokens.{ends, stop_of};
+ghost use Rattle.star_read.specs.Answers.{HasParts, HasRead, head_in, program_in, refusal_at, told};
+ghost use Rattle.star_read.specs.Pending.{begun};
+ghost use Rattle.star_read.specs.Turns.{value_of};
+
+use crate::blocks::Blocks;
+use crate::kinds::kind_of;
+use crate::machine::{Machine, step};
+use crate::pending::{Item, Pending};
+use crate::standing::{at_first, opens_too_many, stand_after};
+use crate::trees::{args_of, code_of, expr_of, header_in};
+use crate::weight::is_low;
+use ll::{Shape, Shapes};
+use sqlite_items::Items;
+use star_build::Parts;
+use star_grammar::{Block, Kind, Part, Rule, Stand, Start, Symbol, Terminal, Token};
+use star_token::Tokens;
+use star_tree::code::{Args, Expr, Header, Program};
+use std::alloc::Global;
+use ytt_base::fault::{Fault, FaultKind, Place, Stop};
+use ytt_base::text::{Memory, Text};
+
+fn rule_of(start: Start) -> Rule
+    ensures { result ≡ spec.rule_of start }
+{
+    match start {
+        Start::Expr => Rule::Expr,
+        Start::Args => Rule::Args,
+        Start::Line => Rule::Line,
+        Start::Header => Rule::Header,
+        Start::File => Rule::Top,
+    }
+}
+
+fn begun_pending(alloc: Global, start: Start) -> Result<Pending, Memory>
+    ensures { IfOk result (λ items. items ≡ begun start) }
+{
+    let mut pending = Pending::new(alloc);
+    pending.push(Item::Want(Symbol::Token(Terminal::Passed(Kind::TextEnd))))?;
+    pending.push(Item::Want(Symbol::Rule(rule_of(start))))?;
+    Ok(pending)
+}
+
+/// The parts before a text, into which the parts of the text go.
+fn begun_parts(alloc: Global, start: Start) -> Result<Parts, Memory>
+    ensures { IfOk result (λ ps. ps ≡ (spec.empty_of start).parts) }
+{
+    let mut parts = Parts::new(alloc);
+    match start {
+        Start::Expr => {}
+        Start::Args => parts.push(Part::Exprs(0, Items::new(alloc)))?,
+        Start::Line | Start::Header | Start::File => {
+            parts.push(Part::Code(Items::new(alloc)))?;
+        }
+    }
+    Ok(parts)
+}
+
+fn begun_shapes(alloc: Global, start: Start) -> Result<Shapes, Memory>
+    ensures { IfOk result (λ xs. xs ≡ (spec.empty_of start).shapes) }
+{
+    let mut shapes = Shapes::new(alloc);
+    match start {
+        Start::Expr => {}
+        Start::Args => shapes.push(Shape {
+            high: 0,
+            target: true,
+        })?,
+        Start::Line | Start::Header | Start::File => {
+            shapes.push(Shape {
+                high: 0,
+                target: false,
+            })?;
+        }
+    }
+    Ok(shapes)
+}
+
+/// Around a comment's code any block may be open.
+fn begun_blocks(alloc: Global, start: Start) -> Result<Blocks, Memory>
+    ensures { IfOk result (λ bs. bs ≡ (spec.empty_of start).blocks) }
+{
+    let mut blocks = Blocks::new(alloc);
+    match start {
+        Start::File => {}
+        _ => blocks.push(Block::Anywhere)?,
+    }
+    Ok(blocks)
+}
+
+/// The machine before a text.
+fn begin(alloc: Global, start: Start) -> Result<Machine, Memory>
+    ensures pending { IfOk result (λ m. m.pending ≡ begun start) }
+    ensures empty { IfOk result (λ m. value_of m ≡ spec.empty_of start) }
+{
+    Ok(Machine {
+        pending: begun_pending(alloc, start)?,
+        parts: begun_parts(alloc, start)?,
+        shapes: begun_shapes(alloc, start)?,
+        blocks: begun_blocks(alloc, start)?,
+    })
+}
+
+/// A fault on a line of a file.
+fn fault(alloc: Global, kind: FaultKind, file: u32, line: u32) -> Stop
+    ensures { result ≡ stop_of file kind line }
+{
+    Stop::Fault(Fault {
+        kind,
+        place: Some(Place { file, line }),
+        detail: Text::new(alloc),
+    })
+}
+
+/// What is told of a token with which no text goes on: that it opens one block more than may be
+/// open, or that it has no place here.
+fn refuse(alloc: Global, file: u32, stand: Stand, token: &Token) -> Stop
+    ensures { result ≡ told file (refusal_at stand token.now) }
+{
+    if opens_too_many(stand, kind_of(&token.kind)) {
+        fault(alloc, FaultKind::TooDeep, file, token.line)
+    } else {
+        fault(alloc, FaultKind::CodeForm, file, token.line)
+    }
+}
+
+/// The parts that tokens are.
+fn read_parts(alloc: Global, start: Start, tokens: &Tokens) -> Result<Parts, Stop>
+    requires ended { ends tokens.now.tokens ≡ true }
+    ensures { HasParts start tokens.now result }
+{
+    let mut machine = begin(alloc, start)?;
+    let mut stand = at_first();
+    let found = tokens.tokens.as_slice();
+    for token in found {
+        let next = stand_after(start, stand, kind_of(&token.kind), token.line);
+        if !step(alloc, token, &mut machine)? {
+            return Err(refuse(alloc, tokens.file, stand, token));
+        }
+        if !is_low(alloc, &machine.pending, &machine.shapes)? {
+            return Err(fault(alloc, FaultKind::TooDeep, tokens.file, next.line));
+        }
+        stand = next;
+    }
+    match machine.pending.pop() {
+        None => Ok(machine.parts),
+        Some(_) => unreachable!(),
+    }
+}
+
+/// The expression that tokens are; several without brackets are a tuple.
+///
+/// The last token is the text's end. Of other tokens the least one is refused with which no text of the
+/// grammar begins, or none of at most 100 levels: a fault without a detail, CodeForm on the token's line,
+/// or TooDeep on the line where the outermost expression begins that holds it. Want of memory is
+/// `Stop::Memory`.
+pub fn read_expr(alloc: Global, tokens: &Tokens) -> Result<Expr, Stop>
+    requires ended { ends tokens.now.tokens ≡ true }
+    ensures { HasRead start.Expr expr_in tokens.now result }
+{
+    let mut parts = read_parts(alloc, Start::Expr, tokens)?;
+    Ok(expr_of(alloc, parts.pop()))
+}
+
+/// The arguments that tokens are, refused as an expression's tokens are.
+pub fn read_args(alloc: Global, tokens: &Tokens) -> Result<Args, Stop>
+    requires ended { ends tokens.now.tokens ≡ true }
+    ensures { HasRead start.Args exprs_in tokens.now result }
+{
+    let mut parts = read_parts(alloc, Start::Args, tokens)?;
+    Ok(args_of(alloc, parts.pop()))
+}
+
+/// The simple statements of a line, refused as an expression's tokens are.
+pub fn read_simple(alloc: Global, tokens: &Tokens) -> Result<Program, Stop>
+    requires ended { ends tokens.now.tokens ≡ true }
+    ensures { HasRead start.Line (program_in tokens.now.file) tokens.now result }
+{
+    let mut parts = read_parts(alloc, Start::Line, tokens)?;
+    Ok(Program {
+        file: tokens.file,
+        code: code_of(alloc, parts.pop()),
+    })
+}
+
+/// The head or the end of a block, refused as an expression's tokens are.
+pub fn read_header(alloc: Global, tokens: &Tokens) -> Result<Header, Stop>
+    requires ended { ends tokens.now.tokens ≡ true }
+    ensures { HasRead start.Header head_in tokens.now result }
+{
+    let mut parts = read_parts(alloc, Start::Header, tokens)?;
+    Ok(header_in(code_of(alloc, parts.pop())))
+}
+
+/// The statements of a file, refused as an expression's tokens are, or TooDeep on the line of a token
+/// that opens one block more than 50.
+pub fn read_file(alloc: Global, tokens: &Tokens) -> Result<Program, Stop>
+    requires ended { ends tokens.now.tokens ≡ true }
+    ensures { HasRead start.File (program_in tokens.now.file) tokens.now result }
+{
+    let mut parts = read_parts(alloc, Start::File, tokens)?;
+    Ok(Program {
+        file: tokens.file,
+        code: code_of(alloc, parts.pop()),
+    })
+}
