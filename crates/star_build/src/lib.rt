@@ -1,0 +1,15 @@
+//! What the end of each alternative of the grammar of code makes of the parts that were read, and what a token
+//! makes. The definitions stand in `star_grammar`.
+#![tactic(auto)]
+
+mod added;
+mod ends;
+mod made;
+mod operators;
+mod params;
+mod parts;
+mod stated;
+mod values;
+
+pub use ends::{build, put_token};
+pub use parts::Parts;
