@@ -1,5 +1,5 @@
 -- What the text of code in a comment reads as: the expressions that are built so far, by the whole grammar.
-use Rattle.std.specs.Prelude.{◌≡◌, ℤ, pos, negsuc, ℕ, ◌^◌, nat_lt, Bool, true, false, ◌&&◌, List, Ok, Err}
+use Rattle.std.specs.Prelude.{◌≡◌, ℤ, pos, negsuc, ℕ, ◌^◌, nat_lt, Bool, true, false, ◌&&◌, List, [], ◌∷◌, Ok, Err}
 use Rattle.std.specs.Str.{is_utf8}
 use Rattle.ytt_base.specs.declared.fault.FaultKind.TheVariants as kind
 use Rattle.ytt_base.specs.declared.fault.Place.{Place}
@@ -12,7 +12,7 @@ use Rattle.star_grammar.specs.declared.part.Part.{Part}
 use Rattle.star_grammar.specs.declared.start.Start.TheVariants as start
 use Rattle.star_grammar.specs.declared.token.Origin.TheVariants as origin
 use Rattle.star_grammar.specs.declared.token.Token.{Token}
-use Rattle.star_grammar.specs.Parts.{top, expr_in}
+use Rattle.star_grammar.specs.Parts.{expr_in}
 use Rattle.star_grammar.specs.Reading.{IsRead}
 use Rattle.star_grammar.specs.Tokens.{tokens_of}
 
@@ -40,17 +40,17 @@ is_flat (code.unary p op a) = is_flat_unary op && is_flat a
 is_flat (code.binary p op a b) = is_flat_binary op && is_flat a && is_flat b
 is_flat e = false
 
--- the tree that stands in parts, in a file of this number
-abbrev pub tree_in : ℕ → List Part → Expr
-tree_in file ps = expr_of file (expr_in (top ps))
+-- the tree that stands in a part, in a file of this number
+abbrev pub tree_in : ℕ → Part → Expr
+tree_in file p = expr_of file (expr_in p)
 
 -- the text, whose first line is this place's, is this expression
 pub record IsExpr (place : Place) (text : List ℕ) (e : Expr) : Type 0 where
   pub found : List Token
   pub cut : tokens_of origin.Comment place.line text ≡ Ok found
-  pub parts : List Part
-  pub parsed : IsRead start.Expr found parts
-  pub is_tree : tree_in place.file parts ≡ e
+  pub part : Part
+  pub parsed : IsRead start.Expr found (part ∷ [])
+  pub is_tree : tree_in place.file part ≡ e
   pub flat : is_flat e ≡ true
 
 -- The text reads as this outcome: as the expression that it is, or as code that isn't built, which it is where it is no expression.

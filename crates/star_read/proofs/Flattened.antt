@@ -1,5 +1,5 @@
 -- The expressions that are built so far, and what a text reads as.
-use Rattle.std.proofs.Common.{◌≡◌, ℕ, List, Option, Some, None, Result, Ok, Err, refl, sym, ap, ◌∙◌, subst, ⊎_elim}
+use Rattle.std.proofs.Common.{◌≡◌, ℕ, List, [], ◌∷◌, Option, Some, None, Result, Ok, Err, refl, sym, ap, ◌∙◌, subst, ⊎_elim}
 use Rattle.std.specs.Prelude.{Bool, true, false, ◌&&◌, IfOk}
 use Rattle.std.specs.Str.{is_utf8}
 use Rattle.ytt_base.specs.declared.fault.FaultKind.TheVariants as kind
@@ -33,6 +33,7 @@ use Rattle.star_token.proofs.Cut.{ended}
 use Rattle.star_read.specs.Answers.{HasRead}
 use Rattle.star_read.specs.Flats.{HasFlat, HasTree, IsFlatOf, IsUnary, IsBinary, applied, joined}
 use Rattle.star_read.proofs.Deciding.{one_tree, each_is_read, never_both}
+use Rattle.star_read.proofs.OnePart.{one_part}
 use Rattle.star_read.proofs.Views.{whole-Text, whole-Unary, whole-Binary}
 
 -- ---- literals and operations
@@ -118,15 +119,19 @@ made (Err m) o e same h = tt
 same_tokens : (ts us : List Token) (o : Tokens) → o ≡ Ok ts → o ≡ Ok us → ts ≡ us
 same_tokens ts us o e f = cc
 
--- the parts of a text are its only ones
-only_parts : (place : Place) (text : List ℕ) (ts : List Token) (ps : List Part) (e : plain.Expr) → tokens_of origin.Comment place.line text ≡ Ok ts → IsRead start.Expr ts ps → IsExpr place text e → (tree_in place.file ps ≡ e) × (is_flat e ≡ true)
-only_parts place text ts ps e cut read p =
-    let same : p.found ≡ ts = same_tokens p.found ts (tokens_of origin.Comment place.line text) p.cut cut in
-    let one : ps ≡ p.parts = one_tree start.Expr ts ps p.parts read (subst (λ us. IsRead start.Expr us p.parts) same p.parsed) in
-    (ap (tree_in place.file) one ∙ p.is_tree, p.flat)
+same_part : (p q : Part) → p ∷ [] ≡ q ∷ [] → p ≡ q
+same_part p q e = cc
+
+-- the part that a text is, is its only one
+only_part : (place : Place) (text : List ℕ) (ts : List Token) (p : Part) (e : plain.Expr) → tokens_of origin.Comment place.line text ≡ Ok ts → IsRead start.Expr ts (p ∷ []) → IsExpr place text e
+    → (tree_in place.file p ≡ e) × (is_flat e ≡ true)
+only_part place text ts p e cut read q =
+    let same : q.found ≡ ts = same_tokens q.found ts (tokens_of origin.Comment place.line text) q.cut cut in
+    let one : p ∷ [] ≡ q.part ∷ [] = one_tree start.Expr ts (p ∷ []) (q.part ∷ []) read (subst (λ us. IsRead start.Expr us (q.part ∷ [])) same q.parsed) in
+    (ap (tree_in place.file) (same_part p q.part one) ∙ q.is_tree, q.flat)
 
 pub one_expression : OneExpression
-one_expression place text e f p q = sym p.is_tree ∙ (only_parts place text p.found p.parts f p.cut p.parsed q).0
+one_expression place text e f p q = sym p.is_tree ∙ (only_part place text p.found p.part f p.cut p.parsed q).0
 
 -- ---- what reads as something reads as nothing else
 
@@ -155,23 +160,23 @@ no_tokens place text r cut e p = on (tokens_of origin.Comment place.line text) p
 pub refused_tokens : (place : Place) (text : List ℕ) (ts : List Token) (r : Refusal) → tokens_of origin.Comment place.line text ≡ Ok ts → Refuses start.Expr ts r → (e : plain.Expr) → IsExpr place text e → ⊥
 refused_tokens place text ts r cut h e p =
     let same : p.found ≡ ts = same_tokens p.found ts (tokens_of origin.Comment place.line text) p.cut cut in
-    never_both start.Expr ts p.parts r (subst (λ us. IsRead start.Expr us p.parts) same p.parsed) h
+    never_both start.Expr ts (p.part ∷ []) r (subst (λ us. IsRead start.Expr us (p.part ∷ [])) same p.parsed) h
 
 pub tree_told : (place : Place) (text : List ℕ) (found : held.Tokens) (r : Result code.Expr Stop) → tokens_of origin.Comment place.line text ≡ Ok found.tokens → HasRead start.Expr expr_in found r → HasTree place text r
 tree_told place text found (Ok x) cut h = (found.tokens, h.0, cut, h.2, h.1)
 tree_told place text found (Err (stop.Fault f)) cut h = refused_tokens place text found.tokens h.0 cut h.2
 tree_told place text found (Err stop.Memory) cut h = tt
 
-not_flat : (place : Place) (text : List ℕ) (ts : List Token) (ps : List Part) → tokens_of origin.Comment place.line text ≡ Ok ts → IsRead start.Expr ts ps → is_flat (tree_in place.file ps) ≡ false → (e : plain.Expr) → IsExpr place text e → ⊥
-not_flat place text ts ps cut read h e p =
-    let q = only_parts place text ts ps e cut read p in
+not_flat : (place : Place) (text : List ℕ) (ts : List Token) (p : Part) → tokens_of origin.Comment place.line text ≡ Ok ts → IsRead start.Expr ts (p ∷ []) → is_flat (tree_in place.file p) ≡ false → (e : plain.Expr) → IsExpr place text e → ⊥
+not_flat place text ts p cut read h e is =
+    let q = only_part place text ts p e cut read is in
     not_both (is_flat e) q.1 (ap is_flat (sym q.0) ∙ h)
 
 pub reads_flat : (place : Place) (text : List ℕ) (x : Expr) (tree : code.Expr) → HasTree place text (Ok tree) → IsFlatOf (Some x) tree → HasFlat place text (Ok x)
 reads_flat place text x tree h f =
     let q = f place.file in
     let same : tree_in place.file h.1 ≡ expr_of place.file x = ap (whole_view.expr_of place.file) (sym h.4) ∙ sym q.0 in
-    record { found = h.0; cut = h.2; parts = h.1; parsed = h.3; is_tree = same; flat = ap is_flat q.0 ∙ q.1 }
+    record { found = h.0; cut = h.2; part = h.1; parsed = h.3; is_tree = same; flat = ap is_flat q.0 ∙ q.1 }
 
 pub reads_other : (place : Place) (text : List ℕ) (tree : code.Expr) → HasTree place text (Ok tree) → IsFlatOf None tree → HasFlat place text (Err (stop.Fault (fault_at kind.NotBuilt place)))
 reads_other place text tree h f = (refl, not_flat place text h.0 h.1 h.2 h.3 (ap (λ t. is_flat (whole_view.expr_of place.file t)) (sym h.4) ∙ f place.file))
@@ -181,14 +186,14 @@ reads_other place text tree h f = (refl, not_flat place text h.0 h.1 h.2 h.3 (ap
 abbrev Answer : Place → List ℕ → Type 0
 Answer place text = (o : Outcome plain.Expr) × Reads place text o
 
-answer_flat : (place : Place) (text : List ℕ) (ts : List Token) (ps : List Part) → tokens_of origin.Comment place.line text ≡ Ok ts → IsRead start.Expr ts ps → (b : Bool) → is_flat (tree_in place.file ps) ≡ b → Answer place text
-answer_flat place text ts ps cut read true e = (Ok (tree_in place.file ps), record { found = ts; cut = cut; parts = ps; parsed = read; is_tree = refl; flat = e })
-answer_flat place text ts ps cut read false e = (Err (fault_at kind.NotBuilt place), (refl, not_flat place text ts ps cut read e))
+answer_flat : (place : Place) (text : List ℕ) (ts : List Token) (p : Part) → tokens_of origin.Comment place.line text ≡ Ok ts → IsRead start.Expr ts (p ∷ []) → (b : Bool) → is_flat (tree_in place.file p) ≡ b → Answer place text
+answer_flat place text ts p cut read true e = (Ok (tree_in place.file p), record { found = ts; cut = cut; part = p; parsed = read; is_tree = refl; flat = e })
+answer_flat place text ts p cut read false e = (Err (fault_at kind.NotBuilt place), (refl, not_flat place text ts p cut read e))
 
 answer_cut : (place : Place) (text : List ℕ) (o : Tokens) → tokens_of origin.Comment place.line text ≡ o → Answer place text
 answer_cut place text (Err r) cut = (Err (fault_at kind.NotBuilt place), (refl, no_tokens place text r cut))
 answer_cut place text (Ok ts) cut = ⊎_elim
-    (λ q. answer_flat place text ts q.0 cut q.1 (is_flat (tree_in place.file q.0)) refl)
+    (λ q. let p = one_part start.Expr ts q.0 q.1 in answer_flat place text ts p.0 cut (subst (IsRead start.Expr ts) p.1 q.1) (is_flat (tree_in place.file p.0)) refl)
     (λ q. (Err (fault_at kind.NotBuilt place), (refl, refused_tokens place text ts q.0 cut q.1)))
     (each_is_read start.Expr ts (ended text 0 origin.Comment (at_line place.line) ts cut))
 

@@ -1,5 +1,5 @@
 -- What reading the expressions that are built so far says of its results.
-use Rattle.std.specs.Prelude.{◌≡◌, ℕ, true, false, List, Option, Some, None, Result, Ok, Err}
+use Rattle.std.specs.Prelude.{◌≡◌, ℕ, true, false, List, Option, Some, None, Result, Ok, Err, [], ◌∷◌}
 use Rattle.ytt_base.specs.declared.fault.Place.{Place}
 use Rattle.ytt_base.specs.declared.fault.Stop.{Stop}
 use Rattle.ytt_base.specs.declared.fault.Stop.TheVariants as stop
@@ -18,7 +18,7 @@ use Rattle.star_grammar.specs.declared.start.Start.TheVariants as start
 use Rattle.star_grammar.specs.declared.token.Origin.TheVariants as origin
 use Rattle.star_grammar.specs.declared.token.Token.{Token}
 use Rattle.star_grammar.specs.Flat.{IsExpr, Reads, is_flat, is_flat_binary, is_flat_unary}
-use Rattle.star_grammar.specs.Parts.{top, expr_in}
+use Rattle.star_grammar.specs.Parts.{expr_in}
 use Rattle.star_grammar.specs.Reading.{IsRead}
 use Rattle.star_grammar.specs.Tokens.{tokens_of}
 
@@ -46,7 +46,7 @@ IsFlatOf None e = (file : ℕ) → is_flat (whole_view.expr_of file e) ≡ false
 
 -- the tree of a text, or that it is no expression
 abbrev pub HasTree : Place → List ℕ → Result code.Expr Stop → Type 0
-HasTree place text (Ok x) = (ts : List Token) × (ps : List Part) × (tokens_of origin.Comment place.line text ≡ Ok ts) × IsRead start.Expr ts ps × (x ≡ expr_in (top ps))
+HasTree place text (Ok x) = (ts : List Token) × (p : Part) × (tokens_of origin.Comment place.line text ≡ Ok ts) × IsRead start.Expr ts (p ∷ []) × (x ≡ expr_in p)
 HasTree place text (Err (stop.Fault f)) = (e : plain.Expr) → IsExpr place text e → ⊥
 HasTree place text (Err stop.Memory) = Unit {0}
 

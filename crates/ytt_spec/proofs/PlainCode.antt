@@ -19,8 +19,8 @@ flat_held (code.int p z) h = integer_fits z h
 flat_held (code.text p t) h = IsUtf8-from_is_utf8 t h
 flat_held (code.unary p o a) h = flat_held a (and_parts (is_flat_unary o) (is_flat a) h).1
 flat_held (code.binary p o a b) h =
-    let both = and_parts (is_flat a) (is_flat b) (and_parts (is_flat_binary o) (is_flat a && is_flat b) h).1 in
-    (flat_held a both.0, flat_held b both.1)
+    let both = and_parts (is_flat_binary o && is_flat a) (is_flat b) h in
+    (flat_held a (and_parts (is_flat_binary o) (is_flat a) both.0).1, flat_held b both.1)
 flat_held e h = absurd (grind arith)
 
 -- an expression that a text is
