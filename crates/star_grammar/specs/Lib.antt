@@ -1,4 +1,6 @@
+pub mod EachReader
 pub mod Effects
+pub mod Flat
 pub mod Language
 pub mod Machine
 pub mod Parts

@@ -1,5 +1,5 @@
 -- What the calls say of their results.
-use Rattle.std.specs.Prelude.{◌≡◌, ◌⊎◌, ℕ, true, List, if◌then◌else◌, Result, Ok, Err}
+use Rattle.std.specs.Prelude.{◌≡◌, ◌⊎◌, ℕ, true, List, if◌then◌else◌, Result, Ok, Err, [], ◌∷◌}
 use Rattle.ytt_base.specs.declared.fault.FaultKind.TheVariants as kind
 use Rattle.ytt_base.specs.declared.fault.Stop.{Stop}
 use Rattle.ytt_base.specs.declared.fault.Stop.TheVariants as stop
@@ -10,7 +10,7 @@ use Rattle.star_grammar.specs.declared.start.Stand.{Stand}
 use Rattle.star_grammar.specs.declared.start.Start.{Start}
 use Rattle.star_grammar.specs.declared.token.Token.{Token}
 use Rattle.star_grammar.specs.Language.{kind_of_token}
-use Rattle.star_grammar.specs.Parts.{top, code_in}
+use Rattle.star_grammar.specs.Parts.{code_in}
 use Rattle.star_grammar.specs.Reading.{IsRead, Refusal, code_form, too_deep, Refuses, header_in}
 use Rattle.star_grammar.specs.Standing.{opens_too_many}
 use Rattle.star_grammar.specs.Tokens.{stop_of, ends}
@@ -31,17 +31,14 @@ told file (too_deep line) = stop_of file kind.TooDeep line
 abbrev pub refusal_at : Stand → Token → Refusal
 refusal_at s k = if opens_too_many s (kind_of_token k.kind) then too_deep k.line else code_form k.line
 
--- The tokens are parts, and this stands in the last one; or why they are refused. Want of memory says nothing.
+abbrev pub the_part : Part → Part
+the_part p = p
+
+-- The tokens are one part, in which this stands; or why they are refused. Want of memory says nothing.
 abbrev pub HasRead : {A : Type 0} → Start → (Part → A) → Tokens → Result A Stop → Type 0
-HasRead s view ts (Ok x) = (ps : List Part) × (x ≡ view (top ps)) × IsRead s ts.tokens ps
+HasRead s view ts (Ok x) = (p : Part) × (x ≡ view p) × IsRead s ts.tokens (p ∷ [])
 HasRead s view ts (Err (stop.Fault f)) = (r : Refusal) × (stop.Fault f ≡ told ts.file r) × Refuses s ts.tokens r
 HasRead s view ts (Err stop.Memory) = Unit {0}
-
--- the parts that the tokens are, or why they are refused
-abbrev pub HasParts : Start → Tokens → Result (List Part) Stop → Type 0
-HasParts s ts (Ok ps) = IsRead s ts.tokens ps
-HasParts s ts (Err (stop.Fault f)) = (r : Refusal) × (stop.Fault f ≡ told ts.file r) × Refuses s ts.tokens r
-HasParts s ts (Err stop.Memory) = Unit {0}
 
 -- ---- laws
 

@@ -1,3 +1,4 @@
 pub mod Answers
+pub mod Flats
 pub mod Pending
 pub mod Turns

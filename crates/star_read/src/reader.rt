@@ -4,7 +4,7 @@ ghost use Rattle.star_grammar.specs.declared.start.Start.TheVariants as start;
 ghost use Rattle.star_grammar.specs.Parts.{expr_in, exprs_in};
 ghost use Rattle.star_grammar.specs.Reading as spec;
 ghost use Rattle.star_grammar.specs.Tokens.{ends, stop_of};
-ghost use Rattle.star_read.specs.Answers.{HasParts, HasRead, head_in, program_in, refusal_at, told};
+ghost use Rattle.star_read.specs.Answers.{HasRead, head_in, program_in, refusal_at, the_part, told};
 ghost use Rattle.star_read.specs.Pending.{begun};
 ghost use Rattle.star_read.specs.Turns.{value_of};
 
@@ -129,10 +129,10 @@ fn refuse(alloc: Global, file: u32, stand: Stand, token: &Token) -> Stop
     }
 }
 
-/// The parts that tokens are.
-fn read_parts(alloc: Global, start: Start, tokens: &Tokens) -> Result<Parts, Stop>
+/// The one part that tokens are.
+fn read_part(alloc: Global, start: Start, tokens: &Tokens) -> Result<Part, Stop>
     requires ended { ends tokens.now.tokens ≡ true }
-    ensures { HasParts start tokens.now result }
+    ensures { HasRead start the_part tokens.now result }
 {
     let mut machine = begin(alloc, start)?;
     let mut stand = at_first();
@@ -148,7 +148,7 @@ fn read_parts(alloc: Global, start: Start, tokens: &Tokens) -> Result<Parts, Sto
         stand = next;
     }
     match machine.pending.pop() {
-        None => Ok(machine.parts),
+        None => Ok(machine.parts.pop()),
         Some(_) => unreachable!(),
     }
 }
@@ -163,8 +163,8 @@ pub fn read_expr(alloc: Global, tokens: &Tokens) -> Result<Expr, Stop>
     requires ended { ends tokens.now.tokens ≡ true }
     ensures { HasRead start.Expr expr_in tokens.now result }
 {
-    let mut parts = read_parts(alloc, Start::Expr, tokens)?;
-    Ok(expr_of(alloc, parts.pop()))
+    let part = read_part(alloc, Start::Expr, tokens)?;
+    Ok(expr_of(alloc, part))
 }
 
 /// The arguments that tokens are, refused as an expression's tokens are.
@@ -172,8 +172,8 @@ pub fn read_args(alloc: Global, tokens: &Tokens) -> Result<Args, Stop>
     requires ended { ends tokens.now.tokens ≡ true }
     ensures { HasRead start.Args exprs_in tokens.now result }
 {
-    let mut parts = read_parts(alloc, Start::Args, tokens)?;
-    Ok(args_of(alloc, parts.pop()))
+    let part = read_part(alloc, Start::Args, tokens)?;
+    Ok(args_of(alloc, part))
 }
 
 /// The simple statements of a line, refused as an expression's tokens are.
@@ -181,10 +181,10 @@ pub fn read_simple(alloc: Global, tokens: &Tokens) -> Result<Program, Stop>
     requires ended { ends tokens.now.tokens ≡ true }
     ensures { HasRead start.Line (program_in tokens.now.file) tokens.now result }
 {
-    let mut parts = read_parts(alloc, Start::Line, tokens)?;
+    let part = read_part(alloc, Start::Line, tokens)?;
     Ok(Program {
         file: tokens.file,
-        code: code_of(alloc, parts.pop()),
+        code: code_of(alloc, part),
     })
 }
 
@@ -193,8 +193,8 @@ pub fn read_header(alloc: Global, tokens: &Tokens) -> Result<Header, Stop>
     requires ended { ends tokens.now.tokens ≡ true }
     ensures { HasRead start.Header head_in tokens.now result }
 {
-    let mut parts = read_parts(alloc, Start::Header, tokens)?;
-    Ok(header_in(code_of(alloc, parts.pop())))
+    let part = read_part(alloc, Start::Header, tokens)?;
+    Ok(header_in(code_of(alloc, part)))
 }
 
 /// The statements of a file, refused as an expression's tokens are, or TooDeep on the line of a token
@@ -203,9 +203,9 @@ pub fn read_file(alloc: Global, tokens: &Tokens) -> Result<Program, Stop>
     requires ended { ends tokens.now.tokens ≡ true }
     ensures { HasRead start.File (program_in tokens.now.file) tokens.now result }
 {
-    let mut parts = read_parts(alloc, Start::File, tokens)?;
+    let part = read_part(alloc, Start::File, tokens)?;
     Ok(Program {
         file: tokens.file,
-        code: code_of(alloc, parts.pop()),
+        code: code_of(alloc, part),
     })
 }

@@ -3,10 +3,8 @@ pub mod Binding
 pub mod Blocks
 pub mod Calls
 pub mod Code
-pub mod EachReader
 pub mod Eval
 pub mod Flow
-pub mod Grammar
 pub mod Held
 pub mod Keys
 pub mod Lambdas
@@ -20,5 +18,4 @@ pub mod Outcomes
 pub mod Program
 pub mod Reading
 pub mod Store
-pub mod Tokens
 pub mod Values

@@ -11,7 +11,8 @@ use Rattle.yaml_noted.specs.View as held
 use Rattle.yaml_noted.specs.View.{note_of, noted_of}
 use Rattle.yaml_noted.proofs.Views.{noted_of-item}
 use Rattle.star_spec.specs.Program.{ItemKind}
-use Rattle.star_spec.specs.Reading.{IsReader, Reader}
+use Rattle.star_spec.specs.Reading.{Reader}
+use Rattle.star_grammar.specs.Flat.{IsReader}
 use Rattle.template_spec.specs.Placed.{PlacedItem, PlacedItems}
 use Rattle.template_spec.specs.Placing.{before_items, placed_each}
 use Rattle.template_spec.specs.Template.{Item, Items, no_items, an_item}

@@ -5,7 +5,7 @@ ghost use Rattle.ytt_base.specs.declared.fault.FaultKind.TheVariants as kind;
 ghost use Rattle.ytt_base.specs.declared.fault.Stop.TheVariants as stop;
 ghost use Rattle.yaml_noted.specs.View.{comment_of};
 ghost use Rattle.yaml_spec.specs.Noted.{code_in, is_code};
-ghost use Rattle.star_spec.specs.EachReader.{GivesRead};
+ghost use Rattle.star_grammar.specs.EachReader.{GivesRead};
 ghost use Rattle.template_spec.specs.Placing.{code_value};
 ghost use Rattle.template_tree.specs.Parts.{value_of};
 

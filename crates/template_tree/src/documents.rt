@@ -4,7 +4,7 @@ ghost use Rattle.ytt_base.specs.Outcomes.{Gives};
 ghost use Rattle.yaml_noted.specs.View as held;
 ghost use Rattle.yaml_noted.specs.View.{documents_of, note_of};
 ghost use Rattle.star_spec.specs.Program.{document_item};
-ghost use Rattle.star_spec.specs.EachReader.{GivesRead};
+ghost use Rattle.star_grammar.specs.EachReader.{GivesRead};
 ghost use Rattle.template_spec.specs.Placed.{Placed, PlacedItem, PlacedItems};
 ghost use Rattle.template_spec.specs.Placing.{map_in, placed, placed_document, placed_documents};
 ghost use Rattle.template_spec.specs.WellNested.{Ways};

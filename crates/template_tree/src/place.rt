@@ -6,7 +6,7 @@ ghost use Rattle.ytt_base.specs.View.{key_of, tree_of};
 ghost use Rattle.yaml_noted.specs.View as held;
 ghost use Rattle.yaml_noted.specs.View.{comment_of, note_of};
 ghost use Rattle.star_spec.specs.Program.{pair_item};
-ghost use Rattle.star_spec.specs.EachReader.{GivesRead};
+ghost use Rattle.star_grammar.specs.EachReader.{GivesRead};
 ghost use Rattle.template_spec.specs.Placed.{PlacedItem, PlacedItems};
 ghost use Rattle.template_spec.specs.Placing.{content_beside, own_place, placed_pair, placed_pairs, scalar_in};
 ghost use Rattle.template_spec.specs.Template as plain;

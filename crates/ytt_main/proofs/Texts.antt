@@ -7,8 +7,9 @@ use Rattle.ytt_base.specs.declared.fault.Stop.{Stop}
 use Rattle.ytt_base.specs.declared.tree.Tree.{Tree}
 use Rattle.yaml_spec.specs.Noted.{Documents, has_code}
 use Rattle.yaml_spec.specs.Read.{plain_trees}
-use Rattle.star_spec.specs.EachReader.{GivesRead}
-use Rattle.star_spec.specs.Reading.{IsReader, Reader}
+use Rattle.star_spec.specs.Reading.{Reader}
+use Rattle.star_grammar.specs.EachReader.{GivesRead}
+use Rattle.star_grammar.specs.Flat.{IsReader}
 use Rattle.template_spec.specs.Placing.{placed}
 use Rattle.ytt_spec.proofs.HeldBuilt.{text_written}
 use Rattle.ytt_spec.specs.Meaning.{built, documents_meaning, text_meaning}

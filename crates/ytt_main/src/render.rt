@@ -4,7 +4,7 @@ ghost use Rattle.ytt_base.specs.Outcomes.{and_then};
 ghost use Rattle.ytt_base.specs.Trees.{AreTrees, Writable};
 ghost use Rattle.ytt_base.specs.View.{trees_of};
 ghost use Rattle.yaml_noted.specs.View.{documents_of};
-ghost use Rattle.star_spec.specs.EachReader.{GivesRead};
+ghost use Rattle.star_grammar.specs.EachReader.{GivesRead};
 ghost use Rattle.template_spec.specs.Placing.{placed};
 ghost use Rattle.ytt_spec.specs.Meaning.{Means, built, documents_meaning, file_names, gives_documents, has_ending, last_part, path_fault, text_meaning};
 ghost use Rattle.ytt_main.specs.Asks.{command_of};

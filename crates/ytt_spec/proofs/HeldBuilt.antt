@@ -11,7 +11,8 @@ use Rattle.yaml_held.proofs.Shallow.{reads_writable}
 use Rattle.star_spec.specs.Calls.{no_natives}
 use Rattle.star_spec.specs.Eval.{starlark}
 use Rattle.star_spec.specs.Outcomes.{Ending, done, bad}
-use Rattle.star_spec.specs.Reading.{Reader, IsReader}
+use Rattle.star_spec.specs.Reading.{Reader}
+use Rattle.star_grammar.specs.Flat.{IsReader}
 use Rattle.star_spec.proofs.CallsKeep.{no_natives_keep, starlark_keeps}
 use Rattle.star_spec.proofs.Keeping.{Kept}
 use Rattle.template_spec.specs.Files.{FileResult, nothing_to_load}

@@ -3,7 +3,7 @@ use Rattle.std.specs.Prelude.{ℕ, List, [], ◌∷◌, ◌++◌, codes, decimal
 use Rattle.ytt_base.specs.FaultText.{fault_line}
 use Rattle.ytt_outside.specs.Standing.{Standing}
 use Rattle.yaml_spec.specs.Text.{Text}
-use Rattle.star_spec.specs.EachReader.{MeansRead}
+use Rattle.star_grammar.specs.EachReader.{MeansRead}
 use Rattle.star_spec.specs.Reading.{Reader}
 use Rattle.ytt_spec.specs.Meaning.{Meant, meaning}
 use Rattle.ytt_spec.specs.Words.{Asked, asked_for, wrong, asked}

@@ -10,7 +10,7 @@ use Rattle.ytt_outside.specs.Standing.{Standing, nothing, file, folder}
 use Rattle.yaml_spec.specs.Noted.{Documents, has_code}
 use Rattle.yaml_spec.specs.Read.{Read, plain_trees}
 use Rattle.star_spec.specs.Calls.{Host, no_natives}
-use Rattle.star_spec.specs.EachReader.{MeansRead}
+use Rattle.star_grammar.specs.EachReader.{MeansRead}
 use Rattle.star_spec.specs.Eval.{starlark}
 use Rattle.star_spec.specs.Outcomes.{State, Ending, done, bad}
 use Rattle.star_spec.specs.Reading.{Reader}

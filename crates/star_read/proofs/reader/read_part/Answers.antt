@@ -4,14 +4,15 @@ use Rattle.ytt_base.specs.declared.fault.Stop.{Stop}
 use Rattle.star_grammar.specs.declared.start.Start.{Start}
 use Rattle.star_grammar.specs.Reading.{max_height, IsRead, Refusal, code_form, too_deep, Refuses}
 use Rattle.star_token.specs.declared.found.Tokens.{Tokens}
-use Rattle.star_read.specs.Answers.{HasParts, told}
+use Rattle.star_read.specs.Answers.{HasRead, the_part, told}
 use Rattle.star_read.specs.Turns.{weigh, value_of}
 use Rattle.star_read.proofs.Answering.{turn, refused_form, refused_deep, stands_on, still_anchored, whole, all_read}
-use Rattle.star_read.proofs.reader.read_parts.Goals as goal
+use Rattle.star_read.proofs.OnePart.{one_read}
+use Rattle.star_read.proofs.reader.read_part.Goals as goal
 
-told_parts : (s : Start) (ts : Tokens) (r : Refusal) (x : Stop) → x ≡ told ts.file r → Refuses s ts.tokens r → HasParts s ts (Err x)
-told_parts s ts (code_form l) x e h = rw e (code_form l, refl, h)
-told_parts s ts (too_deep l) x e h = rw e (too_deep l, refl, h)
+told_part : (s : Start) (ts : Tokens) (r : Refusal) (x : Stop) → x ≡ told ts.file r → Refuses s ts.tokens r → HasRead s the_part ts (Err x)
+told_part s ts (code_form l) x e h = rw e (code_form l, refl, h)
+told_part s ts (too_deep l) x e h = rw e (too_deep l, refl, h)
 
 pub returns-then-not-branch : goal.returns-then-not-branch
 returns-then-not-branch c =
@@ -19,7 +20,7 @@ returns-then-not-branch c =
     let k = c.token-item.result in
     let h = refused_form c.args.start c.as_slice-found.result.now at.token-index k at.machine.pending (value_of at.machine) c.loop-token-test.true c.token-item.is at.invariant.same at.stand at.invariant.stand_is
     (rw c.if-not-branch.true at c.in_ok-step.ensures) in
-    told_parts c.args.start c.args.tokens.now _ c.refuse.result c.refuse.ensures (rw c.as_slice-found.ensures at h)
+    told_part c.args.start c.args.tokens.now _ c.refuse.result c.refuse.ensures (rw c.as_slice-found.ensures at h)
 
 pub returns-then-not-branch-2 : goal.returns-then-not-branch-2
 returns-then-not-branch-2 c =
@@ -28,7 +29,7 @@ returns-then-not-branch-2 c =
     let high : max_height < weigh c.step.new.machine.pending c.step.new.machine.shapes = grind (arith, common_steps) in
     let h = refused_deep c.args.start c.as_slice-found.result.now at.token-index k at.machine.pending (value_of at.machine) c.loop-token-test.true c.token-item.is at.invariant.same at.stand
     c.step.new.machine.pending (value_of c.step.new.machine) at.invariant.stand_is (rw c.if-not-branch.false at c.in_ok-step.ensures) high in
-    told_parts c.args.start c.args.tokens.now (too_deep c.stand_after-next.result.line) c.fault.result c.fault.ensures (rw (c.stand_after-next.ensures, c.kind_of.ensures) (rw c.as_slice-found.ensures at h))
+    told_part c.args.start c.args.tokens.now (too_deep c.stand_after-next.result.line) c.fault.result c.fault.ensures (rw (c.stand_after-next.ensures, c.kind_of.ensures) (rw c.as_slice-found.ensures at h))
 
 pub loop-token-preserved : goal.loop-token-preserved
 loop-token-preserved c =
@@ -54,4 +55,4 @@ pub returns : goal.returns
 returns c =
     let at = c.loop-token in
     let h : IsRead c.args.start c.as_slice-found.result.now at.machine.parts = whole c.args.start c.as_slice-found.result.now at.token-index (value_of at.machine) (omega arith) (rw c.in-None.ensures.0 at at.invariant.same) in
-    rw c.as_slice-found.ensures at h
+    one_read c.args.start c.args.tokens.now.tokens at.machine.parts c.pop-in-None.result (rw c.as_slice-found.ensures at h) c.pop-in-None.ensures.value

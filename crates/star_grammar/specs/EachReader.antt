@@ -2,7 +2,8 @@
 use Rattle.std.specs.Prelude.{◌≡◌, Result}
 use Rattle.ytt_base.specs.Outcomes.{Gives, Outcome}
 use Rattle.ytt_base.specs.declared.fault.Stop.{Stop}
-use Rattle.star_spec.specs.Reading.{IsReader, Reader}
+use Rattle.star_spec.specs.Reading.{Reader}
+use Rattle.star_grammar.specs.Flat.{IsReader}
 
 -- What a call returned is the outcome by each of them; want of memory says nothing.
 abbrev pub GivesRead : {A B : Type 0} → (A → B) → Result A Stop → (Reader → Outcome B) → Type 0
