@@ -4,5 +4,6 @@ pub mod Deciding
 pub mod Flattened
 pub mod Lists
 pub mod OnePart
+pub mod Refusing
 pub mod Turning
 pub mod Views

@@ -50,6 +50,10 @@ OneTree = (s : Start) (ts : List Token) (ps qs : List Part) → IsRead s ts ps �
 abbrev pub EachIsRead : Type 0
 EachIsRead = (s : Start) (ts : List Token) → ends ts ≡ true → ((ps : List Part) × IsRead s ts ps) ⊎ ((r : Refusal) × Refuses s ts r)
 
+-- and for one reason
+abbrev pub OneRefusal : Type 0
+OneRefusal = (s : Start) (ts : List Token) (r q : Refusal) → Refuses s ts r → Refuses s ts q → r ≡ q
+
 -- none are both
 abbrev pub NeverBoth : Type 0
 NeverBoth = (s : Start) (ts : List Token) (ps : List Part) (r : Refusal) → IsRead s ts ps → Refuses s ts r → ⊥

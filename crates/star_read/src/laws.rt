@@ -1,5 +1,5 @@
 // What holds of all tokens.
-ghost use Rattle.star_read.specs.Answers.{EachIsRead, NeverBoth, OneTree};
+ghost use Rattle.star_read.specs.Answers.{EachIsRead, NeverBoth, OneRefusal, OneTree};
 
 /// Tokens have at most one tree.
 pub fn one_tree()
@@ -9,6 +9,11 @@ pub fn one_tree()
 /// Tokens that end are read or refused.
 pub fn each_is_read()
     ensures { EachIsRead }
+{}
+
+/// They are refused for one reason.
+pub fn one_refusal()
+    ensures { OneRefusal }
 {}
 
 /// None are both.

@@ -49,9 +49,8 @@ fn pass_all(items: &[Item], shapes: &mut Shapes) -> Result<(), Memory>
 
 /// Whether a text that goes on so may be no higher than an expression may be.
 ///
-/// It walks over all items. Their number is bounded, since each bracket and each operation that waits for
-/// an operand makes the text higher, and so does each open block wait for its end: by a few for each level
-/// and each block.
+/// It walks over all items. A text that may go on has at most 100 levels and 50 blocks open, and each
+/// of them has a few items, so the walk is bounded whatever the length of the text.
 pub fn is_low(alloc: Global, pending: &Pending, shapes: &Shapes) -> Result<bool, Memory>
     ensures { IfOk result (λ b. IsTrue b ↔ (weigh pending.now shapes.now ≤ max_height)) }
 {
