@@ -1,3 +1,4 @@
+pub mod CodeReaders
 pub mod Effects
 pub mod Language
 pub mod Machine
