@@ -89,3 +89,4 @@ pub record CodeReadersAgree : Type 0 where
   pub args : (r s : CodeReader) → IsCodeReader r → IsCodeReader s → (place : Place) (text : List ℕ) → r.args place text ≡ s.args place text
   pub simple : (r s : CodeReader) → IsCodeReader r → IsCodeReader s → (place : Place) (text : List ℕ) → r.simple place text ≡ s.simple place text
   pub header : (r s : CodeReader) → IsCodeReader r → IsCodeReader s → (place : Place) (text : List ℕ) → r.header place text ≡ s.header place text
+  pub is_open : (r s : CodeReader) → IsCodeReader r → IsCodeReader s → (place : Place) (text : List ℕ) → r.is_open place text ≡ s.is_open place text

@@ -1,11 +1,11 @@
 -- What a comment of a template says. How its code is read is a parameter.
-use Rattle.std.specs.Prelude.{ℕ, Bool, true, false, not, ◌&&◌, ◌||◌, ◌==◌, if◌then◌else◌, List, [], ◌∷◌, ◌++◌, codes, length, drop, slice_index, bytes_eq, Some, Ok, Err}
+use Rattle.std.specs.Prelude.{ℕ, Bool, true, false, not, ◌&&◌, ◌||◌, ◌==◌, if◌then◌else◌, List, [], ◌∷◌, ◌++◌, codes, length, drop, Some, Ok, Err}
 use Rattle.std.specs.Char.{is_ascii_alphanumeric}
-use Rattle.std.specs.List.{after_first, before_first, list_any, prefix_len, starts_with}
+use Rattle.std.specs.List.{after_first, before_first, list_any, starts_with}
 use Rattle.ytt_base.specs.declared.fault.FaultKind.TheVariants as kind
 use Rattle.ytt_base.specs.declared.fault.Place.{Place}
 use Rattle.ytt_base.specs.Outcomes.{Outcome, ◌>>=◌}
-use Rattle.yaml_spec.specs.Bytes.{is_white, space}
+use Rattle.yaml_spec.specs.Bytes.{first, is_word, skip_white, space}
 use Rattle.yaml_spec.specs.Noted.{Comment, is_note, is_code, code_in}
 use Rattle.yaml_spec.specs.Refusals.{refused}
 use Rattle.star_spec.specs.Code.{Name, Expr, Exprs, no_exprs, an_expr}
@@ -40,9 +40,6 @@ note_names =
     ∷ codes "overlay/match" ∷ codes "overlay/match-child-defaults" ∷ codes "overlay/merge" ∷ codes "overlay/remove"
     ∷ codes "overlay/replace" ∷ codes "overlay/insert" ∷ codes "overlay/append" ∷ codes "overlay/assert" ∷ []
 
-abbrev pub is_note_name : Name → Bool
-is_note_name x = list_any (λ n. bytes_eq n x) note_names
-
 -- notes of documents alone
 abbrev pub is_data_note : Name → Bool
 is_data_note x = begins x (codes "data/")
@@ -70,7 +67,7 @@ unknown_note place x = Err (record { kind = kind.NoteUnknown; place = Some place
 abbrev pub note_said : CodeReader → Place → (text : List ℕ) → Outcome Said
 note_said r place [] = refused kind.NoteForm place
 note_said r place (b ∷ bs) =
-    if is_note_name (name_in (b ∷ bs)) then r.args place (arguments_in (b ∷ bs)) >>= note_with place (name_in (b ∷ bs)) else unknown_note place (name_in (b ∷ bs))
+    if is_word note_names (name_in (b ∷ bs)) then r.args place (arguments_in (b ∷ bs)) >>= note_with place (name_in (b ∷ bs)) else unknown_note place (name_in (b ∷ bs))
 
 -- ---- heads and ends of blocks
 
@@ -78,19 +75,16 @@ note_said r place (b ∷ bs) =
 abbrev pub in_word : ℕ → Bool
 in_word b = is_ascii_alphanumeric b || b == 95
 
-abbrev pub after_white : List ℕ → List ℕ
-after_white text = drop (prefix_len is_white text) text
-
 -- the text begins with this word, which ends there
 abbrev pub begins_with_word : List ℕ → (word : List ℕ) → Bool
-begins_with_word text word = begins text word && not (in_word (slice_index text (length word)))
+begins_with_word text word = begins text word && not (in_word (first (drop (length word) text)))
 
 abbrev pub header_words : List (List ℕ)
 header_words = codes "if" ∷ codes "elif" ∷ codes "else" ∷ codes "for" ∷ codes "def" ∷ codes "end" ∷ []
 
 -- the code is the head or the end of a block
 abbrev pub is_header : (code : List ℕ) → Bool
-is_header code = list_any (begins_with_word (after_white code)) header_words
+is_header code = list_any (begins_with_word (skip_white code)) header_words
 
 abbrev pub opening_words : List (List ℕ)
 opening_words = codes "if" ∷ codes "for" ∷ codes "def" ∷ []
@@ -100,12 +94,12 @@ for_one_word word = word ++ codes "/end"
 
 -- it begins with `if/end`, `for/end` or `def/end`
 abbrev pub is_for_one : (code : List ℕ) → Bool
-is_for_one code = list_any (λ word. begins_with_word (after_white code) (for_one_word word)) opening_words
+is_for_one code = list_any (λ word. begins_with_word (skip_white code) (for_one_word word)) opening_words
 
 abbrev pub without_end_of : (words : List (List ℕ)) → (code : List ℕ) → List ℕ
 without_end_of [] code = code
 without_end_of (word ∷ words) code =
-    if begins_with_word (after_white code) (for_one_word word) then word ++ drop (length (for_one_word word)) (after_white code) else without_end_of words code
+    if begins_with_word (skip_white code) (for_one_word word) then word ++ drop (length (for_one_word word)) (skip_white code) else without_end_of words code
 
 -- the code without the `/end` of its head
 abbrev pub without_end : (code : List ℕ) → List ℕ

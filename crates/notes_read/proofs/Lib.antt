@@ -1,0 +1,4 @@
+pub mod Gives
+pub mod Readers
+pub mod Reading
+pub mod Refusing
