@@ -2,3 +2,6 @@ pub mod Gives
 pub mod Readers
 pub mod Reading
 pub mod Refusing
+pub mod Saying
+pub mod Splitting
+pub mod Texts

@@ -1,5 +1,5 @@
 -- Some reader reads code as the grammar says, and any two read each text as the same.
-use Rattle.std.proofs.Common.{◌≡◌, ℕ, List, Result, Ok, Err, refl, sym, ◌∙◌, inl, inr, ⊎_elim}
+use Rattle.std.proofs.Common.{◌≡◌, ℕ, List, Ok, Err, refl, sym, ◌∙◌, inl, inr, ⊎_elim}
 use Rattle.ytt_base.specs.declared.fault.Place.{Place}
 use Rattle.ytt_base.specs.Outcomes.{Outcome, fault_at, place_at}
 use Rattle.star_tree.specs.Whole.{expr_of, exprs_of, header_of, instructions_of}
@@ -7,7 +7,6 @@ use Rattle.star_grammar.specs.declared.part.Part.{Part}
 use Rattle.star_grammar.specs.declared.start.Start.{Start}
 use Rattle.star_grammar.specs.declared.start.Start.TheVariants as start
 use Rattle.star_grammar.specs.declared.token.Origin.TheVariants as origin
-use Rattle.star_grammar.specs.declared.token.Token.{Token}
 use Rattle.star_grammar.specs.CodeReaders.{tokens_at, leaves_open, ReadsAs, refusal_fault, ACodeReaderExists, CodeReadersAgree}
 use Rattle.star_grammar.specs.Parts.{top, expr_in, exprs_in, code_in}
 use Rattle.star_grammar.specs.Reading.{header_in}

@@ -1,6 +1,6 @@
 -- Each text is read as one thing.
 use Rattle.std.proofs.Common.{◌≡◌, ℕ, List, Result, Ok, Err, refl, sym, ap, ◌∙◌, subst, inl, inr, ⊎_elim}
-use Rattle.std.specs.Prelude.{◌⊎◌, true}
+use Rattle.std.specs.Prelude.{◌⊎◌}
 use Rattle.ytt_base.specs.declared.fault.Fault.{Fault}
 use Rattle.ytt_base.specs.declared.fault.Place.{Place}
 use Rattle.ytt_base.specs.declared.fault.Stop.{Stop}
@@ -10,7 +10,7 @@ use Rattle.star_grammar.specs.declared.part.Part.{Part}
 use Rattle.star_grammar.specs.declared.start.Start.{Start}
 use Rattle.star_grammar.specs.declared.token.Origin.TheVariants as origin
 use Rattle.star_grammar.specs.declared.token.Token.{Token}
-use Rattle.star_grammar.specs.CodeReaders.{tokens_at, IsTree, IsNoToken, IsRefused, ReadsAs, refusal_fault}
+use Rattle.star_grammar.specs.CodeReaders.{IsTree, IsNoToken, IsRefused, ReadsAs, refusal_fault}
 use Rattle.star_grammar.specs.Parts.{top}
 use Rattle.star_grammar.specs.Reading.{IsRead, Refusal, code_form, too_deep, Refuses}
 use Rattle.star_grammar.specs.Tokens.{Refused, Tokens}

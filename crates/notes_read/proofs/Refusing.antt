@@ -1,6 +1,6 @@
 -- Tokens are refused for one reason.
 use Rattle.std.proofs.Common.{◌≡◌, List, [], ◌∷◌, ◌++◌, refl, sym, ap, ◌∙◌, subst, ⊎_elim, append_assoc}
-use Rattle.std.specs.Prelude.{ℕ, Bool, true, false, ◌⊎◌, if◌then◌else◌}
+use Rattle.std.specs.Prelude.{ℕ, Bool, true, false, if◌then◌else◌}
 use Rattle.ll.specs.Grammar.{Front, Parses}
 use Rattle.star_grammar.specs.declared.start.Start.{Start}
 use Rattle.star_grammar.specs.declared.token.Token.{Token}

@@ -8,6 +8,10 @@
 mod code;
 mod comment;
 mod laws;
+mod notes;
+mod reader;
+mod words;
 
 pub use comment::Comment;
 pub use laws::{a_code_reader_exists, code_readers_agree};
+pub use reader::{is_open, read_comment};

@@ -5,7 +5,7 @@ use Rattle.std.specs.List.{after_first, before_first, list_any, starts_with}
 use Rattle.ytt_base.specs.declared.fault.FaultKind.TheVariants as kind
 use Rattle.ytt_base.specs.declared.fault.Place.{Place}
 use Rattle.ytt_base.specs.Outcomes.{Outcome, ◌>>=◌}
-use Rattle.yaml_spec.specs.Bytes.{first, is_word, skip_white, space}
+use Rattle.yaml_spec.specs.Bytes.{first, is_empty, is_word, skip_white, space}
 use Rattle.yaml_spec.specs.Noted.{Comment, is_note, is_code, code_in}
 use Rattle.yaml_spec.specs.Refusals.{refused}
 use Rattle.star_spec.specs.Code.{Name, Expr, Exprs, no_exprs, an_expr}
@@ -63,11 +63,15 @@ note_with place x (an_expr e es) = if is_bare_note x then refused kind.NoteForm 
 abbrev pub unknown_note : Place → Name → Outcome Said
 unknown_note place x = Err (record { kind = kind.NoteUnknown; place = Some place; detail = x })
 
+-- a note of a known name, with the arguments that this text is
+abbrev pub known_said : CodeReader → Place → Name → (arguments : List ℕ) → Outcome Said
+known_said r place x arguments = r.args place arguments >>= note_with place x
+
 -- a note, from behind its `#@`
 abbrev pub note_said : CodeReader → Place → (text : List ℕ) → Outcome Said
-note_said r place [] = refused kind.NoteForm place
-note_said r place (b ∷ bs) =
-    if is_word note_names (name_in (b ∷ bs)) then r.args place (arguments_in (b ∷ bs)) >>= note_with place (name_in (b ∷ bs)) else unknown_note place (name_in (b ∷ bs))
+note_said r place text =
+    if is_empty text then refused kind.NoteForm place
+    else if is_word note_names (name_in text) then known_said r place (name_in text) (arguments_in text) else unknown_note place (name_in text)
 
 -- ---- heads and ends of blocks
 
@@ -113,24 +117,30 @@ header_said z h = Ok (opens h z)
 
 -- ---- comments
 
+-- the head or the end of a block
+abbrev pub head_said : CodeReader → Place → (code : List ℕ) → Outcome Said
+head_said r place code = r.header place (without_end code) >>= header_said (is_for_one code)
+
+abbrev pub statements_said : CodeReader → Place → (code : List ℕ) → Outcome Said
+statements_said r place code = r.simple place code >>= (λ is. Ok (statements is))
+
 -- code on a line of its own
 abbrev pub code_said : CodeReader → Place → (code : List ℕ) → Outcome Said
-code_said r place code =
-    if is_header code then r.header place (without_end code) >>= header_said (is_for_one code) else r.simple place code >>= (λ is. Ok (statements is))
+code_said r place code = if is_header code then head_said r place code else statements_said r place code
 
--- code on the line of an item, or on a line of its own
-abbrev pub code_beside_or_alone : CodeReader → Place → (own_line : Bool) → (code : List ℕ) → Outcome Said
-code_beside_or_alone r place true code = code_said r place code
-code_beside_or_alone r place false code = r.expr place code >>= (λ e. Ok (a_value e))
+-- code on the line of an item, which is its value expression
+abbrev pub value_said : CodeReader → Place → (code : List ℕ) → Outcome Said
+value_said r place code = r.expr place code >>= (λ e. Ok (a_value e))
 
--- a comment that begins with `#@`
-abbrev pub marked_said : CodeReader → Place → Comment → Outcome Said
-marked_said r place c = if is_code c.text then code_beside_or_alone r place c.own_line (code_in c.text) else note_said r place (drop 2 c.text)
+-- a comment that begins with `#@`: with a space behind it code, else a note
+abbrev pub marked_said : CodeReader → Place → (own_line : Bool) → (text : List ℕ) → Outcome Said
+marked_said r place own_line text =
+    if is_code text then (if own_line then code_said r place (code_in text) else value_said r place (code_in text)) else note_said r place (drop 2 text)
 
 -- a comment that doesn't begin with `#@`: after `#!` it is ignored, any other only under `--ignore-unknown-comments`
-abbrev pub plain_said : (ignore_unknown : Bool) → Place → Comment → Outcome Said
-plain_said ignore place c = if begins c.text (codes "#!") || ignore then Ok ignored else refused kind.PlainComment place
+abbrev pub plain_said : (ignore_unknown : Bool) → Place → (text : List ℕ) → Outcome Said
+plain_said ignore place text = if begins text (codes "#!") || ignore then Ok ignored else refused kind.PlainComment place
 
 -- what a comment of a template says, or the first fault in it
 unfoldable pub comment_said : CodeReader → (ignore_unknown : Bool) → Place → Comment → Outcome Said
-comment_said r ignore place c = if is_note c.text then marked_said r place c else plain_said ignore place c
+comment_said r ignore place c = if is_note c.text then marked_said r place c.own_line c.text else plain_said ignore place c.text

@@ -1,8 +1,7 @@
 use Rattle.star_tree.specs.Whole.{expr_of}
 use Rattle.star_grammar.specs.declared.start.Start.TheVariants as start
 use Rattle.star_grammar.specs.Parts.{expr_in}
-use Rattle.star_read.specs.Answers.{told}
-use Rattle.notes_read.proofs.Reading.{gives_read, gives_cut}
+use Rattle.notes_read.proofs.Reading.{gives_read}
 use Rattle.notes_read.proofs.code.read_expr.Goals as goal
 
 pub returns : goal.returns

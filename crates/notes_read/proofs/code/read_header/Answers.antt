@@ -1,8 +1,7 @@
 use Rattle.star_tree.specs.Whole.{header_of}
 use Rattle.star_grammar.specs.declared.start.Start.TheVariants as start
-use Rattle.star_grammar.specs.Parts.{code_in}
 use Rattle.star_read.specs.Answers.{head_in}
-use Rattle.notes_read.proofs.Reading.{gives_read, gives_cut}
+use Rattle.notes_read.proofs.Reading.{gives_read}
 use Rattle.notes_read.proofs.code.read_header.Goals as goal
 
 pub returns : goal.returns

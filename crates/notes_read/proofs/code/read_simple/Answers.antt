@@ -4,9 +4,8 @@ use Rattle.star_tree.specs.declared.code.Program.{Program}
 use Rattle.star_token.specs.declared.found.Tokens as held
 use Rattle.star_tree.specs.Whole.{program_of}
 use Rattle.star_grammar.specs.declared.start.Start.TheVariants as start
-use Rattle.star_grammar.specs.Parts.{code_in}
 use Rattle.star_read.specs.Answers.{HasRead, program_in}
-use Rattle.notes_read.proofs.Reading.{gives_read, gives_cut}
+use Rattle.notes_read.proofs.Reading.{gives_read}
 use Rattle.notes_read.proofs.code.read_simple.Goals as goal
 
 -- the program has the number of this file
