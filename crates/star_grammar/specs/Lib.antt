@@ -1,3 +1,4 @@
+pub mod CodeReaders
 pub mod EachReader
 pub mod Effects
 pub mod Flat

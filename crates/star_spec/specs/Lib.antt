@@ -3,6 +3,7 @@ pub mod Binding
 pub mod Blocks
 pub mod Calls
 pub mod Code
+pub mod CodeReading
 pub mod Eval
 pub mod Flow
 pub mod Held

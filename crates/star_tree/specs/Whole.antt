@@ -2,6 +2,7 @@
 use Rattle.std.specs.Prelude.{ℕ, List, [], ◌∷◌, Option, Some, None, map as each}
 use Rattle.ytt_base.specs.Outcomes.{place_at}
 use Rattle.star_spec.specs.Code as plain
+use Rattle.star_spec.specs.CodeReading as read
 use Rattle.star_spec.specs.Program as program
 use Rattle.star_tree.specs.declared.code.UnOp.{UnOp}
 use Rattle.star_tree.specs.declared.code.UnOp.TheVariants as unary
@@ -10,6 +11,8 @@ use Rattle.star_tree.specs.declared.code.BinOp.TheVariants as binary
 use Rattle.star_tree.specs.declared.code.Expr.{Expr, fold-Expr}
 use Rattle.star_tree.specs.declared.code.Param.{Param, fold-Param}
 use Rattle.star_tree.specs.declared.code.Clause.TheOpen.{Expr-F, Clause-F, Entry-F, Param-F, Piece-F}
+use Rattle.star_tree.specs.declared.code.Header.{Header}
+use Rattle.star_tree.specs.declared.code.Header.TheVariants as header
 use Rattle.star_tree.specs.declared.code.Loaded.{Loaded}
 use Rattle.star_tree.specs.declared.code.Stmt.{Stmt}
 use Rattle.star_tree.specs.declared.code.Stmt.TheVariants as stmt
@@ -171,5 +174,18 @@ instruction_of file (stmt.For l t e) = program.begin_for (place_at file l) (expr
 instruction_of file (stmt.Def l x ps) = program.begin_def (place_at file l) 0 None x (parameters_of file ps)
 instruction_of file (stmt.Close l) = program.close (place_at file l)
 
+abbrev pub instructions_of : (file : ℕ) → List Stmt → List program.Instruction
+instructions_of file ss = each (instruction_of file) ss
+
 abbrev pub program_of : Program → List program.Instruction
-program_of p = each (instruction_of p.file) p.code
+program_of p = instructions_of p.file p.code
+
+-- ---- heads and ends of blocks in a template
+
+abbrev pub header_of : (file : ℕ) → Header → read.Header
+header_of file (header.If e) = read.if_header (expr_of file e)
+header_of file (header.Elif e) = read.elif_header (expr_of file e)
+header_of file header.Else = read.else_header
+header_of file (header.For t e) = read.for_header (expr_of file t) (expr_of file e)
+header_of file (header.Def x ps) = read.def_header x (parameters_of file ps)
+header_of file header.End = read.end_header

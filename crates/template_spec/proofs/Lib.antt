@@ -13,3 +13,4 @@ pub mod PlacingPlaced
 pub mod Runs
 pub mod TakeKeeps
 pub mod Theorem
+pub mod WholeExamples

@@ -1,12 +1,17 @@
 pub mod Adding
 pub mod Build
 pub mod Calls
+pub mod Comments
 pub mod Compiled
 pub mod ControlWords
+pub mod Events
 pub mod Files
 pub mod Meaning
+pub mod Misplaced
 pub mod Names
+pub mod Nesting
 pub mod Numbered
+pub mod OpenBlocks
 pub mod Placed
 pub mod Placing
 pub mod Run

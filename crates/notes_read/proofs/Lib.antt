@@ -1,0 +1,7 @@
+pub mod Gives
+pub mod Readers
+pub mod Reading
+pub mod Refusing
+pub mod Saying
+pub mod Splitting
+pub mod Texts

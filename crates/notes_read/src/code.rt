@@ -1,0 +1,46 @@
+// The code of comments.
+ghost use Rattle.std.specs.Prelude.{◌≡◌};
+ghost use Rattle.star_grammar.specs.CodeReaders.{GivesCode};
+ghost use Rattle.star_tree.specs.Whole as whole;
+
+use star_read as read;
+use star_token::tokens;
+use star_tree::code::{Args, Expr, Header, Program};
+use std::alloc::Global;
+use ytt_base::fault::{Place, Stop};
+use ytt_base::text::Text;
+
+/// The expression that code is, whose first line is this place's.
+pub fn read_expr(alloc: Global, code: &str, at: Place) -> Result<Expr, Stop>
+    ensures { GivesCode (whole.expr_of at.file) result (λ r. r.expr at code.now) }
+{
+    let text = Text::of(alloc, code)?;
+    let found = tokens(alloc, &text, at.file, at.line)?;
+    read::read_expr(alloc, &found)
+}
+
+/// The arguments that code is.
+pub fn read_args(alloc: Global, code: &str, at: Place) -> Result<Args, Stop>
+    ensures { GivesCode (whole.exprs_of at.file) result (λ r. r.args at code.now) }
+{
+    let text = Text::of(alloc, code)?;
+    let found = tokens(alloc, &text, at.file, at.line)?;
+    read::read_args(alloc, &found)
+}
+
+/// The simple statements that code is.
+pub fn read_simple(alloc: Global, code: &str, at: Place) -> Result<Program, Stop>
+    ensures { GivesCode whole.program_of result (λ r. r.simple at code.now) }
+{
+    let text = Text::of(alloc, code)?;
+    let found = tokens(alloc, &text, at.file, at.line)?;
+    read::read_simple(alloc, &found)
+}
+
+/// The head or the end of a block that a text is.
+pub fn read_header(alloc: Global, text: &Text, at: Place) -> Result<Header, Stop>
+    ensures { GivesCode (whole.header_of at.file) result (λ r. r.header at text.now) }
+{
+    let found = tokens(alloc, text, at.file, at.line)?;
+    read::read_header(alloc, &found)
+}
