@@ -19,6 +19,7 @@ pub mod Operators
 pub mod Outcomes
 pub mod Program
 pub mod Reading
+pub mod Scopes
 pub mod Store
 pub mod Tokens
 pub mod Values
