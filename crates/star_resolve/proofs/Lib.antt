@@ -1,0 +1,4 @@
+pub mod Binders
+pub mod Clauses
+pub mod Putting
+pub mod Views
