@@ -2,7 +2,9 @@
 #![tactic(auto)]
 
 mod event;
+mod gather;
 mod names;
+mod program;
 mod walk;
 
 pub use event::{Event, Events};
