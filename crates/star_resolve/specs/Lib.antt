@@ -1,3 +1,5 @@
+pub mod Answers
 pub mod Events
 pub mod Gathered
+pub mod Variables
 pub mod Views

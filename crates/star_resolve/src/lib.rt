@@ -3,8 +3,12 @@
 
 mod event;
 mod gather;
+mod levels;
 mod names;
 mod program;
+mod scope;
+mod variable;
 mod walk;
 
 pub use event::{Event, Events};
+pub use variable::Variable;
