@@ -1,12 +1,11 @@
 -- What is read of a program from its end.
-use Rattle.std.proofs.Common.{◌≡◌, ℕ, ◌+◌, ◌-◌, ◌<◌, ◌≤◌, List, [], ◌∷◌, ◌++◌, length, drop, get_or, map as each, ap, arith, sym, ◌∙◌, Result, Ok, Err, OnOk, IfOk}
+use Rattle.std.proofs.Common.{◌≡◌, ℕ, ◌+◌, ◌-◌, ◌<◌, ◌≤◌, List, ◌∷◌, length, drop, get_or, map as each, ap, arith, sym, ◌∙◌, Result, Ok, Err, OnOk, IfOk}
 use Rattle.ytt_base.specs.declared.text.Memory.{Memory}
 use Rattle.std.proofs.lemmas.List.{drop_more}
 use Rattle.star_spec.specs.Code.{Name}
 use Rattle.star_tree.specs.declared.code.Stmt.{Stmt}
 use Rattle.star_tree.specs.Whole.{instruction_of}
-use Rattle.star_resolve.specs.declared.gather.Blocks.{Blocks}
-use Rattle.star_resolve.specs.Gathered.{Gathered, gather, gathered, gathered_of}
+use Rattle.star_resolve.specs.Gathered.{Gathered, gather, gathered}
 
 -- the same, where there was room
 pub gathered_same : (r : Result (Unit {0}) Memory) (new : Gathered) (a b : Gathered) → OnOk r (new ≡ a) → b ≡ a → OnOk r (new ≡ b)

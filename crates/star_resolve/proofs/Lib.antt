@@ -1,8 +1,10 @@
 pub mod Binders
 pub mod Clauses
+pub mod Found
 pub mod Gathering
 pub mod Nesting
 pub mod Putting
 pub mod Running
 pub mod Sets
+pub mod Told
 pub mod Views

@@ -4,14 +4,12 @@ use Rattle.std.proofs.lemmas.List.{reverse-append, reverse-reverse}
 use Rattle.star_spec.specs.Code.{Name, Expr, Parameters}
 use Rattle.star_spec.specs.Names.{target_names, statement_names}
 use Rattle.star_spec.specs.Program.{ItemKind, Instruction, part, statement, begin_if, begin_elif, begin_else, begin_for, begin_def, close}
-use Rattle.star_spec.specs.Blocks.{Op, op_part, op_statement, op_if, op_for, op_def, Ops, no_ops, an_op, Arms, no_arm, else_arm, arm, Parsed, broken, at_top, inside, put, open_if, next_arm, last_arm, open_block, parse, whole, blocks}
-use Rattle.star_spec.specs.Scopes.{Around, Use, use_at, arms_names, arms_uses, expr_uses, op_names, op_uses, ops_names, ops_uses, parameter_names, parameters_uses, names_of_file, program_names, program_uses, uses_of_file}
+use Rattle.star_spec.specs.Blocks.{Op, op_part, op_statement, op_if, op_for, op_def, Ops, no_arm, else_arm, arm, Parsed, broken, at_top, inside, put, open_if, next_arm, last_arm, open_block, parse, whole, blocks}
+use Rattle.star_spec.specs.Scopes.{Use, use_at, arms_names, arms_uses, expr_uses, op_names, op_uses, ops_names, ops_uses, parameter_names, parameters_uses, names_of_file, program_names, program_uses, uses_of_file}
 use Rattle.ytt_base.specs.declared.fault.Place.{Place}
-use Rattle.star_resolve.specs.declared.event.Event.{Event}
-use Rattle.star_resolve.specs.declared.event.Event.TheVariants as event
-use Rattle.star_resolve.specs.Events.{expr_events, instruction_events, parameters_events, program_events}
+use Rattle.star_resolve.specs.Events.{program_events}
 use Rattle.star_resolve.specs.Gathered.{all_names, behind, front, gathered, merged, with_names}
-use Rattle.star_resolve.proofs.Running.{Levels, Runs, a_name, begins, enters, expr_runs, last, leaves, next, outer_levels, parameters_run, part_runs, run, scopes_in, statement_runs}
+use Rattle.star_resolve.proofs.Running.{Levels, a_name, begins, enters, expr_runs, last, next, outer_levels, parameters_run, part_runs, run, scopes_in, statement_runs}
 
 -- no block is closed where it shouldn't be
 abbrev Sound : Parsed → Type 0

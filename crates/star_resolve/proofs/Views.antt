@@ -1,5 +1,5 @@
 -- The plain expression of each form of expression.
-use Rattle.std.proofs.Common.{◌≡◌, List, rules, ℤ, ℕ, Option, Some, None, refl, ap, ◌∙◌}
+use Rattle.std.proofs.Common.{◌≡◌, List, rules, ℤ, ℕ, Option, Some, None, refl, ◌∙◌}
 use Rattle.std.specs.Option.{option_map}
 use Rattle.ytt_base.specs.Outcomes.{place_at}
 use Rattle.star_spec.specs.Code as plain

@@ -5,10 +5,13 @@ use Rattle.ytt_base.specs.declared.fault.Fault.{Fault}
 use Rattle.ytt_base.specs.declared.fault.Place.{Place}
 use Rattle.star_spec.specs.Code.{Name}
 use Rattle.star_spec.specs.Keys.{or_else}
+use Rattle.star_spec.specs.Program.{Instruction}
 use Rattle.star_resolve.specs.declared.event.Event.{Event}
 use Rattle.star_resolve.specs.declared.event.Event.TheVariants as event
-use Rattle.star_resolve.specs.declared.variable.Variable.{Variable}
-use Rattle.star_resolve.specs.declared.variable.Variable.TheVariants as variable
+use Rattle.star_resolve.specs.declared.levels.Variable.{Variable}
+use Rattle.star_resolve.specs.declared.levels.Variable.TheVariants as variable
+use Rattle.star_resolve.specs.Events.{program_events}
+use Rattle.star_resolve.specs.Gathered.{all_names, behind, front}
 use Rattle.star_resolve.specs.Variables.{each_once, unknown_name}
 
 -- what is open, the innermost first: a scope by its names, each once, or a block that has none
@@ -64,3 +67,7 @@ refused_if None f later = Some f
 abbrev pub refused : List Answer → Option Fault
 refused [] = None
 refused (a ∷ more) = refused_if a.found (unknown_name a.place a.name) (refused more)
+
+-- what is answered to the names of a program
+abbrev pub program_answers : (builtins : List Name) → List Instruction → List Answer
+program_answers builtins is = answers (each_once (front (all_names is))) (each_once builtins) [] (program_events (behind (all_names is)) is)

@@ -1,5 +1,5 @@
 -- What is read of a program's names from its end.
-use Rattle.std.specs.Prelude.{ℕ, List, [], ◌∷◌, ◌++◌, reverse}
+use Rattle.std.specs.Prelude.{List, [], ◌∷◌, ◌++◌, reverse}
 use Rattle.star_spec.specs.Code.{Name}
 use Rattle.star_spec.specs.Names.{target_names, statement_names}
 use Rattle.star_spec.specs.Program.{Instruction, part, statement, begin_if, begin_elif, begin_else, begin_for, begin_def, close}

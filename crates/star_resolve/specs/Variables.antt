@@ -1,5 +1,5 @@
 -- The variables of names, as the program numbers them.
-use Rattle.std.specs.Prelude.{◌≡◌, ℕ, zero, suc, ◌+◌, List, [], ◌∷◌, ◌++◌, Option, Some, None, Result, Ok, Err, if◌then◌else◌, bytes_eq, position, map as each}
+use Rattle.std.specs.Prelude.{ℕ, zero, suc, List, [], ◌∷◌, ◌++◌, Option, Some, None, Result, Ok, Err, if◌then◌else◌, bytes_eq}
 use Rattle.std.specs.List.{list_any, position_or_len}
 use Rattle.ytt_base.specs.declared.fault.Fault.{Fault}
 use Rattle.ytt_base.specs.declared.fault.FaultKind.TheVariants as kind
@@ -8,8 +8,8 @@ use Rattle.ytt_base.specs.declared.fault.Stop.{Stop}
 use Rattle.ytt_base.specs.declared.fault.Stop.TheVariants as stop
 use Rattle.star_spec.specs.Code.{Name}
 use Rattle.star_spec.specs.Scopes.{Around, Use, Home, local, global, builtin, unknown, home_of}
-use Rattle.star_resolve.specs.declared.variable.Variable.{Variable}
-use Rattle.star_resolve.specs.declared.variable.Variable.TheVariants as variable
+use Rattle.star_resolve.specs.declared.levels.Variable.{Variable}
+use Rattle.star_resolve.specs.declared.levels.Variable.TheVariants as variable
 
 -- ---- numbers
 
@@ -55,7 +55,10 @@ abbrev pub fault_of_use : Option Use → Option Fault
 fault_of_use None = None
 fault_of_use (Some u) = Some (unknown_name u.place u.name)
 
+abbrev pub IfFault : Stop → (Fault → Type 0) → Type 0
+IfFault (stop.Fault f) P = P f
+IfFault stop.Memory P = Unit {0}
+
 abbrev pub IfRefused : {A : Type 0} → Result A Stop → (Fault → Type 0) → Type 0
 IfRefused (Ok a) P = Unit {0}
-IfRefused (Err (stop.Fault f)) P = P f
-IfRefused (Err stop.Memory) P = Unit {0}
+IfRefused (Err s) P = IfFault s P

@@ -24,12 +24,7 @@ pub enum Event {
 pub type Events = Items<Event>;
 
 /// Puts a name behind the events.
-pub(crate) fn put_name(
-    file: u32,
-    line: u32,
-    name: &Text,
-    events: &mut Events,
-) -> Result<(), Memory>
+pub(crate) fn put_name(file: u32, line: u32, name: &Text, events: &mut Events) -> Result<(), Memory>
     ensures { OnOk result (events.new ≡ events.old ++ event.Name (place_at file line) name.now ∷ []) }
 {
     events.push(Event::Name(Place { file, line }, name.copy()?))?;

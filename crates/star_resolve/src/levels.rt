@@ -4,10 +4,20 @@ ghost use Rattle.star_resolve.specs.Answers.{after_event, found, local_in};
 
 use crate::event::Event;
 use crate::scope::Scope;
-use crate::variable::Variable;
 use sqlite_items::Items;
 use std::alloc::Global;
 use ytt_base::text::{Memory, Text};
+
+/// The variable that a name is.
+#[derive(Clone, Copy, Debug, PartialEq, Eq)]
+pub enum Variable {
+    /// Of the function or comprehension that so many others stand inside, by its number there.
+    Local(usize, usize),
+    /// Of the file, by its number.
+    Global(usize),
+    /// Of the language, by its number.
+    Builtin(usize),
+}
 
 /// What is open, the innermost last: a scope, or a block that has none.
 pub(crate) type Levels = Items<Option<Scope>>;
@@ -44,7 +54,7 @@ fn local(levels: &[Option<Scope>], name: &Text) -> Option<Variable>
 }
 
 /// The variable of a name: of the innermost scope that binds it, of the file, or of the language.
-pub(crate) fn variable(
+pub(crate) fn find(
     levels: &Levels,
     globals: &Scope,
     builtins: &Scope,

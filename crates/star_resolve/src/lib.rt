@@ -1,14 +1,14 @@
 //! Scopes: each name of a program is bound to one variable, or is unknown.
 #![tactic(auto)]
 
+mod binding;
 mod event;
 mod gather;
 mod levels;
 mod names;
 mod program;
 mod scope;
-mod variable;
 mod walk;
 
-pub use event::{Event, Events};
-pub use variable::Variable;
+pub use binding::{Resolved, Variables, resolve};
+pub use levels::Variable;

@@ -37,7 +37,7 @@ fn put_loaded(
 }
 
 /// The names of the next function.
-fn next_names(alloc: Global, functions: &mut Items<Texts>) -> Texts
+pub(crate) fn next_names(alloc: Global, functions: &mut Items<Texts>) -> Texts
     ensures value { result ≡ front (reverse functions.old) }
     ensures rest { reverse functions.new ≡ behind (reverse functions.old) }
 {

@@ -1,4 +1,4 @@
-use Rattle.std.proofs.Common.{◌≡◌, List, ◌++◌, ◌∷◌, [], true, false, ap, sym, subst, ◌∙◌}
+use Rattle.std.proofs.Common.{List, ◌++◌, ◌∷◌, [], true, ap, sym, ◌∙◌}
 use Rattle.star_spec.specs.Names.{clauses_names}
 use Rattle.star_spec.specs.Scopes.{parameter_names}
 use Rattle.star_tree.specs.Whole.{expr_of, parameters_of}
@@ -73,30 +73,30 @@ put_clauses-loop-clause-preserved t c =
     let lt = rw c.as_slice-clause-items.ensures at c.loop-clause-test.true in
     let here = rw c.as_slice-clause-items.ensures at c.clause-item.is in
     elim c.match-clause.branch [
-      put_clauses-in-ForIn+in_ok-put_expr-in-ForIn+then-waiting+in_ok-put_leave-in-ForIn+in_ok-put_expr-in-ForIn-2+in_ok-put_enter-in-ForIn w ↦
-        let one = shown w.get.result.now ++ (event.Leave ∷ (shown w.get-then-waiting.result.now ++ event.Enter names ∷ [])) in
-        turn one lt here
-        (λ cs. ap (λ b. clauses_events b names (clauses_of file (x ∷ cs))) w.if-waiting.true
-        ∙ first_for file names x _ _ (w.in-ForIn.is ∙ (λ i. held.ForIn (sym w.get.ensures i) (sym w.get-then-waiting.ensures i))) cs
-        ∙ ap (λ b. one ++ clauses_events b names (clauses_of file cs)) (sym w.waiting-is))
-        c.loop-clause.invariant
-        (w.events-is
-        ∙ put_then now w.put_expr.new.events _ _ _ w.in_ok-put_expr-in-ForIn.ensures
-        (put_then w.put_expr.new.events w.put_leave.new.events _ (event.Leave ∷ []) _ w.in_ok-put_leave-in-ForIn.ensures
-        (put_then w.put_leave.new.events w.put_expr-then-waiting.new.events _ _ _ w.in_ok-put_expr-in-ForIn-2.ensures (w.in_ok-put_enter-in-ForIn.ensures file))))
+      | put_clauses-in-ForIn+in_ok-put_expr-in-ForIn+then-waiting+in_ok-put_leave-in-ForIn+in_ok-put_expr-in-ForIn-2+in_ok-put_enter-in-ForIn w ↦
+          let one = shown w.get.result.now ++ (event.Leave ∷ (shown w.get-then-waiting.result.now ++ event.Enter names ∷ [])) in
+          turn one lt here
+          (λ cs. ap (λ b. clauses_events b names (clauses_of file (x ∷ cs))) w.if-waiting.true
+          ∙ first_for file names x _ _ (w.in-ForIn.is ∙ (λ i. held.ForIn (sym w.get.ensures i) (sym w.get-then-waiting.ensures i))) cs
+          ∙ ap (λ b. one ++ clauses_events b names (clauses_of file cs)) (sym w.waiting-is))
+          c.loop-clause.invariant
+          (w.events-is
+          ∙ put_then now w.put_expr.new.events _ _ _ w.in_ok-put_expr-in-ForIn.ensures
+          (put_then w.put_expr.new.events w.put_leave.new.events _ (event.Leave ∷ []) _ w.in_ok-put_leave-in-ForIn.ensures
+          (put_then w.put_leave.new.events w.put_expr-then-waiting.new.events _ _ _ w.in_ok-put_expr-in-ForIn-2.ensures (w.in_ok-put_enter-in-ForIn.ensures file))))
       | put_clauses-in-ForIn+in_ok-put_expr-in-ForIn+else-waiting+in_ok-put_expr-in-ForIn-3 w ↦
-        let one = shown w.get.result.now ++ shown w.get-else-waiting.result.now in
-        turn one lt here
-        (λ cs. ap (λ b. clauses_events b names (clauses_of file (x ∷ cs))) w.if-waiting.false
-        ∙ later_for file names x _ _ (w.in-ForIn.is ∙ (λ i. held.ForIn (sym w.get.ensures i) (sym w.get-else-waiting.ensures i))) cs
-        ∙ ap (λ b. one ++ clauses_events b names (clauses_of file cs)) (sym w.if-waiting.false ∙ sym w.waiting-is))
-        c.loop-clause.invariant
-        (w.events-is ∙ put_then now w.put_expr.new.events _ _ _ w.in_ok-put_expr-in-ForIn.ensures w.in_ok-put_expr-in-ForIn-3.ensures)
+          let one = shown w.get.result.now ++ shown w.get-else-waiting.result.now in
+          turn one lt here
+          (λ cs. ap (λ b. clauses_events b names (clauses_of file (x ∷ cs))) w.if-waiting.false
+          ∙ later_for file names x _ _ (w.in-ForIn.is ∙ (λ i. held.ForIn (sym w.get.ensures i) (sym w.get-else-waiting.ensures i))) cs
+          ∙ ap (λ b. one ++ clauses_events b names (clauses_of file cs)) (sym w.if-waiting.false ∙ sym w.waiting-is))
+          c.loop-clause.invariant
+          (w.events-is ∙ put_then now w.put_expr.new.events _ _ _ w.in_ok-put_expr-in-ForIn.ensures w.in_ok-put_expr-in-ForIn-3.ensures)
       | put_clauses-in-OnlyIf+in_ok-put_expr-in-OnlyIf w ↦
-        let one = shown w.get-in-OnlyIf.result.now in
-        turn one lt here
-        (λ cs. test_of file c.loop-clause.waiting names x _ (w.in-OnlyIf.is ∙ (λ i. held.OnlyIf (sym w.get-in-OnlyIf.ensures i))) cs
-        ∙ ap (λ b. one ++ clauses_events b names (clauses_of file cs)) (sym w.waiting-is))
-        c.loop-clause.invariant
-        (w.events-is ∙ w.in_ok-put_expr-in-OnlyIf.ensures)
+          let one = shown w.get-in-OnlyIf.result.now in
+          turn one lt here
+          (λ cs. test_of file c.loop-clause.waiting names x _ (w.in-OnlyIf.is ∙ (λ i. held.OnlyIf (sym w.get-in-OnlyIf.ensures i))) cs
+          ∙ ap (λ b. one ++ clauses_events b names (clauses_of file cs)) (sym w.waiting-is))
+          c.loop-clause.invariant
+          (w.events-is ∙ w.in_ok-put_expr-in-OnlyIf.ensures)
     ]

@@ -1,4 +1,4 @@
-use Rattle.std.proofs.Common.{ap, sym, ◌∙◌, map as each}
+use Rattle.std.proofs.Common.{ap, ◌∙◌, map as each}
 use Rattle.std.specs.Prelude.{string_bytes}
 use Rattle.star_resolve.specs.Variables.{with_name}
 use Rattle.star_resolve.proofs.Sets.{added}

@@ -1,4 +1,4 @@
-use Rattle.std.proofs.Common.{ap, ◌∙◌}
+use Rattle.std.proofs.Common.{◌∙◌}
 use Rattle.std.specs.List.{position}
 use Rattle.std.specs.Prelude.{bytes_eq}
 use Rattle.star_resolve.proofs.Sets.{position_same}
