@@ -5,7 +5,8 @@ use Rattle.star_spec.specs.Code.{Name, Expr, Parameters}
 use Rattle.star_spec.specs.Names.{target_names, statement_names}
 use Rattle.star_spec.specs.Program.{ItemKind, Instruction, part, statement, begin_if, begin_elif, begin_else, begin_for, begin_def, close}
 use Rattle.star_spec.specs.Blocks.{Op, op_part, op_statement, op_if, op_for, op_def, Ops, no_arm, else_arm, arm, Parsed, broken, at_top, inside, put, open_if, next_arm, last_arm, open_block, parse, whole, blocks}
-use Rattle.star_spec.specs.Scopes.{Use, use_at, arms_names, arms_uses, expr_uses, op_names, op_uses, ops_names, ops_uses, parameter_names, parameters_uses, names_of_file, program_names, program_uses, uses_of_file}
+use Rattle.star_spec.specs.Allowed.{parameter_names}
+use Rattle.star_spec.specs.Scopes.{Use, use_at, arms_names, arms_uses, expr_uses, op_names, op_uses, ops_names, ops_uses, parameters_uses, names_of_file, program_names, program_uses, uses_of_file}
 use Rattle.ytt_base.specs.declared.fault.Place.{Place}
 use Rattle.star_resolve.specs.Events.{program_events}
 use Rattle.star_resolve.specs.Gathered.{all_names, behind, front, gathered, merged, with_names}

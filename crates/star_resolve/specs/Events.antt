@@ -5,7 +5,7 @@ use Rattle.star_spec.specs.Code.{Name, Expr, Exprs, no_exprs, an_expr, OptionalE
 use Rattle.star_spec.specs.Program.{NodePart, node_start, node_note, node_key, node_key_from, node_value, node_value_from, node_end, Instruction, part, statement, begin_if, begin_elif, begin_else, begin_for, begin_def, close}
 use Rattle.ytt_base.specs.declared.fault.Place.{Place}
 use Rattle.star_spec.specs.Names.{clauses_names}
-use Rattle.star_spec.specs.Scopes.{parameter_names}
+use Rattle.star_spec.specs.Allowed.{parameter_names}
 use Rattle.star_resolve.specs.declared.event.Event.{Event}
 use Rattle.star_resolve.specs.declared.event.Event.TheVariants as event
 use Rattle.star_resolve.specs.Gathered.{front, behind}

@@ -1,4 +1,5 @@
 pub mod Answers
+pub mod Environments
 pub mod Events
 pub mod Gathered
 pub mod Variables

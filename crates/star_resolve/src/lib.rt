@@ -4,6 +4,7 @@
 mod binding;
 mod event;
 mod gather;
+mod laws;
 mod levels;
 mod names;
 mod program;
@@ -11,4 +12,5 @@ mod scope;
 mod walk;
 
 pub use binding::{Resolved, Variables, resolve};
+pub use laws::{call_scopes, names_have_their_boxes, new_scopes};
 pub use levels::Variable;

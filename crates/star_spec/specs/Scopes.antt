@@ -7,18 +7,11 @@ use Rattle.star_spec.specs.Code as code
 use Rattle.star_spec.specs.Code.{Name, Expr, Exprs, no_exprs, an_expr, OptionalExpr, absent, present, Entries, no_entries, an_entry, Clauses, no_clauses, for_clause, if_clause, Pieces, no_pieces, text_piece, expr_piece, Parameters, no_parameters, required, defaulted, bare_star, starred_parameter, double_starred_parameter, LoadedNames, no_loaded, a_loaded, Statement, evaluate, assign, augment, load, return, break, continue, pass}
 use Rattle.star_spec.specs.Program.{NodePart, node_start, node_note, node_key, node_key_from, node_value, node_value_from, node_end, Instruction}
 use Rattle.star_spec.specs.Blocks.{Op, op_part, op_statement, op_if, op_for, op_def, Ops, no_ops, an_op, Arms, no_arm, else_arm, arm, blocks}
+use Rattle.star_spec.specs.Allowed.{parameter_names}
 use Rattle.star_spec.specs.Keys.{further}
 use Rattle.star_spec.specs.Names.{target_names, clauses_names, statement_names}
 
 -- ---- the names that a scope binds, in text order
-
-abbrev pub parameter_names : Parameters → List Name
-parameter_names no_parameters = []
-parameter_names (required x ps) = x ∷ parameter_names ps
-parameter_names (defaulted x e ps) = x ∷ parameter_names ps
-parameter_names (bare_star ps) = parameter_names ps
-parameter_names (starred_parameter x ps) = x ∷ parameter_names ps
-parameter_names (double_starred_parameter x ps) = x ∷ parameter_names ps
 
 -- in the block of a file or of a function; the names inside inner functions and comprehensions are theirs
 abbrev mutual
