@@ -24,25 +24,22 @@ pub(crate) fn put_expr(
     ensures { OnOk result (events.new ≡ events.old ++ expr_events (expr_of file expr.now)) }
 {
     match expr {
-        Expr::Int(_, _) => Ok(()),
-        Expr::Text(_, _) => Ok(()),
+        Expr::Int(_, _) | Expr::Text(_, _) => Ok(()),
         Expr::Name(line, name) => put_name(file, *line, name, events),
-        Expr::List(_, members) => put_exprs(alloc, file, members, events),
-        Expr::Tuple(_, members) => put_exprs(alloc, file, members, events),
+        Expr::List(_, members) | Expr::Tuple(_, members) => {
+            put_exprs(alloc, file, members, events)
+        }
         Expr::Dict(_, entries) => put_entries(alloc, file, entries, events),
-        Expr::Unary(_, _, a) => put_expr(alloc, file, a.get(), events),
-        Expr::Binary(_, _, a, b) => {
-            put_expr(alloc, file, a.get(), events)?;
-            put_expr(alloc, file, b.get(), events)
-        }
-        Expr::And(_, a, b) => {
-            put_expr(alloc, file, a.get(), events)?;
-            put_expr(alloc, file, b.get(), events)
-        }
-        Expr::Or(_, a, b) => {
-            put_expr(alloc, file, a.get(), events)?;
-            put_expr(alloc, file, b.get(), events)
-        }
+        Expr::Unary(_, _, a)
+        | Expr::Named(_, _, a)
+        | Expr::Star(_, a)
+        | Expr::Stars(_, a)
+        | Expr::Dot(_, a, _) => put_expr(alloc, file, a.get(), events),
+        Expr::Binary(_, _, a, b) | Expr::And(_, a, b) | Expr::Or(_, a, b) | Expr::Index(_, a, b) =>
+            {
+                put_expr(alloc, file, a.get(), events)?;
+                put_expr(alloc, file, b.get(), events)
+            }
         Expr::If(_, test, a, b) => {
             put_expr(alloc, file, a.get(), events)?;
             put_expr(alloc, file, test.get(), events)?;
@@ -52,20 +49,12 @@ pub(crate) fn put_expr(
             put_expr(alloc, file, function.get(), events)?;
             put_exprs(alloc, file, args, events)
         }
-        Expr::Named(_, _, a) => put_expr(alloc, file, a.get(), events),
-        Expr::Star(_, a) => put_expr(alloc, file, a.get(), events),
-        Expr::Stars(_, a) => put_expr(alloc, file, a.get(), events),
-        Expr::Index(_, a, i) => {
-            put_expr(alloc, file, a.get(), events)?;
-            put_expr(alloc, file, i.get(), events)
-        }
         Expr::Slice(_, a, low, high, step) => {
             put_expr(alloc, file, a.get(), events)?;
             put_optional(alloc, file, low, events)?;
             put_optional(alloc, file, high, events)?;
             put_optional(alloc, file, step, events)
         }
-        Expr::Dot(_, a, _) => put_expr(alloc, file, a.get(), events),
         Expr::Lambda(_, params, body) => {
             put_params(alloc, file, params, events)?;
             events.push(Event::Enter(names::of_parameters(alloc, params)?))?;
