@@ -170,11 +170,6 @@ module _ {H : Type 0} where
   same_end : {A : Type 0} (a b : A) (s t : State H) → done a s ≡ done b t → a ≡ b
   same_end a b s t e = cc
 
-  -- what comes before what is done
-  after_done : {A B : Type 0} (r : Ending H A) (f : A → Computation H B) (b : B) (t : State H) → then_do r f ≡ done b t → (a : A) × (u : State H) × (r ≡ done a u) × (f a u ≡ done b t)
-  after_done (done a u) f b t e = (a, u, refl, e)
-  after_done (bad fault u) f b t e = cc
-
   one_name : (y : Name) (ys : List Name) (env own : Env) (s t : State H) (o : Option ℕ) → box_of y env ≡ o → then_do (with_box y env o s) (with_boxes ys) ≡ done own t →
       ((before : Env) (u : State H) → with_boxes ys before u ≡ done own t → (x : Name) → is_some (box_of x own) ≡ (is_some (box_of x before) || binds x ys)) →
       (x : Name) → is_some (box_of x own) ≡ (is_some (box_of x env) || (bytes_eq y x || binds x ys))
@@ -191,37 +186,43 @@ module _ {H : Type 0} where
 
   -- ---- calls
 
-  value_done : (g : Given) (b : Value → Computation H Env) (env : Env) (s t : State H) → then_do (value_given g s) b ≡ done env t → (v : Value) × (u : State H) × (b v u ≡ done env t)
-  value_done (given v) b env s t e = (v, s, e)
-  value_done (rest_given fs) b env s t e = (_, _, e)
+  boxed : (y : Name) (r : ℕ) (names : List Name) (own : Env) (t : State H) (rest : Ending H Env) → then_do rest (λ env. give ((y, r) ∷ env)) ≡ done own t →
+      ((env : Env) (u : State H) → rest ≡ done env u → (x : Name) → is_some (box_of x env) ≡ binds x names) → (x : Name) → is_some (box_of x own) ≡ (bytes_eq y x || binds x names)
+  boxed y r names own t (done env u) e more x =
+      ap (λ all. is_some (box_of x all)) (sym (same_end ((y, r) ∷ env) own u t e)) ∙ first_box (bytes_eq y x) r (box_of x env) ∙ ap (λ b. bytes_eq y x || b) (more env u refl x)
+  boxed y r names own t (bad f u) e more x = cc
 
-  boxed : (y : Name) (r : ℕ) (bs : List (Name × Given)) (own : Env) (s t : State H) → then_do (boxes_of bs s) (λ env. give ((y, r) ∷ env)) ≡ done own t →
-      ((env : Env) (u : State H) → boxes_of bs s ≡ done env u → (x : Name) → is_some (box_of x env) ≡ binds x (given_names bs)) →
-      (x : Name) → is_some (box_of x own) ≡ (bytes_eq y x || binds x (given_names bs))
-  boxed y r bs own s t e more x =
-      let rest = after_done (boxes_of bs s) (λ env. give ((y, r) ∷ env)) own t e in
-      ap (λ all. is_some (box_of x all)) (sym (same_end ((y, r) ∷ rest.0) own rest.1 t rest.3))
-      ∙ first_box (bytes_eq y x) r (box_of x rest.0) ∙ ap (λ b. bytes_eq y x || b) (more rest.0 rest.1 rest.2 x)
+  valued : (g : Given) (y : Name) (names : List Name) (own : Env) (s t : State H) (rest : State H → Ending H Env) →
+      then_do (value_given g s) (λ v. λ u. then_do (rest (pushed v u)) (λ env. give ((y, length u.store) ∷ env))) ≡ done own t →
+      ((before : State H) (env : Env) (u : State H) → rest before ≡ done env u → (x : Name) → is_some (box_of x env) ≡ binds x names) →
+      (x : Name) → is_some (box_of x own) ≡ (bytes_eq y x || binds x names)
+  valued (given v) y names own s t rest e more = boxed y (length s.store) names own t (rest (pushed v s)) e (more (pushed v s))
+  valued (rest_given fs) y names own s t rest e more = boxed y _ names own t (rest _) e (more _)
 
   given_boxes : (bs : List (Name × Given)) (own : Env) (s t : State H) → boxes_of bs s ≡ done own t → (x : Name) → is_some (box_of x own) ≡ binds x (given_names bs)
   given_boxes [] own s t e x = ap (λ all. is_some (box_of x all)) (sym (same_end [] own s t e))
-  given_boxes (b ∷ bs) own s t e x =
-      let value = value_done b.1 (λ v. λ u. then_do (boxes_of bs (pushed v u)) (λ env. give ((b.0, length u.store) ∷ env))) own s t e in
-      boxed b.0 (length value.1.store) bs own (pushed value.0 value.1) t value.2 (λ env u. given_boxes bs env (pushed value.0 value.1) u) x
+  given_boxes (b ∷ bs) own s t e x = valued b.1 b.0 (given_names bs) own s t (boxes_of bs) e (λ before env u. given_boxes bs env before u) x
 
-  argument_done : (p : Place) (o : Option (List (Name × Given))) (bs : List (Name × Given)) (s u : State H) → or_fail kind.ArgBind p o s ≡ done bs u → o ≡ Some bs
-  argument_done p None bs s u e = cc
-  argument_done p (Some cs) bs s u e = ap (λ l. Some l) (same_end cs bs s u e)
+  block_boxes : (around env : Env) (t : State H) (names : List Name) (all : Ending H Env) → then_do all (λ own. give (own ++ around)) ≡ done env t →
+      ((own : Env) (u : State H) → all ≡ done own u → BoxesOf names own) → (own : Env) × (env ≡ own ++ around) × BoxesOf names own
+  block_boxes around env t names (done own u) e more = (own, sym (same_end (own ++ around) env u t e), more own u refl)
+  block_boxes around env t names (bad f u) e more = cc
+
+  parameter_boxes : (around env : Env) (t : State H) (parameters names : List Name) (first : Ending H Env) →
+      then_do first (λ own. λ u. then_do (with_boxes names own u) (λ all. give (all ++ around))) ≡ done env t →
+      ((own : Env) (u : State H) → first ≡ done own u → BoxesOf parameters own) → (own : Env) × (env ≡ own ++ around) × BoxesOf (parameters ++ names) own
+  parameter_boxes around env t parameters names (done own u) e more =
+      block_boxes around env t (parameters ++ names) (with_boxes names own u) e
+      (λ all w h x. more_boxes names own all u w h x ∙ ap (λ b. b || binds x names) (more own u refl x) ∙ sym (binds_either x parameters names))
+  parameter_boxes around env t parameters names (bad f u) e more = cc
+
+  argument_boxes : (p : Place) (around env : Env) (s t : State H) (parameters names : List Name) (o : Option (List (Name × Given))) →
+      then_do (or_fail kind.ArgBind p o s) (λ bs. λ u. then_do (boxes_of bs u) (λ own. λ v. then_do (with_boxes names own v) (λ all. give (all ++ around)))) ≡ done env t →
+      ((bs : List (Name × Given)) → o ≡ Some bs → given_names bs ≡ parameters) → (own : Env) × (env ≡ own ++ around) × BoxesOf (parameters ++ names) own
+  argument_boxes p around env s t parameters names None e more = cc
+  argument_boxes p around env s t parameters names (Some bs) e more =
+      parameter_boxes around env t parameters names (boxes_of bs s) e (λ own u h x. given_boxes bs own s u h x ∙ ap (binds x) (more bs refl))
 
   pub call_scopes : CallScopes H
   call_scopes p ps names ds vs around env s t allowed e =
-      let one = after_done (or_fail kind.ArgBind p (all_bound ps ds vs) s) (λ bs. λ u. then_do (boxes_of bs u) (λ own. λ v. then_do (with_boxes names own v) (λ all. give (all ++ around)))) env t e in
-      let two = after_done (boxes_of one.0 one.1) (λ own. λ v. then_do (with_boxes names own v) (λ all. give (all ++ around))) env t one.3 in
-      let three = after_done (with_boxes names two.0 two.1) (λ all. give (all ++ around)) env t two.3 in
-      let parameters = all_names_bound ps ds vs one.0 allowed (argument_done p (all_bound ps ds vs) one.0 s one.1 one.2) in (
-        three.0,
-        sym (same_end (three.0 ++ around) env three.1 t three.3),
-        λ x. more_boxes names two.0 three.0 two.1 three.1 three.2 x
-            ∙ ap (λ b. b || binds x names) (given_boxes one.0 two.0 one.1 two.1 two.2 x ∙ ap (binds x) parameters)
-            ∙ sym (binds_either x (parameter_names ps) names),
-      )
+      argument_boxes p around env s t (parameter_names ps) names (all_bound ps ds vs) e (λ bs. all_names_bound ps ds vs bs allowed)

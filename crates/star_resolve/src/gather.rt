@@ -70,8 +70,7 @@ fn begin(alloc: Global, stmt: &Stmt, blocks: &mut Blocks) -> Result<(), Memory>
     ensures { (file : ℕ) → OnOk result (gathered_of blocks.new ≡ begun_by (instruction_of file stmt.now) (gathered_of blocks.old)) }
 {
     match stmt {
-        Stmt::If(..) => merge(blocks),
-        Stmt::For(..) => merge(blocks),
+        Stmt::If(..) | Stmt::For(..) => merge(blocks),
         Stmt::Def(_, _, params) => end_function(of_parameters(alloc, params)?, blocks),
         Stmt::Close(_) => {
             blocks.inner.push(Items::new(alloc))?;

@@ -75,26 +75,19 @@ fn put_statement(
     ensures rest { OnOk result (reverse functions.new ≡ functions_after (instruction_of file stmt.now) (reverse functions.old)) }
 {
     match stmt {
-        Stmt::Expr(_, expr) => put_expr(alloc, file, expr.get(), events),
-        Stmt::Assign(_, target, value) => {
-            put_expr(alloc, file, target.get(), events)?;
-            put_expr(alloc, file, value.get(), events)
+        Stmt::Expr(_, expr) | Stmt::Return(_, expr) | Stmt::Elif(_, expr) => {
+            put_expr(alloc, file, expr.get(), events)
         }
-        Stmt::Augment(_, _, _, target, value) => {
+        Stmt::Assign(_, target, value) | Stmt::Augment(_, _, _, target, value) => {
             put_expr(alloc, file, target.get(), events)?;
             put_expr(alloc, file, value.get(), events)
         }
         Stmt::Load(line, _, loaded) => put_loaded(file, *line, loaded, events),
-        Stmt::Return(_, value) => put_expr(alloc, file, value.get(), events),
-        Stmt::Break(_) => Ok(()),
-        Stmt::Continue(_) => Ok(()),
-        Stmt::Pass(_) => Ok(()),
+        Stmt::Break(_) | Stmt::Continue(_) | Stmt::Pass(_) | Stmt::Else(_) => Ok(()),
         Stmt::If(_, test) => {
             put_expr(alloc, file, test.get(), events)?;
             put_block(events)
         }
-        Stmt::Elif(_, test) => put_expr(alloc, file, test.get(), events),
-        Stmt::Else(_) => Ok(()),
         Stmt::For(_, target, members) => {
             put_expr(alloc, file, target.get(), events)?;
             put_expr(alloc, file, members.get(), events)?;
