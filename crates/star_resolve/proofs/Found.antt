@@ -18,7 +18,7 @@ use Rattle.star_resolve.specs.declared.levels.Variable.TheVariants as variable
 use Rattle.star_resolve.specs.Answers.{Answer, answers, found, found_in, left, local_if, local_in, program_answers, refused, refused_if}
 use Rattle.star_resolve.specs.Events.{program_events}
 use Rattle.star_resolve.specs.Gathered.{all_names, behind, front}
-use Rattle.star_resolve.specs.Variables.{each_once, fault_of_use, number_in, scope_at, unknown_name, variable_at, variable_of, with_each, with_name}
+use Rattle.star_resolve.specs.Variables.{each_once, fault_of_use, number_in, program_fault, program_variables, scope_at, unknown_name, variable_at, variable_of, with_each, with_name}
 use Rattle.star_resolve.proofs.Nesting.{globals_are, program_runs}
 use Rattle.star_resolve.proofs.Running.{Levels, outer_levels, run, scopes_in}
 use Rattle.star_resolve.proofs.Sets.{position_by}
@@ -147,8 +147,8 @@ answers_of_program : (builtins : List Name) (is : List Instruction) → IsSome (
 answers_of_program builtins is h =
     answers_are (front (all_names is)) builtins [] (program_events (behind (all_names is)) is) ∙ (λ i. each (answer_of (globals_are is h i) builtins) (program_runs is h i))
 
-pub variables_are : (builtins : List Name) (is : List Instruction) → IsSome (blocks is) → found_in (program_answers builtins is) ≡ each (variable_of (program_names is) builtins) (program_uses is)
+pub variables_are : (builtins : List Name) (is : List Instruction) → IsSome (blocks is) → found_in (program_answers builtins is) ≡ program_variables builtins is
 variables_are builtins is h = ap found_in (answers_of_program builtins is h) ∙ variables_found (program_names is) builtins (program_uses is)
 
-pub refused_is : (builtins : List Name) (is : List Instruction) → IsSome (blocks is) → refused (program_answers builtins is) ≡ fault_of_use (unknown_first (program_names is) builtins (program_uses is))
+pub refused_is : (builtins : List Name) (is : List Instruction) → IsSome (blocks is) → refused (program_answers builtins is) ≡ program_fault builtins is
 refused_is builtins is h = ap refused (answers_of_program builtins is h) ∙ first_refused (program_names is) builtins (program_uses is)

@@ -5,11 +5,10 @@ use Rattle.ytt_base.specs.declared.fault.Fault.{Fault}
 use Rattle.ytt_base.specs.declared.fault.Stop.{Stop}
 use Rattle.ytt_base.specs.declared.fault.Stop.TheVariants as stop
 use Rattle.star_spec.specs.Code.{Name}
-use Rattle.star_spec.specs.Scopes.{Use}
 use Rattle.star_resolve.specs.declared.event.Event.{Event}
 use Rattle.star_resolve.specs.declared.levels.Variable.{Variable}
 use Rattle.star_resolve.specs.Answers.{Answer, Open, after_event, answer_here, answers, refused, refused_if}
-use Rattle.star_resolve.specs.Variables.{IfFault, IfRefused, fault_of_use}
+use Rattle.star_resolve.specs.Variables.{IfFault, IfRefused}
 
 later_refused : (o : Option Variable) (g f : Fault) (a b : Option Fault) → (a ≡ Some f → b ≡ Some f) → refused_if o g a ≡ Some f → refused_if o g b ≡ Some f
 later_refused None g f a b h k = k
@@ -37,7 +36,3 @@ told_in_turn {B = B} globals builtins ls es j e all s r lt here h stopped k =
 pub told_on : {B : Type 0} (s : Stop) (r : Result B Stop) (a b : Option Fault) → b ≡ a → r ≡ Err s → IfFault s (λ f. a ≡ Some f) → IfRefused r (λ f. b ≡ Some f)
 told_on {B = B} s r a b e stopped k =
     subst (λ (x : Result B Stop). IfRefused x (λ f. b ≡ Some f)) (sym stopped) (same_refused s b a (λ f told. e ∙ told) k)
-
-pub none_told : (o : Option Use) → fault_of_use o ≡ None → o ≡ None
-none_told None h = refl
-none_told (Some u) h = cc

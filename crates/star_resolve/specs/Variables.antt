@@ -1,5 +1,5 @@
 -- The variables of names, as the program numbers them.
-use Rattle.std.specs.Prelude.{ℕ, zero, suc, List, [], ◌∷◌, ◌++◌, Option, Some, None, Result, Ok, Err, if◌then◌else◌, bytes_eq}
+use Rattle.std.specs.Prelude.{ℕ, zero, suc, List, [], ◌∷◌, ◌++◌, Option, Some, None, Result, Ok, Err, if◌then◌else◌, bytes_eq, map as each}
 use Rattle.std.specs.List.{list_any, position_or_len}
 use Rattle.ytt_base.specs.declared.fault.Fault.{Fault}
 use Rattle.ytt_base.specs.declared.fault.FaultKind.TheVariants as kind
@@ -7,7 +7,8 @@ use Rattle.ytt_base.specs.declared.fault.Place.{Place}
 use Rattle.ytt_base.specs.declared.fault.Stop.{Stop}
 use Rattle.ytt_base.specs.declared.fault.Stop.TheVariants as stop
 use Rattle.star_spec.specs.Code.{Name}
-use Rattle.star_spec.specs.Scopes.{Around, Use, Home, local, global, builtin, unknown, home_of}
+use Rattle.star_spec.specs.Program.{Instruction}
+use Rattle.star_spec.specs.Scopes.{Around, Use, Home, local, global, builtin, unknown, home_of, program_names, program_uses, unknown_first}
 use Rattle.star_resolve.specs.declared.levels.Variable.{Variable}
 use Rattle.star_resolve.specs.declared.levels.Variable.TheVariants as variable
 
@@ -50,10 +51,19 @@ variable_of globals builtins u = variable_at (home_of globals builtins u) global
 abbrev pub unknown_name : Place → Name → Fault
 unknown_name p x = record { kind = kind.NameUnknown; place = Some p; detail = x }
 
--- that a name is bound nowhere, if there is one
 abbrev pub fault_of_use : Option Use → Option Fault
 fault_of_use None = None
 fault_of_use (Some u) = Some (unknown_name u.place u.name)
+
+-- ---- of a program
+
+-- the variable of each name, in text order
+abbrev pub program_variables : (builtins : List Name) → List Instruction → List (Option Variable)
+program_variables builtins is = each (variable_of (program_names is) builtins) (program_uses is)
+
+-- that a name is bound nowhere, by the first one that is, if there is one
+abbrev pub program_fault : (builtins : List Name) → List Instruction → Option Fault
+program_fault builtins is = fault_of_use (unknown_first (program_names is) builtins (program_uses is))
 
 abbrev pub IfFault : Stop → (Fault → Type 0) → Type 0
 IfFault (stop.Fault f) P = P f

@@ -1,9 +1,8 @@
 // Each name of a program as a variable.
 ghost use Rattle.std.specs.Prelude.{◌≡◌, ◌∷◌, ◌++◌, [], Some, None, reverse, map as each, IfOk, OnOk, IsSome};
 ghost use Rattle.star_spec.specs.Blocks.{blocks};
-ghost use Rattle.star_spec.specs.Scopes.{program_names, program_uses, unknown_first};
 ghost use Rattle.star_resolve.specs.Answers.{answer_here, answers, found_in, program_answers, refused};
-ghost use Rattle.star_resolve.specs.Variables.{IfFault, IfRefused, fault_of_use, unknown_name, variable_of};
+ghost use Rattle.star_resolve.specs.Variables.{IfFault, IfRefused, program_fault, program_variables, unknown_name};
 ghost use Rattle.star_tree.specs.Whole.{program_of};
 
 use crate::event::{Event, Events};
@@ -120,9 +119,9 @@ fn variables_of(alloc: Global, program: &Program, builtins: &Names) -> Result<Va
 pub fn resolve(alloc: Global, program: Program, builtins: &Names) -> Result<Resolved, Stop>
     requires { IsSome (blocks (program_of program)) }
     ensures program { IfOk result (λ r. r.program ≡ program) }
-    ensures variables { let is = program_of program in IfOk result (λ r. each Some r.variables ≡ each (variable_of (program_names is) builtins.now) (program_uses is)) }
-    ensures known { let is = program_of program in OnOk result (unknown_first (program_names is) builtins.now (program_uses is) ≡ None) }
-    ensures unknown { let is = program_of program in IfRefused result (λ f. fault_of_use (unknown_first (program_names is) builtins.now (program_uses is)) ≡ Some f) }
+    ensures variables { IfOk result (λ r. each Some r.variables ≡ program_variables builtins.now (program_of program)) }
+    ensures known { OnOk result (program_fault builtins.now (program_of program) ≡ None) }
+    ensures unknown { IfRefused result (λ f. program_fault builtins.now (program_of program) ≡ Some f) }
 {
     let variables = variables_of(alloc, &program, builtins)?;
     Ok(Resolved { program, variables })
