@@ -65,6 +65,8 @@ program_variables builtins is = each (variable_of (program_names is) builtins) (
 abbrev pub program_fault : (builtins : List Name) → List Instruction → Option Fault
 program_fault builtins is = fault_of_use (unknown_first (program_names is) builtins (program_uses is))
 
+-- ---- what a call that may refuse gives; want of memory says nothing
+
 abbrev pub IfFault : Stop → (Fault → Type 0) → Type 0
 IfFault (stop.Fault f) P = P f
 IfFault stop.Memory P = Unit {0}

@@ -111,8 +111,8 @@ fn variables_of(alloc: Global, program: &Program, builtins: &Names) -> Result<Va
 ///
 /// Each name in code, each name that a `def` or a `load` binds, and each name of a target has one: it is
 /// that of the innermost function or comprehension around it that binds the name anywhere, else of the
-/// file, else of the language. `builtins` are the names of the language. Each block of the program is
-/// closed where it should be.
+/// file, else of the language, whose names are `builtins`. Each block of the program must be closed where
+/// it should be. The height of the code takes the machine's stack, and the height of blocks does not.
 ///
 /// Where a name is bound nowhere, the first one in text order is a fault of the kind NameUnknown at its
 /// place, with the name as the detail. Want of memory is `Stop::Memory`.

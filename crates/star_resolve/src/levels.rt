@@ -1,4 +1,4 @@
-// What is open while events are gone through, and what a name is there.
+// Variables: what is open while events are gone through, and what a name is there.
 ghost use Rattle.std.specs.Prelude.{◌≡◌, reverse, OnOk};
 ghost use Rattle.star_resolve.specs.Answers.{after_event, found, local_in};
 
@@ -8,14 +8,16 @@ use sqlite_items::Items;
 use std::alloc::Global;
 use ytt_base::text::{Memory, Text};
 
-/// The variable that a name is.
+/// The variable that a name is. The numbers of a scope count the names that it binds, each once, in the
+/// order in which it first binds them in its text, a function's parameters first; those of the language
+/// in the order of its list.
 #[derive(Clone, Copy, Debug, PartialEq, Eq)]
 pub enum Variable {
-    /// Of the function or comprehension that so many others stand inside, by its number there.
+    /// Of a function or a comprehension: how many of these stand between it and the name, and the number.
     Local(usize, usize),
-    /// Of the file, by its number.
+    /// Of the file, with its number.
     Global(usize),
-    /// Of the language, by its number.
+    /// Of the language, with its number.
     Builtin(usize),
 }
 
