@@ -1,7 +1,9 @@
-//! The syntax trees that texts of code read as, which no command line shows.
+//! The syntax trees that texts of code read as, and the variables of names, which no command line shows.
 #![tactic(auto)]
 
 #[cfg(test)]
 mod code;
+#[cfg(test)]
+mod scopes;
 #[cfg(test)]
 mod trees;

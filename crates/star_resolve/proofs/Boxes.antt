@@ -1,0 +1,228 @@
+-- The boxes of the names of scopes.
+use Rattle.std.proofs.Common.{◌≡◌, ℕ, Bool, true, false, ◌||◌, List, [], ◌∷◌, ◌++◌, length, Option, Some, None, is_some, if◌then◌else◌, refl, sym, ap, ◌∙◌, map as each}
+use Rattle.std.proofs.lemmas.Slice.Eq.{bytes_eq-Decides}
+use Rattle.std.specs.Prelude.{bytes_eq}
+use Rattle.ytt_base.specs.declared.fault.FaultKind.TheVariants as kind
+use Rattle.ytt_base.specs.declared.fault.Place.{Place}
+use Rattle.star_spec.specs.Allowed.{AllowedParameters, ParametersLeft, all_left, none_left, named_left, after_default, parameter_names}
+use Rattle.star_spec.specs.Binding.{Given, given, rest_given, all_bound, bound, boxes_of, field_of, has_twice, in_front, or_default, unless_named, value_given, without_field}
+use Rattle.star_spec.specs.Code.{Name, Parameters, no_parameters, required, defaulted, bare_star, starred_parameter, double_starred_parameter}
+use Rattle.star_spec.specs.Keys.{further, or_else}
+use Rattle.star_spec.specs.Names.{box_of, with_box, with_boxes}
+use Rattle.star_spec.specs.Outcomes.{State, Ending, done, bad, then_do, give, on_store, or_fail}
+use Rattle.star_spec.specs.Scopes.{Around, home_by, binds, outward}
+use Rattle.star_spec.specs.Store.{with_object}
+use Rattle.star_spec.specs.Values.{Value, tuple_value, Values, no_values, a_value, Fields, no_fields, a_field, Arguments, arguments, Env, of_box}
+use Rattle.star_resolve.specs.Environments.{BoxesOf, CallScopes, NamesHaveTheirBoxes, NewScopes, Parts, box_at_home, has_box, joined}
+
+-- ---- look-ups
+
+or_box : (c : Bool) (r : ℕ) (ab a b : Option ℕ) → ab ≡ or_else a b → (if c then Some r else ab) ≡ or_else (if c then Some r else a) b
+or_box true r ab a b e = refl
+or_box false r ab a b e = e
+
+in_either : (x : Name) (a b : Env) → box_of x (a ++ b) ≡ or_else (box_of x a) (box_of x b)
+in_either x [] b = refl
+in_either x (p ∷ a) b = or_box (bytes_eq p.0 x) p.1 (box_of x (a ++ b)) (box_of x a) (box_of x b) (in_either x a b)
+
+no_box : (o : Option ℕ) → is_some o ≡ false → o ≡ None
+no_box None h = refl
+no_box (Some r) h = cc
+
+a_box : (o other : Option ℕ) → is_some o ≡ true → or_else o other ≡ o
+a_box None other h = cc
+a_box (Some r) other h = refl
+
+-- the box of a name of the file
+file_box : (x : Name) (file : Env) (g b : Bool) → is_some (box_of x file) ≡ g →
+    (box_of x file ≡ box_at_home (home_by None g b) x [] file) × (is_some (box_of x file) ≡ has_box (home_by None g b))
+file_box x file true b h = (refl, h)
+file_box x file false true h = (no_box (box_of x file) h, h)
+file_box x file false false h = (no_box (box_of x file) h, h)
+
+-- one part further out
+part_behind : (x : Name) (own : Env) (more : List Env) (file : Env) (o : Option ℕ) (g b : Bool) → box_at_home (home_by o g b) x more file ≡ box_at_home (home_by (further o) g b) x (own ∷ more) file
+part_behind x own more file (Some k) g b = refl
+part_behind x own more file None true b = refl
+part_behind x own more file None false true = refl
+part_behind x own more file None false false = refl
+
+boxes_behind : (o : Option ℕ) (g b : Bool) → has_box (home_by o g b) ≡ has_box (home_by (further o) g b)
+boxes_behind (Some k) g b = refl
+boxes_behind None true b = refl
+boxes_behind None false true = refl
+boxes_behind None false false = refl
+
+next_part : (x : Name) (own : Env) (more : List Env) (file : Env) (o : Option ℕ) (g b c : Bool) → is_some (box_of x own) ≡ c →
+    (box_of x (joined more file) ≡ box_at_home (home_by o g b) x more file) × (is_some (box_of x (joined more file)) ≡ has_box (home_by o g b)) →
+    (box_of x (own ++ joined more file) ≡ box_at_home (home_by (if c then Some 0 else further o) g b) x (own ∷ more) file)
+    × (is_some (box_of x (own ++ joined more file)) ≡ has_box (home_by (if c then Some 0 else further o) g b))
+next_part x own more file o g b true h k =
+    let here : box_of x (own ++ joined more file) ≡ box_of x own = in_either x own (joined more file) ∙ a_box (box_of x own) (box_of x (joined more file)) h in
+    (here, ap is_some here ∙ h)
+next_part x own more file o g b false h k =
+    let behind : box_of x (own ++ joined more file) ≡ box_of x (joined more file) =
+    in_either x own (joined more file) ∙ ap (λ r. or_else r (box_of x (joined more file))) (no_box (box_of x own) h)
+    in
+    (behind ∙ k.0 ∙ part_behind x own more file o g b, ap is_some behind ∙ k.1 ∙ boxes_behind o g b)
+
+boxes_found : (x : Name) (around : Around) (parts : List Env) (file : Env) (g b : Bool) → Parts around parts → is_some (box_of x file) ≡ g →
+    (box_of x (joined parts file) ≡ box_at_home (home_by (outward x around) g b) x parts file) × (is_some (box_of x (joined parts file)) ≡ has_box (home_by (outward x around) g b))
+boxes_found x [] [] file g b h k = file_box x file g b k
+boxes_found x [] (own ∷ more) file g b h k = absurd h
+boxes_found x (names ∷ around) [] file g b h k = absurd h
+boxes_found x (names ∷ around) (own ∷ more) file g b h k =
+    next_part x own more file (outward x around) g b (binds x names) (h.0 x) (boxes_found x around more file g b h.1 k)
+
+pub names_have_their_boxes : NamesHaveTheirBoxes
+names_have_their_boxes globals builtins u parts file h k = boxes_found u.name u.around parts file (binds u.name globals) (binds u.name builtins) h (k u.name)
+
+-- ---- new boxes
+
+or_true : (a : Bool) → true ≡ (a || true)
+or_true true = refl
+or_true false = refl
+
+or_false : (a : Bool) → a ≡ (a || false)
+or_false true = refl
+or_false false = refl
+
+known_box : (x y : Name) (env : Env) (r : ℕ) (more : Bool) (c : Bool) → bytes_eq y x ≡ c → box_of y env ≡ Some r → (is_some (box_of x env) || more) ≡ (is_some (box_of x env) || (c || more))
+known_box x y env r more true e h =
+    let same : y ≡ x = (bytes_eq-Decides y x).0 e in
+    let there : is_some (box_of x env) ≡ true = ap (λ z. is_some (box_of z env)) (sym same) ∙ ap is_some h in
+    ap (λ b. b || more) there ∙ ap (λ b. b || true) (sym there)
+known_box x y env r more false e h = refl
+
+fresh_box : (o : Option ℕ) (r : ℕ) (more c : Bool) → (is_some (if c then Some r else o) || more) ≡ (is_some o || (c || more))
+fresh_box o r more true = or_true (is_some o)
+fresh_box o r more false = refl
+
+-- ---- the names that arguments are bound to
+
+abbrev given_names : List (Name × Given) → List Name
+given_names bs = each (λ (b : Name × Given). b.0) bs
+
+front_name : (x : Name) (o : Option Value) (r : Option (List (Name × Given))) (bs : List (Name × Given)) (names : List Name) → in_front x o r ≡ Some bs →
+    ((more : List (Name × Given)) → r ≡ Some more → given_names more ≡ names) → given_names bs ≡ x ∷ names
+front_name x None r bs names h k = cc
+front_name x (Some v) None bs names h k = cc
+front_name x (Some v) (Some more) bs names h k = let same : ((x, given v) ∷ more) ≡ bs = cc in ap given_names (sym same) ∙ ap (λ l. x ∷ l) (k more refl)
+
+-- nothing stands behind `**x`
+none_after : (ps : Parameters) → AllowedParameters none_left ps → parameter_names ps ≡ []
+none_after no_parameters a = refl
+none_after (required x ps) a = let no = a.0 in cc
+none_after (defaulted x e ps) a = let no = a.0 in cc
+none_after (bare_star ps) a = let no = a.0 in cc
+none_after (starred_parameter x ps) a = let no = a.0 in cc
+none_after (double_starred_parameter x ps) a = let no = a.0 in cc
+
+names_bound : (left : ParametersLeft) (ps : Parameters) (ds : List Value) (vs : Values) (fs : Fields) (bs : List (Name × Given)) →
+    AllowedParameters left ps → bound ps ds vs fs ≡ Some bs → given_names bs ≡ parameter_names ps
+names_bound left no_parameters ds no_values no_fields bs a h = let same : [] ≡ bs = cc in ap given_names (sym same)
+names_bound left no_parameters ds no_values (a_field x v fs) bs a h = cc
+names_bound left no_parameters ds (a_value v vs) no_fields bs a h = cc
+names_bound left no_parameters ds (a_value v vs) (a_field x w fs) bs a h = cc
+names_bound left (required x ps) ds (a_value v vs) fs bs a h =
+    front_name x (unless_named x v fs) (bound ps ds vs fs) bs (parameter_names ps) h (λ more. names_bound left ps ds vs fs more a.2)
+names_bound left (required x ps) ds no_values fs bs a h =
+    front_name x (field_of x fs) (bound ps ds no_values (without_field x fs)) bs (parameter_names ps) h (λ more. names_bound left ps ds no_values (without_field x fs) more a.2)
+names_bound left (defaulted x e ps) [] vs fs bs a h = cc
+names_bound left (defaulted x e ps) (d ∷ ds) (a_value v vs) fs bs a h =
+    front_name x (unless_named x v fs) (bound ps ds vs fs) bs (parameter_names ps) h (λ more. names_bound (after_default left) ps ds vs fs more a.3)
+names_bound left (defaulted x e ps) (d ∷ ds) no_values fs bs a h =
+    front_name x (or_default (field_of x fs) (Some d)) (bound ps ds no_values (without_field x fs)) bs (parameter_names ps) h
+    (λ more. names_bound (after_default left) ps ds no_values (without_field x fs) more a.3)
+names_bound left (bare_star ps) ds (a_value v vs) fs bs a h = cc
+names_bound left (bare_star ps) ds no_values fs bs a h = names_bound named_left ps ds no_values fs bs a.1 h
+names_bound left (starred_parameter x ps) ds vs fs bs a h =
+    front_name x (Some (tuple_value vs)) (bound ps ds no_values fs) bs (parameter_names ps) h (λ more. names_bound named_left ps ds no_values fs more a.2)
+names_bound left (double_starred_parameter x ps) ds (a_value v vs) fs bs a h = cc
+names_bound left (double_starred_parameter x ps) ds no_values fs bs a h =
+    let same : ((x, rest_given fs) ∷ []) ≡ bs = cc in ap given_names (sym same) ∙ ap (λ l. x ∷ l) (sym (none_after ps a.2))
+
+once_bound : (b : Bool) (ps : Parameters) (ds : List Value) (vs : Values) (fs : Fields) (bs : List (Name × Given)) →
+    AllowedParameters all_left ps → (if b then None else bound ps ds vs fs) ≡ Some bs → given_names bs ≡ parameter_names ps
+once_bound true ps ds vs fs bs a h = cc
+once_bound false ps ds vs fs bs a h = names_bound all_left ps ds vs fs bs a h
+
+all_names_bound : (ps : Parameters) (ds : List Value) (vs : Arguments) (bs : List (Name × Given)) → AllowedParameters all_left ps → all_bound ps ds vs ≡ Some bs → given_names bs ≡ parameter_names ps
+all_names_bound ps ds (arguments vs fs) bs a h = once_bound (has_twice fs) ps ds vs fs bs a h
+
+or_both : (a b c : Bool) → (a || (b || c)) ≡ ((a || b) || c)
+or_both true b c = refl
+or_both false b c = refl
+
+binds_either : (x : Name) (a b : List Name) → binds x (a ++ b) ≡ (binds x a || binds x b)
+binds_either x [] b = refl
+binds_either x (y ∷ a) b = ap (λ c. bytes_eq y x || c) (binds_either x a b) ∙ or_both (bytes_eq y x) (binds x a) (binds x b)
+
+first_box : (c : Bool) (r : ℕ) (o : Option ℕ) → is_some (if c then Some r else o) ≡ (c || is_some o)
+first_box true r o = refl
+first_box false r o = refl
+
+module _ {H : Type 0} where
+  -- after a box for a value
+  abbrev pushed : Value → State H → State H
+  pushed v s = on_store (with_object (of_box (Some v))) s
+
+  same_end : {A : Type 0} (a b : A) (s t : State H) → done a s ≡ done b t → a ≡ b
+  same_end a b s t e = cc
+
+  one_name : (y : Name) (ys : List Name) (env own : Env) (s t : State H) (o : Option ℕ) → box_of y env ≡ o → then_do (with_box y env o s) (with_boxes ys) ≡ done own t →
+      ((before : Env) (u : State H) → with_boxes ys before u ≡ done own t → (x : Name) → is_some (box_of x own) ≡ (is_some (box_of x before) || binds x ys)) →
+      (x : Name) → is_some (box_of x own) ≡ (is_some (box_of x env) || (bytes_eq y x || binds x ys))
+  one_name y ys env own s t (Some r) h e more x = more env s e x ∙ known_box x y env r (binds x ys) (bytes_eq y x) refl h
+  one_name y ys env own s t None h e more x =
+      more ((y, length s.store) ∷ env) _ e x ∙ fresh_box (box_of x env) (length s.store) (binds x ys) (bytes_eq y x)
+
+  more_boxes : (names : List Name) (env own : Env) (s t : State H) → with_boxes names env s ≡ done own t → (x : Name) → is_some (box_of x own) ≡ (is_some (box_of x env) || binds x names)
+  more_boxes [] env own s t e x = ap (λ all. is_some (box_of x all)) (sym (same_end env own s t e)) ∙ or_false (is_some (box_of x env))
+  more_boxes (y ∷ ys) env own s t e x = one_name y ys env own s t (box_of y env) refl e (λ before u. more_boxes ys before own u t) x
+
+  pub new_scopes : NewScopes H
+  new_scopes names env s t e x = more_boxes names [] env s t e x
+
+  -- ---- calls
+
+  boxed : (y : Name) (r : ℕ) (names : List Name) (own : Env) (t : State H) (rest : Ending H Env) → then_do rest (λ env. give ((y, r) ∷ env)) ≡ done own t →
+      ((env : Env) (u : State H) → rest ≡ done env u → (x : Name) → is_some (box_of x env) ≡ binds x names) → (x : Name) → is_some (box_of x own) ≡ (bytes_eq y x || binds x names)
+  boxed y r names own t (done env u) e more x =
+      ap (λ all. is_some (box_of x all)) (sym (same_end ((y, r) ∷ env) own u t e)) ∙ first_box (bytes_eq y x) r (box_of x env) ∙ ap (λ b. bytes_eq y x || b) (more env u refl x)
+  boxed y r names own t (bad f u) e more x = cc
+
+  valued : (g : Given) (y : Name) (names : List Name) (own : Env) (s t : State H) (rest : State H → Ending H Env) →
+      then_do (value_given g s) (λ v. λ u. then_do (rest (pushed v u)) (λ env. give ((y, length u.store) ∷ env))) ≡ done own t →
+      ((before : State H) (env : Env) (u : State H) → rest before ≡ done env u → (x : Name) → is_some (box_of x env) ≡ binds x names) →
+      (x : Name) → is_some (box_of x own) ≡ (bytes_eq y x || binds x names)
+  valued (given v) y names own s t rest e more = boxed y (length s.store) names own t (rest (pushed v s)) e (more (pushed v s))
+  valued (rest_given fs) y names own s t rest e more = boxed y _ names own t (rest _) e (more _)
+
+  given_boxes : (bs : List (Name × Given)) (own : Env) (s t : State H) → boxes_of bs s ≡ done own t → (x : Name) → is_some (box_of x own) ≡ binds x (given_names bs)
+  given_boxes [] own s t e x = ap (λ all. is_some (box_of x all)) (sym (same_end [] own s t e))
+  given_boxes (b ∷ bs) own s t e x = valued b.1 b.0 (given_names bs) own s t (boxes_of bs) e (λ before env u. given_boxes bs env before u) x
+
+  block_boxes : (around env : Env) (t : State H) (names : List Name) (all : Ending H Env) → then_do all (λ own. give (own ++ around)) ≡ done env t →
+      ((own : Env) (u : State H) → all ≡ done own u → BoxesOf names own) → (own : Env) × (env ≡ own ++ around) × BoxesOf names own
+  block_boxes around env t names (done own u) e more = (own, sym (same_end (own ++ around) env u t e), more own u refl)
+  block_boxes around env t names (bad f u) e more = cc
+
+  parameter_boxes : (around env : Env) (t : State H) (parameters names : List Name) (first : Ending H Env) →
+      then_do first (λ own. λ u. then_do (with_boxes names own u) (λ all. give (all ++ around))) ≡ done env t →
+      ((own : Env) (u : State H) → first ≡ done own u → BoxesOf parameters own) → (own : Env) × (env ≡ own ++ around) × BoxesOf (parameters ++ names) own
+  parameter_boxes around env t parameters names (done own u) e more =
+      block_boxes around env t (parameters ++ names) (with_boxes names own u) e
+      (λ all w h x. more_boxes names own all u w h x ∙ ap (λ b. b || binds x names) (more own u refl x) ∙ sym (binds_either x parameters names))
+  parameter_boxes around env t parameters names (bad f u) e more = cc
+
+  argument_boxes : (p : Place) (around env : Env) (s t : State H) (parameters names : List Name) (o : Option (List (Name × Given))) →
+      then_do (or_fail kind.ArgBind p o s) (λ bs. λ u. then_do (boxes_of bs u) (λ own. λ v. then_do (with_boxes names own v) (λ all. give (all ++ around)))) ≡ done env t →
+      ((bs : List (Name × Given)) → o ≡ Some bs → given_names bs ≡ parameters) → (own : Env) × (env ≡ own ++ around) × BoxesOf (parameters ++ names) own
+  argument_boxes p around env s t parameters names None e more = cc
+  argument_boxes p around env s t parameters names (Some bs) e more =
+      parameter_boxes around env t parameters names (boxes_of bs s) e (λ own u h x. given_boxes bs own s u h x ∙ ap (binds x) (more bs refl))
+
+  pub call_scopes : CallScopes H
+  call_scopes p ps names ds vs around env s t allowed e =
+      argument_boxes p around env s t (parameter_names ps) names (all_bound ps ds vs) e (λ bs. all_names_bound ps ds vs bs allowed)

@@ -1,0 +1,12 @@
+pub mod Binders
+pub mod Boxes
+pub mod Clauses
+pub mod Found
+pub mod Gathering
+pub mod Nesting
+pub mod Putting
+mod Rows
+pub mod Running
+pub mod Sets
+pub mod Told
+pub mod Views

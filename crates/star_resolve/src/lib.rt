@@ -1,0 +1,16 @@
+//! Scopes: each name of a program is bound to one variable, or is unknown.
+#![tactic(auto)]
+
+mod binding;
+mod event;
+mod gather;
+mod laws;
+mod levels;
+mod names;
+mod program;
+mod scope;
+mod walk;
+
+pub use binding::{Resolved, Variables, resolve};
+pub use laws::{call_scopes, names_have_their_boxes, new_scopes};
+pub use levels::Variable;

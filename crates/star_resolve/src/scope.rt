@@ -1,0 +1,59 @@
+// The names of a scope, as a set in their order.
+ghost use Rattle.std.specs.Prelude.{◌≡◌, bytes_eq, position, IfOk, OnOk};
+ghost use Rattle.star_resolve.specs.Variables.{each_once, with_name};
+
+use indexmap::IndexSet;
+use std::alloc::Global;
+use std::marker::Model;
+use ytt_base::text::{Memory, Text, Texts};
+
+/// The names of a scope, each once, seen as the list of them in the order in which they are first bound.
+#[derive(Drop)]
+pub(crate) struct Scope {
+    names: IndexSet<String>,
+}
+
+impl Model for Scope {
+    ghost use Rattle.std.specs.Prelude.{List, ℕ, string_bytes, map as each};
+
+    ghost Value = { List (List ℕ) };
+
+    ghost view = { λ s. each string_bytes s.names.keys };
+}
+
+impl Scope {
+    ghost use Rattle.std.specs.Prelude.{[]};
+
+    fn new(alloc: Global) -> Scope
+        ensures { result ≡ [] }
+    {
+        Scope {
+            names: IndexSet::new(alloc),
+        }
+    }
+
+    fn add(&mut self, alloc: Global, name: &Text) -> Result<(), Memory>
+        ensures { OnOk result (self.new ≡ with_name self.old name.now) }
+    {
+        self.names.insert(String::from_str(alloc, name.as_str())?)?;
+        Ok(())
+    }
+
+    /// The scope that binds these names.
+    pub(crate) fn of(alloc: Global, names: &Texts) -> Result<Scope, Memory>
+        ensures { IfOk result (λ scope. scope ≡ each_once names.now) }
+    {
+        let mut scope = Scope::new(alloc);
+        for name in names.as_slice() {
+            scope.add(alloc, name)?;
+        }
+        Ok(scope)
+    }
+
+    /// The number of a name.
+    pub(crate) fn number(&self, name: &Text) -> Option<usize>
+        ensures { result ≡ position (bytes_eq name.now) self.now }
+    {
+        self.names.get_index_of(name.as_str())
+    }
+}
