@@ -142,7 +142,10 @@ fn add_trailing(
         Some(comment) => {
             let path = copy_path(alloc, path)?;
             let comment = copy_comment(comment)?;
-            push(flats, Flat::Trails(path, kind, is_collection(&item.content), comment))
+            push(
+                flats,
+                Flat::Trails(path, kind, is_collection(&item.content), comment),
+            )
         }
         None => Ok(()),
     }
@@ -173,12 +176,7 @@ fn add_item(
 
 #[cycle(flat)]
 #[tactic(auto, using(yaml_noted::proofs::Views::views))]
-fn add_below(
-    alloc: Global,
-    content: &Content,
-    path: &Path,
-    flats: &mut Flats,
-) -> Result<(), Memory>
+fn add_below(alloc: Global, content: &Content, path: &Path, flats: &mut Flats) -> Result<(), Memory>
     ensures { OnOk result (flats_of flats.new ≡ flats_of flats.old ++ spec.flat_below (path_of path.now) (content_of content.now)) }
 {
     match content {
@@ -212,7 +210,13 @@ pub fn flatten(alloc: Global, docs: &NotedDocs) -> Result<Flats, Memory>
 {
     let mut flats: Flats = Items::new(alloc);
     let documents: Path = Items::new(alloc);
-    add_items(alloc, &docs.items, ItemKind::Document, &documents, &mut flats)?;
+    add_items(
+        alloc,
+        &docs.items,
+        ItemKind::Document,
+        &documents,
+        &mut flats,
+    )?;
     add_loose(&docs.after, &mut flats)?;
     Ok(flats)
 }
