@@ -19,7 +19,7 @@ use Rattle.template_spec.specs.Build.{built}
 use Rattle.template_spec.specs.Calls.{bottom, bottom_children, bottom_flow, program_calls}
 use Rattle.template_spec.specs.Files.{FileResult, File, Loader, ended, ops_loads}
 use Rattle.template_spec.specs.Meaning.{RunFile, documents, loads_in, names_in, run_blocks}
-use Rattle.template_spec.specs.Names.{ops_names}
+use Rattle.star_spec.specs.Scopes.{ops_names}
 use Rattle.template_spec.specs.Run.{Node, node_part, runs}
 use Rattle.star_eval.specs.declared.node.OpenNode.{OpenNode}
 use Rattle.star_eval.specs.declared.run.FlatResult.{FlatResult}

@@ -5,7 +5,8 @@ use Rattle.template_spec.specs.Template.{Notes, no_notes, note, Key, no_key, wri
 use Rattle.star_spec.specs.Program.{node_end}
 use Rattle.star_spec.specs.Blocks.{op_part, Ops, no_ops, an_op}
 use Rattle.star_spec.specs.Names.{target_names}
-use Rattle.template_spec.specs.Names.{item_names, items_names, branches_names, content_names, ops_names, arms_names}
+use Rattle.star_spec.specs.Scopes.{ops_names, arms_names}
+use Rattle.template_spec.specs.Names.{item_names, items_names, branches_names, content_names}
 use Rattle.template_spec.specs.Files.{item_loads, items_loads, content_loads, ops_loads}
 use Rattle.template_spec.proofs.Nested.{notes_ops, key_ops, item_ops, items_ops, arms, content_ops}
 

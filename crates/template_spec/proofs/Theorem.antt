@@ -16,7 +16,8 @@ use Rattle.template_spec.specs.Run.{runs}
 use Rattle.template_spec.specs.Calls.{result_of, level_of, enter_items, enter_ops, bottom, bottom_flow, template_table, program_table, template_calls, program_calls}
 use Rattle.template_spec.specs.Files.{items_loads, all_loads, bind_loaded, ended, File, Shelf, loader_of}
 use Rattle.template_spec.specs.Meaning.{run_blocks, Run, RunFile, names_in, loads_in, build_loaded, AllStand, Agrees, FilesAgree, LoadsAgree}
-use Rattle.template_spec.specs.Names.{items_names, ops_names}
+use Rattle.star_spec.specs.Scopes.{ops_names}
+use Rattle.template_spec.specs.Names.{items_names}
 use Rattle.template_spec.specs.ControlWords.{free, WordsStand}
 use Rattle.star_spec.proofs.Computations.{then_ext}
 use Rattle.template_spec.proofs.Follows.{mapped}

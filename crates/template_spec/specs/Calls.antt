@@ -13,7 +13,8 @@ use Rattle.star_spec.specs.Lambdas.{only_if, lambda_in, lambda_among, lambda_in_
 use Rattle.template_spec.specs.Template.{Notes, no_notes, note, Key, no_key, written_key, key_from, Item, node, code, if_block, for_block, def_block, Items, no_items, an_item, Branches, no_branch, else_branch, elif_branch, Content, written_value, value_from, pairs, elements, fragment_kind}
 use Rattle.template_spec.specs.Build.{builds, built}
 use Rattle.template_spec.specs.Run.{Node, opened, runs}
-use Rattle.template_spec.specs.Names.{items_names, ops_names}
+use Rattle.star_spec.specs.Scopes.{ops_names}
+use Rattle.template_spec.specs.Names.{items_names}
 
 -- ---- the block of a function
 

@@ -13,7 +13,8 @@ use Rattle.template_spec.specs.Compiled.{compiled}
 use Rattle.template_spec.specs.Take.{body_tree}
 use Rattle.template_spec.specs.Build.{builds, built}
 use Rattle.template_spec.specs.Run.{runs}
-use Rattle.template_spec.specs.Names.{items_names, ops_names}
+use Rattle.star_spec.specs.Scopes.{ops_names}
+use Rattle.template_spec.specs.Names.{items_names}
 use Rattle.template_spec.specs.Calls.{bottom, bottom_flow, template_calls, program_calls}
 use Rattle.template_spec.specs.Files.{Load, items_loads, ops_loads, Loader, FileResult, File, Shelf, loader_of}
 use Rattle.template_spec.specs.ControlWords.{free, WordsStand}

@@ -1,8 +1,8 @@
--- The names that a file or a function's block binds, in text order; those of inner functions not.
+-- The names that the items of a file or of a function's block bind, in text order; those of inner functions not. Of a program they
+-- are `op_names` and its kin of `star_spec`'s scopes.
 use Rattle.std.specs.Prelude.{List, [], ◌∷◌, ◌++◌}
 use Rattle.star_spec.specs.Code.{Name}
 use Rattle.star_spec.specs.Names.{target_names, statement_names}
-use Rattle.star_spec.specs.Blocks.{Op, op_part, op_statement, op_if, op_for, op_def, Ops, no_ops, an_op, Arms, no_arm, else_arm, arm}
 use Rattle.template_spec.specs.Template.{Item, node, code, if_block, for_block, def_block, Items, no_items, an_item, Branches, no_branch, else_branch, elif_branch, Content, written_value, value_from, pairs, elements}
 
 abbrev mutual
@@ -27,21 +27,3 @@ abbrev mutual
   content_names (value_from e) = []
   content_names (pairs is) = items_names is
   content_names (elements is) = items_names is
-
--- the names that the blocks of a program bind
-abbrev mutual
-  pub op_names : Op → List Name
-  op_names (op_part o) = []
-  op_names (op_statement s) = statement_names s
-  op_names (op_if p branches) = arms_names branches
-  op_names (op_for p x e body) = target_names x ++ ops_names body
-  op_names (op_def p number fragment x ps body) = x ∷ []
-
-  pub ops_names : Ops → List Name
-  ops_names no_ops = []
-  ops_names (an_op o os) = op_names o ++ ops_names os
-
-  pub arms_names : Arms → List Name
-  arms_names no_arm = []
-  arms_names (else_arm os) = ops_names os
-  arms_names (arm e os more) = ops_names os ++ arms_names more
