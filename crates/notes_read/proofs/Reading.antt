@@ -1,5 +1,5 @@
 -- Each text is read as one thing.
-use Rattle.std.proofs.Common.{◌≡◌, ℕ, List, Result, Ok, Err, refl, sym, ap, ◌∙◌, subst, inl, inr, ⊎_elim}
+use Rattle.std.proofs.Common.{◌≡◌, ℕ, List, [], ◌∷◌, Result, Ok, Err, refl, sym, ap, ◌∙◌, subst, inl, inr, ⊎_elim}
 use Rattle.std.specs.Prelude.{◌⊎◌}
 use Rattle.ytt_base.specs.declared.fault.Fault.{Fault}
 use Rattle.ytt_base.specs.declared.fault.Place.{Place}
@@ -86,7 +86,7 @@ module _ {X A : Type 0} (s : Start) (inner : Part → X) (view : X → A) (place
   -- what its tokens are read as
   pub gives_read : (found : held.Tokens) (res : Result X Stop) (o : Outcome A) → HasTokens origin.Comment place.file place.line text (Ok found) → HasRead s inner found res → ReadsAs s (λ p. view (inner p)) place text o
       → Gives view res o
-  gives_read found (Ok x) o h p r = one_reading s (λ p. view (inner p)) place text o (Ok (view x)) r (found.tokens, p.0, h.0, p.2, ap view p.1)
+  gives_read found (Ok x) o h p r = one_reading s (λ p. view (inner p)) place text o (Ok (view x)) r (found.tokens, p.0 ∷ [], h.0, p.2, ap view p.1)
   gives_read found (Err (stop.Fault f)) o h p r =
       let same : f ≡ refusal_fault place.file p.0 = stop_inj f (refusal_fault place.file p.0) (p.1 ∙ told_is found.file p.0 ∙ ap (λ file. stop.Fault (refusal_fault file p.0)) h.1) in
       one_reading s (λ p. view (inner p)) place text o (Err f) r (inr (found.tokens, p.0, h.0, p.2, same))
