@@ -7,7 +7,7 @@ use Rattle.template_events.specs.declared.event.Flat as held
 use Rattle.template_events.specs.declared.event.Flat.TheVariants as flat
 use Rattle.template_events.specs.declared.event.Written.{Written}
 use Rattle.template_events.specs.declared.event.Written.TheVariants as written
-use Rattle.template_events.specs.Flat.{Shape, a_scalar, a_map, a_list, Flat, starts, trailing_of, alone}
+use Rattle.template_pass.specs.Flat.{Shape, a_scalar, a_map, a_list, Flat, starts, trailing_of, alone}
 use Rattle.template_spec.specs.Events.{Path}
 
 -- the innermost number comes first

@@ -2,7 +2,7 @@
 ghost use Rattle.std.specs.Prelude.{◌≡◌, [], ◌∷◌, ◌++◌, IfOk, OnOk, option_map, map as each};
 ghost use Rattle.star_spec.specs.Program.{document_item};
 ghost use Rattle.star_tree.specs.View.{item_kind_of};
-ghost use Rattle.template_events.specs.Flat as spec;
+ghost use Rattle.template_pass.specs.Flat as spec;
 ghost use Rattle.template_events.specs.View.{flats_of, path_of, shape_of};
 ghost use Rattle.template_spec.specs.Events.{is_collection, is_flow};
 ghost use Rattle.yaml_noted.specs.View.{comment_of, comments_of, content_of, documents_of, items_of, note_of};

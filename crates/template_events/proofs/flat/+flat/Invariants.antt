@@ -1,7 +1,7 @@
 use Rattle.std.proofs.Common.{◌≡◌, ◌++◌, drop}
 use Rattle.star_tree.specs.View.{item_kind_of}
 use Rattle.yaml_noted.specs.View.{items_of}
-use Rattle.template_events.specs.Flat.{flat_items}
+use Rattle.template_pass.specs.Flat.{flat_items}
 use Rattle.template_events.specs.View.{flats_of, path_of}
 use Rattle.template_events.proofs.flat.+flat.Given as goal
 

@@ -1,6 +1,6 @@
 use Rattle.std.proofs.Common.{◌≡◌, ◌++◌, drop}
 use Rattle.yaml_noted.specs.View.{comments_of}
-use Rattle.template_events.specs.Flat.{loose_all}
+use Rattle.template_pass.specs.Flat.{loose_all}
 use Rattle.template_events.specs.View.{flats_of}
 use Rattle.template_events.proofs.flat.add_loose.Given as goal
 

@@ -1,5 +1,5 @@
 -- The items of noted documents, with their keys and what is written in them, and the comments, in text order.
-use Rattle.std.specs.Prelude.{ℕ, suc, Bool, true, false, if◌then◌else◌, List, [], ◌∷◌, ◌++◌, map as each, Option, Some, None}
+use Rattle.std.specs.Prelude.{ℕ, suc, Bool, false, if◌then◌else◌, List, [], ◌∷◌, ◌++◌, map as each, Option, Some, None}
 use Rattle.ytt_base.specs.Trees.{Scalar, Tree}
 use Rattle.yaml_spec.specs.Noted.{Comment, Note, Content, noted_scalar, noted_list, noted_map, Items, no_items, item, Documents}
 use Rattle.star_spec.specs.Program.{ItemKind, document_item, pair_item, element_item}

@@ -1,0 +1,6 @@
+pub mod Building
+pub mod Flat
+pub mod Laws
+pub mod Levels
+pub mod Orderly
+pub mod Rows
