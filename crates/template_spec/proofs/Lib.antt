@@ -13,4 +13,5 @@ pub mod PlacingPlaced
 pub mod Runs
 pub mod TakeKeeps
 pub mod Theorem
+pub mod UsesAgree
 pub mod WholeExamples

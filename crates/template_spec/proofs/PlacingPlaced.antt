@@ -8,10 +8,10 @@ use Rattle.template_spec.specs.Placing.{not_built}
 use Rattle.yaml_spec.specs.Noted as noted
 use Rattle.yaml_spec.specs.Noted.{Comment, Note, Documents, noted_scalar, noted_list, noted_map, code_in, is_code}
 use Rattle.star_spec.specs.Code.{Expr}
-use Rattle.star_spec.specs.Program.{ItemKind, document_item, element_item, pair_item}
+use Rattle.star_spec.specs.Program.{ItemKind, document_item, pair_item}
 use Rattle.star_spec.specs.Reading.{Reader}
 use Rattle.template_spec.specs.Placing.{before_items, content_beside, map_in, scalar_in, document_at, document_content, own_place, pair_content, pair_under, placed, placed_document, placed_documents, placed_each, placed_pair, placed_pairs, value_content, without_comments}
-use Rattle.template_spec.specs.Template.{Item, node, code, if_block, for_block, def_block, Items, no_items, an_item, Content, written_value, value_from, pairs, elements}
+use Rattle.template_spec.specs.Template.{Item, Items, Content, written_value}
 use Rattle.template_spec.specs.Placed.{PlacedContent, PlacedItem, PlacedItems, Placed}
 use Rattle.template_spec.specs.WellNested.{Ways, in_a_file, in_a_node}
 

@@ -1,5 +1,5 @@
 -- One more child behind those of a collection; a key stands once in a map.
-use Rattle.std.specs.Prelude.{Bool, true, false, ◌||◌, ℕ, List, [], Option, Some, None, if◌then◌else◌, codes, bytes_eq}
+use Rattle.std.specs.Prelude.{Bool, false, ◌||◌, ℕ, List, [], Option, Some, None, if◌then◌else◌, codes, bytes_eq}
 use Rattle.ytt_base.specs.declared.fault.FaultKind.TheVariants as kind
 use Rattle.ytt_base.specs.declared.fault.Place.{Place}
 use Rattle.ytt_base.specs.Trees.{Scalar, same_key}

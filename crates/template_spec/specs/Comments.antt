@@ -1,5 +1,5 @@
 -- What a comment of a template says. How its code is read is a parameter.
-use Rattle.std.specs.Prelude.{ℕ, Bool, true, false, not, ◌&&◌, ◌||◌, ◌==◌, if◌then◌else◌, List, [], ◌∷◌, ◌++◌, codes, length, drop, Some, Ok, Err}
+use Rattle.std.specs.Prelude.{ℕ, Bool, not, ◌&&◌, ◌||◌, ◌==◌, if◌then◌else◌, List, [], ◌∷◌, ◌++◌, codes, length, drop, Some, Ok, Err}
 use Rattle.std.specs.Char.{is_ascii_alphanumeric}
 use Rattle.std.specs.List.{after_first, before_first, list_any, starts_with}
 use Rattle.ytt_base.specs.declared.fault.FaultKind.TheVariants as kind

@@ -12,9 +12,12 @@ pub mod Names
 pub mod Nesting
 pub mod Numbered
 pub mod OpenBlocks
+pub mod Passes
 pub mod Placed
 pub mod Placing
 pub mod Run
 pub mod Take
 pub mod Template
+pub mod Unbuilt
+pub mod Uses
 pub mod WellNested

@@ -8,7 +8,7 @@ use Rattle.ytt_base.specs.declared.fault.Place.{Place}
 use Rattle.ytt_base.specs.Trees.{Scalar, null, boolean, integer, string, Tree, scalar, list, map, Trees, no_trees, tree, Pairs, no_pairs, pair, max_depth}
 use Rattle.star_spec.specs.Code.{Name}
 use Rattle.star_spec.specs.Program.{ItemKind, document_item, pair_item, element_item}
-use Rattle.star_spec.specs.Values.{Value, none_value, bool_value, int_value, text_value, tuple_value, struct_value, fragment_value, list_value, dict_value, replace_value, values_in, fields_in, child, Children, no_children, a_child, no_built, Body, one, map_of, list_of, Taken, taken, many, Contents, of_list, of_dict, of_box, of_function, Object}
+use Rattle.star_spec.specs.Values.{Value, none_value, bool_value, int_value, text_value, tuple_value, struct_value, fragment_value, list_value, dict_value, replace_value, values_in, fields_in, child, Children, no_children, a_child, no_built, Body, one, map_of, list_of, Taken, taken, many, of_list, of_dict, of_box, of_function, Object}
 use Rattle.star_spec.specs.Outcomes.{Computation, paid, paid_by, give, fail, reads, ◌>>=◌}
 use Rattle.star_spec.specs.Keys.{text_cost}
 use Rattle.star_spec.specs.Store.{object_at}
