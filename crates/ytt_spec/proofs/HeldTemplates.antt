@@ -14,7 +14,7 @@ use Rattle.star_spec.specs.Reading.{Reader}
 use Rattle.star_grammar.specs.Flat.{IsReader, Reads}
 use Rattle.template_spec.specs.Placing as placing
 use Rattle.template_spec.specs.Placing.{code_value, document_at, document_content, map_in, own_place, pair_content, pair_under, placed, placed_document, placed_documents, placed_each, placed_pair, placed_pairs, scalar_in, value_content, without_comments}
-use Rattle.template_spec.specs.Template.{no_key, written_key, no_notes, Item, node, Items, no_items, an_item, Content, written_value, value_from, pairs}
+use Rattle.template_spec.specs.Template.{Items, Content}
 use Rattle.template_spec.proofs.BuildKeeps.{HeldContent, HeldItem, HeldItems}
 use Rattle.std.specs.Result.{IfOk}
 use Rattle.ytt_laws.proofs.Yielded.{yielded_any, yielded_if, yielded_then}

@@ -7,7 +7,6 @@ use Rattle.yaml_spec.specs.Read.{Read, plain_trees, read_trees}
 use Rattle.yaml_spec.specs.Text.{Text}
 use Rattle.yaml_back.proofs.ReadsBack.{no_code, noted_same, reads_back}
 use Rattle.star_spec.specs.Reading.{Reader}
-use Rattle.star_grammar.specs.Flat.{IsReader}
 use Rattle.template_spec.specs.Placing.{placed}
 use Rattle.ytt_spec.specs.Meaning.{TextMeans, built, documents_meaning}
 

@@ -145,10 +145,10 @@ form_next : (n : ℕ) (gs : List Given) (name : List ℕ) (form : Form) (words :
 form_next n gs name alone words at =
     (n + 1, by_name n gs name words at.option at.follows ∙ ap (λ b. cond b (asked_from (n + 1) (added gs name alone) words) (asked_value (n + 1) gs at.option name words)) at.good)
 form_next n gs name (apart value) words at = (
-    n + 1 + 1,
-    by_name n gs name (value ∷ words) at.option at.follows
-        ∙ ap (λ b. cond b (asked_from (n + 1) (added gs name alone) (value ∷ words)) (asked_value (n + 1) gs at.option name (value ∷ words))) (no_flag at.option value at.good)
-        ∙ ap (λ b. cond b (asked_from (n + 1 + 1) (added gs name (apart value)) words) (wrong (n + 1))) at.good,
+  n + 1 + 1,
+  by_name n gs name (value ∷ words) at.option at.follows
+      ∙ ap (λ b. cond b (asked_from (n + 1) (added gs name alone) (value ∷ words)) (asked_value (n + 1) gs at.option name (value ∷ words))) (no_flag at.option value at.good)
+      ∙ ap (λ b. cond b (asked_from (n + 1 + 1) (added gs name (apart value)) words) (wrong (n + 1))) at.good,
 )
 form_next n gs name (joined value) words at =
     let cut = cut_joined name value (no_equals name at.option at.follows.found) in (
