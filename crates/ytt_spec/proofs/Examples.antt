@@ -1,5 +1,5 @@
 -- What the definitions give for some command lines, by computing.
-use Rattle.std.proofs.Common.{◌≡◌, ℕ, List, [], ◌∷◌, Ok, refl, bytes_eq, codes, pos, if◌then◌else◌}
+use Rattle.std.proofs.Common.{◌≡◌, ℕ, true, false, List, [], ◌∷◌, Ok, refl, bytes_eq, codes, pos, if◌then◌else◌}
 use Rattle.std.specs.Fmt.{digits}
 use Rattle.std.specs.Str.{chars, is_utf8}
 use lib.Utf8.{encode}
@@ -24,6 +24,7 @@ use Rattle.template_spec.specs.Nesting.{placed_whole}
 use Rattle.ytt_base.specs.Outcomes.{place_at}
 use Rattle.ytt_outside.specs.Standing.{Standing, nothing, file, folder}
 use Rattle.ytt_spec.specs.Due.{Due, done, fault, usage, due}
+use Rattle.ytt_spec.specs.Words.{asked, asked_for, render}
 
 -- one thing stands at every path
 abbrev due_over : CodeReader → Standing → List (List ℕ) → Due
@@ -124,6 +125,45 @@ short_option_joined r = refl
 joined_steps_twice : (r : CodeReader) → due_over r nothing (codes "--steps" ∷ codes "7" ∷ codes "--steps=7" ∷ []) ≡ usage (codes "error: usage at word 3\n")
 unfolding digits
 joined_steps_twice r = refl
+
+-- ---- a flag, which takes no value
+
+flag_before : (r : CodeReader) → due_over r nothing (codes "--ignore-unknown-comments" ∷ codes "-f" ∷ codes "a.yml" ∷ []) ≡ fault (codes "error: FileMissing: a.yml\n")
+flag_before r = refl
+
+flag_behind : (r : CodeReader) → due_over r nothing (codes "render" ∷ codes "-f" ∷ codes "a.yml" ∷ codes "--ignore-unknown-comments" ∷ []) ≡ fault (codes "error: FileMissing: a.yml\n")
+flag_behind r = refl
+
+flag_asks : asked (codes "-f" ∷ codes "a.yml" ∷ codes "--ignore-unknown-comments" ∷ []) ≡ asked_for (render (record { path = codes "a.yml"; steps = 5000000; ignore_unknown = true }))
+flag_asks = refl
+
+no_flag_asks : asked (codes "-f" ∷ codes "a.yml" ∷ []) ≡ asked_for (render (record { path = codes "a.yml"; steps = 5000000; ignore_unknown = false }))
+no_flag_asks = refl
+
+-- the value of another option may be a flag's name
+flag_as_path : (r : CodeReader) → due_over r nothing (codes "-f" ∷ codes "--ignore-unknown-comments" ∷ []) ≡ fault (codes "error: FileMissing: --ignore-unknown-comments\n")
+flag_as_path r = refl
+
+flag_twice : (r : CodeReader) → due_over r nothing (codes "--ignore-unknown-comments" ∷ codes "-f" ∷ codes "a.yml" ∷ codes "--ignore-unknown-comments" ∷ []) ≡ usage (codes "error: usage at word 4\n")
+unfolding digits
+flag_twice r = refl
+
+flag_with_value : (r : CodeReader) → due_over r nothing (codes "-f" ∷ codes "a.yml" ∷ codes "--ignore-unknown-comments=x" ∷ []) ≡ usage (codes "error: usage at word 3\n")
+unfolding digits
+flag_with_value r = refl
+
+flag_with_empty_value : (r : CodeReader) → due_over r nothing (codes "--ignore-unknown-comments=" ∷ codes "-f" ∷ codes "a.yml" ∷ []) ≡ usage (codes "error: usage at word 1\n")
+unfolding digits
+flag_with_empty_value r = refl
+
+-- the word behind a flag is no value of it
+flag_and_word : (r : CodeReader) → due_over r nothing (codes "--ignore-unknown-comments" ∷ codes "true" ∷ codes "-f" ∷ codes "a.yml" ∷ []) ≡ usage (codes "error: usage at word 2\n")
+unfolding digits
+flag_and_word r = refl
+
+only_flag : (r : CodeReader) → due_over r nothing (codes "render" ∷ codes "--ignore-unknown-comments" ∷ []) ≡ usage (codes "error: usage at word 3\n")
+unfolding digits
+only_flag r = refl
 
 -- ---- templates, whose code is read as its expression
 
