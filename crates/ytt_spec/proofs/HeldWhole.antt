@@ -1,12 +1,12 @@
 -- The scalars and the literals of a template in which all is built are what the program holds, where those of its documents
 -- are; and its collections nest no deeper than theirs.
-use Rattle.std.proofs.Common.{◌≡◌, ℕ, zero, suc, ◌+◌, ◌≤◌, Bool, true, false, ◌&&◌, ◌==◌, bytes_eq, if◌then◌else◌, List, [], ◌∷◌, ◌++◌, Option, Some, None, Ok, Err, refl, ap, arith}
+use Rattle.std.proofs.Common.{◌≡◌, ℕ, suc, ◌+◌, ◌≤◌, Bool, true, false, ◌&&◌, ◌==◌, bytes_eq, if◌then◌else◌, List, [], ◌∷◌, Option, Some, None, refl, ap, arith}
 use Rattle.std.specs.Prelude.{max, unwrap_or}
 use Rattle.std.specs.Result.{IfOk}
 use Rattle.ytt_base.specs.declared.fault.Place.{Place}
 use Rattle.ytt_base.specs.declared.fault.Fault.{Fault}
-use Rattle.ytt_base.specs.Outcomes.{Outcome, ◌>>=◌, place_at}
-use Rattle.ytt_base.specs.Trees.{Scalar, null, scalar, list, map, IsScalar, depth, max_depth, pairs_depth, trees_depth}
+use Rattle.ytt_base.specs.Outcomes.{◌>>=◌, place_at}
+use Rattle.ytt_base.specs.Trees.{Scalar, null, scalar, IsScalar, depth, max_depth, pairs_depth, trees_depth}
 use Rattle.ytt_laws.proofs.Yielded.{yielded_behind, yielded_then}
 use Rattle.yaml_spec.specs.Noted as noted
 use Rattle.yaml_spec.specs.Noted.{Note, Documents, noted_scalar, noted_list, noted_map, bare_pairs, bare_tree, bare_trees, key_of}
