@@ -1,5 +1,5 @@
-//! Renders Carvel ytt templates: `gingercrag [render] -f PATH [--steps N]`, where the steps may also be
-//! written `--steps=N`.
+//! Renders Carvel ytt templates: `gingercrag [render] -f PATH [--steps N] [--ignore-unknown-comments]`,
+//! where the steps may also be written `--steps=N`.
 #![tactic(auto)]
 
 use std::process::ExitCode;

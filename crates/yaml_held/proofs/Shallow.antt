@@ -194,8 +194,9 @@ shallow_doc (suc left) n r rs =
 
 -- ---- documents
 
-abbrev DocumentsIn : Documents → Type 0
-DocumentsIn ds = trees_depth (bare_trees ds.items) ≤ max_depth
+-- no document nests deeper than it may
+abbrev pub DocumentsShallow : Documents → Type 0
+DocumentsShallow ds = trees_depth (bare_trees ds.items) ≤ max_depth
 
 abbrev Explicit : Type 0
 Explicit = Note × Found × List Comment
@@ -210,24 +211,24 @@ shallow_explicit before s =
     (yielded_then (FoundIn max_depth) _ (document_content _) _ (shallow_document _) (λ f p. p))
     (yielded_then (FoundIn max_depth) _ (document_content _) _ (shallow_document _) (λ f p. p))
 
-shallow_documents : (is_closed : Bool) (before : List Comment) (ss : List Segment) → IfOk (documents is_closed before ss) DocumentsIn
+shallow_documents : (is_closed : Bool) (before : List Comment) (ss : List Segment) → IfOk (documents is_closed before ss) DocumentsShallow
 unfolding documents
 shallow_documents is_closed before [] = (omega arith)
 shallow_documents is_closed before (s ∷ ss) =
     yielded_either _ (is_start s.marker) _ _
     (yielded_then (λ (d : Explicit). FoundIn max_depth d.1) _ (explicit before s) _ (shallow_explicit before s) (λ d p.
-    yielded_then DocumentsIn _ (documents false d.2 ss) _ (shallow_documents false d.2 ss) (λ ds q. omega arith)))
+    yielded_then DocumentsShallow _ (documents false d.2 ss) _ (shallow_documents false d.2 ss) (λ ds q. omega arith)))
     (yielded_either _ is_closed _ _ tt (yielded_behind _ (read_ended s) _ (λ cs. shallow_documents true (before ++ cs) ss)))
 
-shallow_implicit : (front : List Line) (ss : List Segment) → IfOk (implicit front ss) DocumentsIn
+shallow_implicit : (front : List Line) (ss : List Segment) → IfOk (implicit front ss) DocumentsShallow
 unfolding implicit
 shallow_implicit front ss =
     yielded_option _ (first_content front) _ _ (shallow_documents false (comments_of front) ss) (λ l.
     yielded_either _ (first l.text == percent) _ _ tt
     (yielded_then (FoundIn max_depth) _ (document_content _) _ (shallow_document _) (λ f p.
-    yielded_then DocumentsIn _ (documents false _ ss) _ (shallow_documents false _ ss) (λ ds q. omega arith))))
+    yielded_then DocumentsShallow _ (documents false _ ss) _ (shallow_documents false _ ss) (λ ds q. omega arith))))
 
-shallow_read : (file : ℕ) (bytes : List ℕ) → IfOk (Read file bytes) DocumentsIn
+pub shallow_read : (file : ℕ) (bytes : List ℕ) → IfOk (Read file bytes) DocumentsShallow
 unfolding Read
 shallow_read file bytes = yielded_behind _ (Lines file bytes) _ (λ ls. shallow_implicit (segments ls).0 (segments ls).1)
 
@@ -239,14 +240,14 @@ drop_writable (tree t ts) h = go (omega arith) (drop_writable ts (omega arith)) 
     go l h true e = h
     go l h false e = (e, l, h)
 
-shallow_distinct : (ds : Documents) → DocumentsIn ds → IfOk (distinct ds) DocumentsIn
+shallow_distinct : (ds : Documents) → DocumentsShallow ds → IfOk (distinct ds) DocumentsShallow
 unfolding distinct
 shallow_distinct ds h = go (twice_below ds.items)
   where
     go : (o : Option Note) → IfOk (elim o as (λ _. Outcome Documents) [
       | Some n ↦ Err (record { kind = kind.KeyTwice; place = Some n.place; detail = key_text (key_of n) })
       | None ↦ Ok ds
-    ]) DocumentsIn
+    ]) DocumentsShallow
     go None = h
     go (Some n) = tt
 
@@ -254,5 +255,5 @@ shallow_distinct ds h = go (twice_below ds.items)
 pub reads_writable : (file : ℕ) (bytes : List ℕ) (ts : Trees) → read_trees file bytes ≡ Ok ts → Writable ts
 unfolding read_trees
 reads_writable file bytes ts e =
-    IfOk-at_ok Writable e (yielded_then DocumentsIn Writable (Read file bytes) _ (shallow_read file bytes) (λ ds p.
-    yielded_then DocumentsIn Writable (distinct ds) _ (shallow_distinct ds p) (λ ds q. drop_writable (bare_trees ds.items) q)))
+    IfOk-at_ok Writable e (yielded_then DocumentsShallow Writable (Read file bytes) _ (shallow_read file bytes) (λ ds p.
+    yielded_then DocumentsShallow Writable (distinct ds) _ (shallow_distinct ds p) (λ ds q. drop_writable (bare_trees ds.items) q)))

@@ -2,8 +2,8 @@
 ghost use Rattle.std.specs.Prelude.{◌≡◌, ◌≤◌, ◌<◌, ◌^◌, ◌+◌, ◌-◌, [], Bool, IfSome, false, IsNone, List, length, map, None, Some, true, if◌then◌else◌, string_bytes};
 ghost use Rattle.std.specs.Option.{option_map};
 ghost use Rattle.std.specs.Str.{all_ascii_digits};
-ghost use Rattle.ytt_spec.specs.Words.{Given, added, asked, asked_from, begun, command_options, is_number, is_path, is_steps, may_follow, name_in, named, number_of, value_in, values_of};
-ghost use Rattle.ytt_main.specs.Asks.{Asks, AsksFor, HaveRead, option_of, text_in, value_behind, value_in_words};
+ghost use Rattle.ytt_spec.specs.Words.{Given, added, alone, asked, asked_from, begun, command_options, is_number, is_path, is_steps, may_follow, may_stand, name_in, named, number_of, value_in, values_of};
+ghost use Rattle.ytt_main.specs.Asks.{Asks, AsksFor, HaveRead, form_of, option_of, seen_words, text_in, words_behind};
 
 /// What the words ask for.
 #[derive(Clone, Copy)]
@@ -12,6 +12,8 @@ pub struct Request<'a> {
     pub path: &'a str,
     /// How many steps that may take.
     pub steps: u64,
+    /// Whether comments of no known form may stand in a template.
+    pub ignore_unknown: bool,
 }
 
 /// An option of the command.
@@ -21,6 +23,18 @@ pub enum CommandOption {
     File,
     /// `--steps`, at most once.
     Steps,
+    /// `--ignore-unknown-comments`, at most once. It takes no value.
+    IgnoreUnknown,
+}
+
+/// How an option stands in the words.
+#[derive(Clone, Copy)]
+pub enum Form<'a> {
+    Alone,
+    /// With the next word as its value.
+    Apart(&'a str),
+    /// With its value behind `=` in the same word.
+    Joined(&'a str),
 }
 
 /// The values of the options that were read.
@@ -28,13 +42,14 @@ pub enum CommandOption {
 pub struct Values<'a> {
     pub path: Option<&'a str>,
     pub steps: Option<u64>,
+    pub ignore_unknown: bool,
 }
 
-/// The value of an option, with the number of its word, and the words behind.
+/// The words of an option: how it stands in them, the number of the last one, and the words behind.
 #[derive(Clone, Copy)]
-pub struct Value<'a> {
-    pub text: &'a str,
-    pub number: u64,
+pub struct OptionWords<'a> {
+    pub form: Form<'a>,
+    pub last: u64,
     pub behind: &'a [String],
 }
 
@@ -113,6 +128,9 @@ fn named(name: &str) -> Option<CommandOption>
     if name == "--steps" {
         return Some(CommandOption::Steps);
     }
+    if name == "--ignore-unknown-comments" {
+        return Some(CommandOption::IgnoreUnknown);
+    }
     None
 }
 
@@ -123,63 +141,84 @@ fn may_follow(option: CommandOption, values: Values<'_>) -> bool
     match option {
         CommandOption::File => values.path.is_none(),
         CommandOption::Steps => values.steps.is_none(),
+        CommandOption::IgnoreUnknown => !values.ignore_unknown,
     }
 }
 
-/// The option that a word begins, where it may stand behind those that were read: a value in the same
-/// word needs a long one.
-fn begun(name: &str, joined: Option<&str>, values: Values<'_>) -> Option<CommandOption>
-    ensures { (gs : List Given) → HaveRead gs values.entry → option_map option_of result ≡ begun gs name.now (text_in joined.entry) }
+/// The option of this name, where it may stand behind those that were read.
+fn begun(name: &str, values: Values<'_>) -> Option<CommandOption>
+    ensures { (gs : List Given) → HaveRead gs values.entry → option_map option_of result ≡ begun gs name.now }
 {
     let option = named(name)?;
-    let is_long = matches!(&option, CommandOption::Steps);
-    if (is_long || joined.is_none()) && may_follow(option, values) {
+    if may_follow(option, values) {
         return Some(option);
     }
     None
 }
 
-/// The value of an option whose word has this number: what stands in it behind `=`, or the next word,
-/// or `None` where there is none.
-fn value_at<'a>(number: u64, joined: Option<&'a str>, more: &'a [String]) -> Option<Value<'a>>
+/// Whether the option takes no value.
+fn is_flag(option: CommandOption) -> bool
+    ensures { result ≡ may_stand (option_of option) alone }
+{
+    match option {
+        CommandOption::File | CommandOption::Steps => false,
+        CommandOption::IgnoreUnknown => true,
+    }
+}
+
+/// The words of an option whose first word has this number, with what stands in it behind `=`, or
+/// `None` where the next word should be its value and there is none.
+fn words_of<'a>(
+    option: CommandOption,
+    number: u64,
+    joined: Option<&'a str>,
+    more: &'a [String],
+) -> Option<OptionWords<'a>>
     requires { number < 2 ^ 64 - 1 }
-    ensures { option_map value_in_words result ≡ value_behind number (text_in joined.entry) (map string_bytes more.now) }
+    ensures { option_map seen_words result ≡ words_behind (option_of option) number (text_in joined.entry) (map string_bytes more.now) }
 {
     if let Some(text) = joined {
-        return Some(Value {
-            text,
-            number,
+        return Some(OptionWords {
+            form: Form::Joined(text),
+            last: number,
+            behind: more,
+        });
+    }
+    if is_flag(option) {
+        return Some(OptionWords {
+            form: Form::Alone,
+            last: number,
             behind: more,
         });
     }
     let (word, behind) = more.split_first()?;
-    Some(Value {
-        text: word.as_str(),
-        number: number + 1,
+    Some(OptionWords {
+        form: Form::Apart(word.as_str()),
+        last: number + 1,
         behind,
     })
 }
 
-/// The values with the option's own, or `None` where the text is no value of it.
-fn put<'a>(values: Values<'a>, option: CommandOption, text: &'a str) -> Option<Values<'a>>
-    ensures refused { IsNone result → (option_of option).is_value text.now ≡ false }
-    ensures good { IfSome result (λ new. (option_of option).is_value text.now ≡ true) }
-    ensures put { IfSome result (λ new. (gs : List Given) (is_joined : Bool) → HaveRead gs values.entry → may_follow (option_of option).often (values_of (option_of option).name gs) ≡ true → HaveRead (added gs (option_of option).name text.now is_joined) new) }
+/// The values with the option's own, or `None` where the option may not stand so.
+fn put<'a>(values: Values<'a>, option: CommandOption, form: Form<'a>) -> Option<Values<'a>>
+    ensures refused { IsNone result → may_stand (option_of option) (form_of form) ≡ false }
+    ensures good { IfSome result (λ new. may_stand (option_of option) (form_of form) ≡ true) }
+    ensures put { IfSome result (λ new. (gs : List Given) → HaveRead gs values.entry → may_follow (option_of option).often (values_of (option_of option).name gs) ≡ true → HaveRead (added gs (option_of option).name (form_of form)) new) }
 {
-    match option {
-        CommandOption::File => {
-            if !is_path(text) {
-                return None;
-            }
-            Some(Values {
-                path: Some(text),
-                steps: values.steps,
-            })
-        }
-        CommandOption::Steps => Some(Values {
-            path: values.path,
-            steps: Some(read_steps(text)?),
+    match (option, form) {
+        (CommandOption::File, Form::Apart(path)) if is_path(path) => Some(Values {
+            path: Some(path),
+            ..values
         }),
+        (CommandOption::Steps, Form::Apart(text) | Form::Joined(text)) => Some(Values {
+            steps: Some(read_steps(text)?),
+            ..values
+        }),
+        (CommandOption::IgnoreUnknown, Form::Alone) => Some(Values {
+            ignore_unknown: true,
+            ..values
+        }),
+        _ => None,
     }
 }
 
@@ -191,29 +230,31 @@ fn read_options(words: &[String], first: u64) -> Result<Request<'_>, u64>
     let mut values = Values {
         path: None,
         steps: None,
+        ignore_unknown: false,
     };
     let mut rest = words;
     let mut number = first;
     while let Some((word, more)) = rest.split_first() {
         let (name, joined) = cut_word(word.as_str());
-        let Some(option) = begun(name, joined, values) else {
+        let Some(option) = begun(name, values) else {
             return Err(number);
         };
-        let Some(value) = value_at(number, joined, more) else {
+        let Some(words) = words_of(option, number, joined, more) else {
             return Err(number + 1);
         };
-        let Some(new) = put(values, option, value.text) else {
-            return Err(value.number);
+        let Some(new) = put(values, option, words.form) else {
+            return Err(words.last);
         };
         values = new;
-        rest = value.behind;
-        number = value.number + 1;
+        rest = words.behind;
+        number = words.last + 1;
     }
     match values.path {
         None => Err(number),
         Some(path) => Ok(Request {
             path,
             steps: values.steps.unwrap_or(DEFAULT_STEPS),
+            ignore_unknown: values.ignore_unknown,
         }),
     }
 }

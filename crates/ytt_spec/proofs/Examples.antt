@@ -1,5 +1,5 @@
 -- What the definitions give for some command lines, by computing.
-use Rattle.std.proofs.Common.{◌≡◌, ℕ, List, [], ◌∷◌, Ok, refl, bytes_eq, codes, pos, if◌then◌else◌}
+use Rattle.std.proofs.Common.{◌≡◌, ℕ, true, false, List, [], ◌∷◌, Ok, refl, bytes_eq, codes, pos, if◌then◌else◌}
 use Rattle.std.specs.Fmt.{digits}
 use Rattle.std.specs.Str.{chars, is_utf8}
 use lib.Utf8.{encode}
@@ -15,139 +15,209 @@ use Rattle.yaml_spec.specs.Rows.{key_at, heads_of, row_at, taken, rows}
 use Rattle.yaml_spec.specs.Entries.{cut_after, content_of, entry_content, entry, entry_at, entries, Doc}
 use Rattle.yaml_spec.specs.Read.{segments, explicit, ended as read_ended, documents, implicit, Read, distinct}
 use Rattle.yaml_spec.specs.Text.{fits_plain, fits_literal}
-use Rattle.star_spec.specs.Code.{Expr, binary, floor_division, int}
-use Rattle.star_spec.specs.Reading.{Reader}
+use Rattle.star_spec.specs.Code.{Expr, binary, floor_division, int, name, no_exprs}
+use Rattle.star_spec.specs.CodeReading.{CodeReader, end_header}
+use Rattle.template_spec.specs.Comments.{comment_said}
+use Rattle.template_spec.specs.Events.{events}
+use Rattle.template_spec.specs.Misplaced.{placing_fault}
+use Rattle.template_spec.specs.Nesting.{placed_whole}
 use Rattle.ytt_base.specs.Outcomes.{place_at}
 use Rattle.ytt_outside.specs.Standing.{Standing, nothing, file, folder}
 use Rattle.ytt_spec.specs.Due.{Due, done, fault, usage, due}
+use Rattle.ytt_spec.specs.Words.{asked, asked_for, render}
 
 -- one thing stands at every path
-abbrev due_over : Reader → Standing → List (List ℕ) → Due
+abbrev due_over : CodeReader → Standing → List (List ℕ) → Due
 due_over r standing words = due r words (λ path. standing)
 
-abbrev due_of : Reader → List ℕ → Due
+abbrev due_of : CodeReader → List ℕ → Due
 due_of r text = due_over r (file text) (codes "render" ∷ codes "-f" ∷ codes "a.yml" ∷ [])
 
-prints_itself : (r : Reader) → due_of r (codes "name: web\nport: 80\n") ≡ done (codes "name: web\nport: 80\n")
+prints_itself : (r : CodeReader) → due_of r (codes "name: web\nport: 80\n") ≡ done (codes "name: web\nport: 80\n")
 unfolding digits chars encode is_utf8 cut lines_of checked Lines form plain fold_parts single double parts Quote header body block_text Block start_fault span further plain_lines gap flow_key elements pair_value pairs flow_scalar flow noted ended value key_at heads_of row_at taken rows cut_after content_of entry_content entry entry_at entries Doc segments explicit read_ended documents implicit Read distinct fits_plain fits_literal
 prints_itself r = refl
 
-reads_quoted : (r : Reader) → due_of r (codes "a: \"1\"\nb: \"yes\"\nc: \"\"\n") ≡ done (codes "a: \"1\"\nb: \"yes\"\nc: \"\"\n")
+reads_quoted : (r : CodeReader) → due_of r (codes "a: \"1\"\nb: \"yes\"\nc: \"\"\n") ≡ done (codes "a: \"1\"\nb: \"yes\"\nc: \"\"\n")
 unfolding digits chars encode is_utf8 cut lines_of checked Lines form plain fold_parts single double parts Quote header body block_text Block start_fault span further plain_lines gap flow_key elements pair_value pairs flow_scalar flow noted ended value key_at heads_of row_at taken rows cut_after content_of entry_content entry entry_at entries Doc segments explicit read_ended documents implicit Read distinct fits_plain fits_literal
 reads_quoted r = refl
 
-refuses_float : (r : Reader) → due_of r (codes "v: 1.5\n") ≡ fault (codes "error: FloatScalar at a.yml:1\n")
+refuses_float : (r : CodeReader) → due_of r (codes "v: 1.5\n") ≡ fault (codes "error: FloatScalar at a.yml:1\n")
 unfolding digits chars encode is_utf8 cut lines_of checked Lines form plain fold_parts single double parts Quote header body block_text Block start_fault span further plain_lines gap flow_key elements pair_value pairs flow_scalar flow noted ended value key_at heads_of row_at taken rows cut_after content_of entry_content entry entry_at entries Doc segments explicit read_ended documents implicit Read distinct fits_plain fits_literal
 refuses_float r = refl
 
-empty_file : (r : Reader) → due_of r [] ≡ done []
+empty_file : (r : CodeReader) → due_of r [] ≡ done []
 unfolding digits chars encode is_utf8 cut lines_of checked Lines form plain fold_parts single double parts Quote header body block_text Block start_fault span further plain_lines gap flow_key elements pair_value pairs flow_scalar flow noted ended value key_at heads_of row_at taken rows cut_after content_of entry_content entry entry_at entries Doc segments explicit read_ended documents implicit Read distinct fits_plain fits_literal
 empty_file r = refl
 
--- a list in a template isn't built yet
-refuses_list : (r : Reader) → due_of r (codes "a: 1\nb: [1]\nc: #@x\n") ≡ fault (codes "error: NotBuilt at a.yml:2\n")
-unfolding digits chars encode is_utf8 cut lines_of checked Lines form plain fold_parts single double parts Quote header body block_text Block start_fault span further plain_lines gap flow_key elements pair_value pairs flow_scalar flow noted ended value key_at heads_of row_at taken rows cut_after content_of entry_content entry entry_at entries Doc segments explicit read_ended documents implicit Read distinct fits_plain fits_literal
-refuses_list r = refl
-
-missing_file : (r : Reader) → due_over r nothing (codes "render" ∷ codes "-f" ∷ codes "lib/a.yml" ∷ []) ≡ fault (codes "error: FileMissing: lib/a.yml\n")
+missing_file : (r : CodeReader) → due_over r nothing (codes "render" ∷ codes "-f" ∷ codes "lib/a.yml" ∷ []) ≡ fault (codes "error: FileMissing: lib/a.yml\n")
 missing_file r = refl
 
-missing_comes_first : (r : Reader) → due_over r nothing (codes "render" ∷ codes "-f" ∷ codes "a.txt" ∷ []) ≡ fault (codes "error: FileMissing: a.txt\n")
+missing_comes_first : (r : CodeReader) → due_over r nothing (codes "render" ∷ codes "-f" ∷ codes "a.txt" ∷ []) ≡ fault (codes "error: FileMissing: a.txt\n")
 missing_comes_first r = refl
 
 -- only what stands at the path that is asked for is read
-other_path : (r : Reader) → due r (codes "-f" ∷ codes "b.yml" ∷ []) (λ path. if bytes_eq path (codes "a.yml") then file [] else nothing) ≡ fault (codes "error: FileMissing: b.yml\n")
+other_path : (r : CodeReader) → due r (codes "-f" ∷ codes "b.yml" ∷ []) (λ path. if bytes_eq path (codes "a.yml") then file [] else nothing) ≡ fault (codes "error: FileMissing: b.yml\n")
 other_path r = refl
 
-library_file : (r : Reader) → due_over r (file []) (codes "render" ∷ codes "-f" ∷ codes "a.lib.yml" ∷ []) ≡ fault (codes "error: NotBuilt\n")
+library_file : (r : CodeReader) → due_over r (file []) (codes "render" ∷ codes "-f" ∷ codes "a.lib.yml" ∷ []) ≡ fault (codes "error: NotBuilt\n")
 library_file r = refl
 
-a_folder : (r : Reader) → due_over r (folder []) (codes "render" ∷ codes "-f" ∷ codes "a.yml" ∷ []) ≡ fault (codes "error: NotBuilt\n")
+a_folder : (r : CodeReader) → due_over r (folder []) (codes "render" ∷ codes "-f" ∷ codes "a.yml" ∷ []) ≡ fault (codes "error: NotBuilt\n")
 a_folder r = refl
 
-shown_by_last_part : (r : Reader) → due_over r (file (codes "{")) (codes "render" ∷ codes "-f" ∷ codes "x/y/a.yaml" ∷ []) ≡ fault (codes "error: YamlForm at a.yaml:1\n")
+shown_by_last_part : (r : CodeReader) → due_over r (file (codes "{")) (codes "render" ∷ codes "-f" ∷ codes "x/y/a.yaml" ∷ []) ≡ fault (codes "error: YamlForm at a.yaml:1\n")
 unfolding digits chars encode is_utf8 cut lines_of checked Lines form plain fold_parts single double parts Quote header body block_text Block start_fault span further plain_lines gap flow_key elements pair_value pairs flow_scalar flow noted ended value key_at heads_of row_at taken rows cut_after content_of entry_content entry entry_at entries Doc segments explicit read_ended documents implicit Read distinct fits_plain fits_literal
 shown_by_last_part r = refl
 
-no_word : (r : Reader) → due_over r nothing [] ≡ usage (codes "error: usage at word 1\n")
+no_word : (r : CodeReader) → due_over r nothing [] ≡ usage (codes "error: usage at word 1\n")
 unfolding digits
 no_word r = refl
 
-no_option : (r : Reader) → due_over r nothing (codes "render" ∷ []) ≡ usage (codes "error: usage at word 2\n")
+no_option : (r : CodeReader) → due_over r nothing (codes "render" ∷ []) ≡ usage (codes "error: usage at word 2\n")
 unfolding digits
 no_option r = refl
 
-empty_path : (r : Reader) → due_over r nothing (codes "render" ∷ codes "-f" ∷ [] ∷ codes "more" ∷ []) ≡ usage (codes "error: usage at word 3\n")
+empty_path : (r : CodeReader) → due_over r nothing (codes "render" ∷ codes "-f" ∷ [] ∷ codes "more" ∷ []) ≡ usage (codes "error: usage at word 3\n")
 unfolding digits
 empty_path r = refl
 
-path_before_command : (r : Reader) → due_over r nothing (codes "-f" ∷ codes "a" ∷ codes "render" ∷ []) ≡ usage (codes "error: usage at word 3\n")
+path_before_command : (r : CodeReader) → due_over r nothing (codes "-f" ∷ codes "a" ∷ codes "render" ∷ []) ≡ usage (codes "error: usage at word 3\n")
 unfolding digits
 path_before_command r = refl
 
-no_steps : (r : Reader) → due_over r nothing (codes "-f" ∷ codes "a.yml" ∷ codes "--steps" ∷ codes "0" ∷ []) ≡ usage (codes "error: usage at word 4\n")
+no_steps : (r : CodeReader) → due_over r nothing (codes "-f" ∷ codes "a.yml" ∷ codes "--steps" ∷ codes "0" ∷ []) ≡ usage (codes "error: usage at word 4\n")
 unfolding digits
 no_steps r = refl
 
-steps_twice : (r : Reader) → due_over r nothing (codes "--steps" ∷ codes "7" ∷ codes "-f" ∷ codes "a" ∷ codes "--steps" ∷ []) ≡ usage (codes "error: usage at word 5\n")
+steps_twice : (r : CodeReader) → due_over r nothing (codes "--steps" ∷ codes "7" ∷ codes "-f" ∷ codes "a" ∷ codes "--steps" ∷ []) ≡ usage (codes "error: usage at word 5\n")
 unfolding digits
 steps_twice r = refl
 
-only_steps : (r : Reader) → due_over r nothing (codes "--steps" ∷ codes "20000000" ∷ []) ≡ usage (codes "error: usage at word 3\n")
+only_steps : (r : CodeReader) → due_over r nothing (codes "--steps" ∷ codes "20000000" ∷ []) ≡ usage (codes "error: usage at word 3\n")
 unfolding digits
 only_steps r = refl
 
-too_many_steps : (r : Reader) → due_over r nothing (codes "--steps" ∷ codes "20000001" ∷ []) ≡ usage (codes "error: usage at word 2\n")
+too_many_steps : (r : CodeReader) → due_over r nothing (codes "--steps" ∷ codes "20000001" ∷ []) ≡ usage (codes "error: usage at word 2\n")
 unfolding digits
 too_many_steps r = refl
 
-one_word_more : (r : Reader) → due_over r nothing (codes "render" ∷ codes "-f" ∷ codes "a.yml" ∷ codes "b" ∷ []) ≡ usage (codes "error: usage at word 4\n")
+one_word_more : (r : CodeReader) → due_over r nothing (codes "render" ∷ codes "-f" ∷ codes "a.yml" ∷ codes "b" ∷ []) ≡ usage (codes "error: usage at word 4\n")
 unfolding digits
 one_word_more r = refl
 
 -- ---- a value in the word of its option
 
-joined_steps : (r : Reader) → due_over r nothing (codes "--steps=7" ∷ codes "-f" ∷ codes "a.yml" ∷ []) ≡ fault (codes "error: FileMissing: a.yml\n")
+joined_steps : (r : CodeReader) → due_over r nothing (codes "--steps=7" ∷ codes "-f" ∷ codes "a.yml" ∷ []) ≡ fault (codes "error: FileMissing: a.yml\n")
 joined_steps r = refl
 
-no_joined_value : (r : Reader) → due_over r nothing (codes "-f" ∷ codes "a.yml" ∷ codes "--steps=" ∷ codes "7" ∷ []) ≡ usage (codes "error: usage at word 3\n")
+no_joined_value : (r : CodeReader) → due_over r nothing (codes "-f" ∷ codes "a.yml" ∷ codes "--steps=" ∷ codes "7" ∷ []) ≡ usage (codes "error: usage at word 3\n")
 unfolding digits
 no_joined_value r = refl
 
-no_joined_steps : (r : Reader) → due_over r nothing (codes "--steps=0" ∷ codes "-f" ∷ codes "a.yml" ∷ []) ≡ usage (codes "error: usage at word 1\n")
+no_joined_steps : (r : CodeReader) → due_over r nothing (codes "--steps=0" ∷ codes "-f" ∷ codes "a.yml" ∷ []) ≡ usage (codes "error: usage at word 1\n")
 unfolding digits
 no_joined_steps r = refl
 
-short_option_joined : (r : Reader) → due_over r nothing (codes "render" ∷ codes "-f=a.yml" ∷ []) ≡ usage (codes "error: usage at word 2\n")
+short_option_joined : (r : CodeReader) → due_over r nothing (codes "render" ∷ codes "-f=a.yml" ∷ []) ≡ usage (codes "error: usage at word 2\n")
 unfolding digits
 short_option_joined r = refl
 
-joined_steps_twice : (r : Reader) → due_over r nothing (codes "--steps" ∷ codes "7" ∷ codes "--steps=7" ∷ []) ≡ usage (codes "error: usage at word 3\n")
+joined_steps_twice : (r : CodeReader) → due_over r nothing (codes "--steps" ∷ codes "7" ∷ codes "--steps=7" ∷ []) ≡ usage (codes "error: usage at word 3\n")
 unfolding digits
 joined_steps_twice r = refl
 
+-- ---- a flag, which takes no value
+
+flag_before : (r : CodeReader) → due_over r nothing (codes "--ignore-unknown-comments" ∷ codes "-f" ∷ codes "a.yml" ∷ []) ≡ fault (codes "error: FileMissing: a.yml\n")
+flag_before r = refl
+
+flag_behind : (r : CodeReader) → due_over r nothing (codes "render" ∷ codes "-f" ∷ codes "a.yml" ∷ codes "--ignore-unknown-comments" ∷ []) ≡ fault (codes "error: FileMissing: a.yml\n")
+flag_behind r = refl
+
+flag_asks : asked (codes "-f" ∷ codes "a.yml" ∷ codes "--ignore-unknown-comments" ∷ []) ≡ asked_for (render (record { path = codes "a.yml"; steps = 5000000; ignore_unknown = true }))
+flag_asks = refl
+
+no_flag_asks : asked (codes "-f" ∷ codes "a.yml" ∷ []) ≡ asked_for (render (record { path = codes "a.yml"; steps = 5000000; ignore_unknown = false }))
+no_flag_asks = refl
+
+-- the value of another option may be a flag's name
+flag_as_path : (r : CodeReader) → due_over r nothing (codes "-f" ∷ codes "--ignore-unknown-comments" ∷ []) ≡ fault (codes "error: FileMissing: --ignore-unknown-comments\n")
+flag_as_path r = refl
+
+flag_twice : (r : CodeReader) → due_over r nothing (codes "--ignore-unknown-comments" ∷ codes "-f" ∷ codes "a.yml" ∷ codes "--ignore-unknown-comments" ∷ []) ≡ usage (codes "error: usage at word 4\n")
+unfolding digits
+flag_twice r = refl
+
+flag_with_value : (r : CodeReader) → due_over r nothing (codes "-f" ∷ codes "a.yml" ∷ codes "--ignore-unknown-comments=x" ∷ []) ≡ usage (codes "error: usage at word 3\n")
+unfolding digits
+flag_with_value r = refl
+
+flag_with_empty_value : (r : CodeReader) → due_over r nothing (codes "--ignore-unknown-comments=" ∷ codes "-f" ∷ codes "a.yml" ∷ []) ≡ usage (codes "error: usage at word 1\n")
+unfolding digits
+flag_with_empty_value r = refl
+
+-- the word behind a flag is no value of it
+flag_and_word : (r : CodeReader) → due_over r nothing (codes "--ignore-unknown-comments" ∷ codes "true" ∷ codes "-f" ∷ codes "a.yml" ∷ []) ≡ usage (codes "error: usage at word 2\n")
+unfolding digits
+flag_and_word r = refl
+
+only_flag : (r : CodeReader) → due_over r nothing (codes "render" ∷ codes "--ignore-unknown-comments" ∷ []) ≡ usage (codes "error: usage at word 3\n")
+unfolding digits
+only_flag r = refl
+
 -- ---- templates, whose code is read as its expression
 
-abbrev steps_over : Reader → List ℕ → (steps : List ℕ) → Due
+abbrev steps_over : CodeReader → List ℕ → (steps : List ℕ) → Due
 steps_over r text steps = due_over r (file text) (codes "--steps" ∷ steps ∷ codes "-f" ∷ codes "a.yml" ∷ [])
 
 abbrev one : Expr
 one = int (place_at 1 1) (pos 1)
 
-three_steps : (r : Reader) → r.expr (place_at 1 1) (codes "1") ≡ Ok one → steps_over r (codes "a: #@ 1\n") (codes "3") ≡ done (codes "a: 1\n")
-unfolding digits chars encode is_utf8 cut lines_of checked Lines form plain fold_parts single double parts Quote header body block_text Block start_fault span further plain_lines gap flow_key elements pair_value pairs flow_scalar flow noted ended value key_at heads_of row_at taken rows cut_after content_of entry_content entry entry_at entries Doc segments explicit read_ended documents implicit Read distinct fits_plain fits_literal
+three_steps : (r : CodeReader) → r.expr (place_at 1 1) (codes "1") ≡ Ok one → steps_over r (codes "a: #@ 1\n") (codes "3") ≡ done (codes "a: 1\n")
+unfolding digits chars encode is_utf8 cut lines_of checked Lines form plain fold_parts single double parts Quote header body block_text Block start_fault span further plain_lines gap flow_key elements pair_value pairs flow_scalar flow noted ended value key_at heads_of row_at taken rows cut_after content_of entry_content entry entry_at entries Doc segments explicit read_ended documents implicit Read distinct fits_plain fits_literal comment_said events placing_fault placed_whole
 three_steps r read = rw read refl
 
-two_steps : (r : Reader) → r.expr (place_at 1 1) (codes "1") ≡ Ok one → steps_over r (codes "a: #@ 1\n") (codes "2") ≡ fault (codes "error: Steps at a.yml:1\n")
-unfolding digits chars encode is_utf8 cut lines_of checked Lines form plain fold_parts single double parts Quote header body block_text Block start_fault span further plain_lines gap flow_key elements pair_value pairs flow_scalar flow noted ended value key_at heads_of row_at taken rows cut_after content_of entry_content entry entry_at entries Doc segments explicit read_ended documents implicit Read distinct fits_plain fits_literal
+two_steps : (r : CodeReader) → r.expr (place_at 1 1) (codes "1") ≡ Ok one → steps_over r (codes "a: #@ 1\n") (codes "2") ≡ fault (codes "error: Steps at a.yml:1\n")
+unfolding digits chars encode is_utf8 cut lines_of checked Lines form plain fold_parts single double parts Quote header body block_text Block start_fault span further plain_lines gap flow_key elements pair_value pairs flow_scalar flow noted ended value key_at heads_of row_at taken rows cut_after content_of entry_content entry entry_at entries Doc segments explicit read_ended documents implicit Read distinct fits_plain fits_literal comment_said events placing_fault placed_whole
 two_steps r read = rw read refl
 
-no_divisor : (r : Reader) → r.expr (place_at 1 1) (codes "1 // 0") ≡ Ok (binary (place_at 1 1) floor_division one (int (place_at 1 1) (pos 0)))
+no_divisor : (r : CodeReader) → r.expr (place_at 1 1) (codes "1 // 0") ≡ Ok (binary (place_at 1 1) floor_division one (int (place_at 1 1) (pos 0)))
     → due_of r (codes "a: #@ 1 // 0\n") ≡ fault (codes "error: DivideZero at a.yml:1\n")
-unfolding digits chars encode is_utf8 cut lines_of checked Lines form plain fold_parts single double parts Quote header body block_text Block start_fault span further plain_lines gap flow_key elements pair_value pairs flow_scalar flow noted ended value key_at heads_of row_at taken rows cut_after content_of entry_content entry entry_at entries Doc segments explicit read_ended documents implicit Read distinct fits_plain fits_literal
+unfolding digits chars encode is_utf8 cut lines_of checked Lines form plain fold_parts single double parts Quote header body block_text Block start_fault span further plain_lines gap flow_key elements pair_value pairs flow_scalar flow noted ended value key_at heads_of row_at taken rows cut_after content_of entry_content entry entry_at entries Doc segments explicit read_ended documents implicit Read distinct fits_plain fits_literal comment_said events placing_fault placed_whole
 no_divisor r read = rw read refl
 
+-- a toy reader, which takes each code as a 1
+abbrev ones : CodeReader
+ones = record { expr = λ p t. Ok (int p (pos 1)); args = λ p t. Ok no_exprs; simple = λ p t. Ok []; header = λ p t. Ok end_header; is_open = λ p t. false }
+
+-- lists are built, with what stands in them
+builds_list : due_of ones (codes "a:\n- #@ 1\n- [2]\n") ≡ done (codes "a:\n- 1\n- - 2\n")
+unfolding digits chars encode is_utf8 cut lines_of checked Lines form plain fold_parts single double parts Quote header body block_text Block start_fault span further plain_lines gap flow_key elements pair_value pairs flow_scalar flow noted ended value key_at heads_of row_at taken rows cut_after content_of entry_content entry entry_at entries Doc segments explicit read_ended documents implicit Read distinct fits_plain fits_literal comment_said events placing_fault placed_whole
+builds_list = refl
+
+unknown_note : (r : CodeReader) → due_of r (codes "a: 1 #@x\n") ≡ fault (codes "error: NoteUnknown at a.yml:1: x\n")
+unfolding digits chars encode is_utf8 cut lines_of checked Lines form plain fold_parts single double parts Quote header body block_text Block start_fault span further plain_lines gap flow_key elements pair_value pairs flow_scalar flow noted ended value key_at heads_of row_at taken rows cut_after content_of entry_content entry entry_at entries Doc segments explicit read_ended documents implicit Read distinct fits_plain fits_literal comment_said events placing_fault placed_whole
+unknown_note r = refl
+
+unknown_name : (r : CodeReader) → r.expr (place_at 1 1) (codes "x") ≡ Ok (name (place_at 1 1) (codes "x")) → due_of r (codes "a: #@ x\n") ≡ fault (codes "error: NameUnknown at a.yml:1: x\n")
+unfolding digits chars encode is_utf8 cut lines_of checked Lines form plain fold_parts single double parts Quote header body block_text Block start_fault span further plain_lines gap flow_key elements pair_value pairs flow_scalar flow noted ended value key_at heads_of row_at taken rows cut_after content_of entry_content entry entry_at entries Doc segments explicit read_ended documents implicit Read distinct fits_plain fits_literal comment_said events placing_fault placed_whole
+unknown_name r read = rw read refl
+
+-- a name of the language is known, and isn't built yet
+known_name : (r : CodeReader) → r.expr (place_at 1 1) (codes "len") ≡ Ok (name (place_at 1 1) (codes "len")) → due_of r (codes "a: #@ len\n") ≡ fault (codes "error: NotBuilt at a.yml:1\n")
+unfolding digits chars encode is_utf8 cut lines_of checked Lines form plain fold_parts single double parts Quote header body block_text Block start_fault span further plain_lines gap flow_key elements pair_value pairs flow_scalar flow noted ended value key_at heads_of row_at taken rows cut_after content_of entry_content entry entry_at entries Doc segments explicit read_ended documents implicit Read distinct fits_plain fits_literal comment_said events placing_fault placed_whole
+known_name r read = rw read refl
+
+-- a comment that says nothing known is refused in a template, unless it is asked to be ignored
+plain_comment : (r : CodeReader) → due_of r (codes "a: 1 # x\nb: 2 #@ 1\n") ≡ fault (codes "error: PlainComment at a.yml:1\n")
+unfolding digits chars encode is_utf8 cut lines_of checked Lines form plain fold_parts single double parts Quote header body block_text Block start_fault span further plain_lines gap flow_key elements pair_value pairs flow_scalar flow noted ended value key_at heads_of row_at taken rows cut_after content_of entry_content entry entry_at entries Doc segments explicit read_ended documents implicit Read distinct fits_plain fits_literal comment_said events placing_fault placed_whole
+plain_comment r = refl
+
+ignored_comment : due_over ones (file (codes "a: 1 # x\nb: #@ 1\n")) (codes "-f" ∷ codes "a.yml" ∷ codes "--ignore-unknown-comments" ∷ []) ≡ done (codes "a: 1\nb: 1\n")
+unfolding digits chars encode is_utf8 cut lines_of checked Lines form plain fold_parts single double parts Quote header body block_text Block start_fault span further plain_lines gap flow_key elements pair_value pairs flow_scalar flow noted ended value key_at heads_of row_at taken rows cut_after content_of entry_content entry entry_at entries Doc segments explicit read_ended documents implicit Read distinct fits_plain fits_literal comment_said events placing_fault placed_whole
+ignored_comment = refl
+
 -- a file without code takes no steps
-plain_file : (r : Reader) → steps_over r (codes "a: 1\n") (codes "1") ≡ done (codes "a: 1\n")
+plain_file : (r : CodeReader) → steps_over r (codes "a: 1\n") (codes "1") ≡ done (codes "a: 1\n")
 unfolding digits chars encode is_utf8 cut lines_of checked Lines form plain fold_parts single double parts Quote header body block_text Block start_fault span further plain_lines gap flow_key elements pair_value pairs flow_scalar flow noted ended value key_at heads_of row_at taken rows cut_after content_of entry_content entry entry_at entries Doc segments explicit read_ended documents implicit Read distinct fits_plain fits_literal
 plain_file r = refl

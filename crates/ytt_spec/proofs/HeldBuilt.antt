@@ -1,29 +1,28 @@
 -- The documents that a text means have a text that reads back: they are what the program holds, none is null, and none
 -- nests too deep.
-use Rattle.std.proofs.Common.{◌≡◌, ℕ, nat_lt, not, List, length, Ok, Err, subst}
+use Rattle.std.proofs.Common.{◌≡◌, ℕ, Bool, nat_lt, not, List, length, Ok, Err, subst}
 use Rattle.ytt_base.specs.Outcomes as outcome
 use Rattle.ytt_base.specs.Outcomes.{Outcome}
 use Rattle.ytt_base.specs.Trees.{Trees, AreTrees, Writable}
 use Rattle.yaml_spec.specs.Noted.{Documents, has_code}
 use Rattle.yaml_spec.specs.Read.{Read, plain_trees, read_trees}
 use Rattle.yaml_held.proofs.HeldDocuments.{DocumentsHeld, good_read, reads_trees}
-use Rattle.yaml_held.proofs.Shallow.{reads_writable}
+use Rattle.yaml_held.proofs.Shallow.{DocumentsShallow, reads_writable, shallow_read}
 use Rattle.star_spec.specs.Calls.{no_natives}
 use Rattle.star_spec.specs.Eval.{starlark}
 use Rattle.star_spec.specs.Outcomes.{Ending, done, bad}
-use Rattle.star_spec.specs.Reading.{Reader}
-use Rattle.star_grammar.specs.Flat.{IsReader}
+use Rattle.star_spec.specs.CodeReading.{CodeReader}
 use Rattle.star_spec.proofs.CallsKeep.{no_natives_keep, starlark_keeps}
 use Rattle.star_spec.proofs.Keeping.{Kept}
 use Rattle.template_spec.specs.Files.{FileResult, nothing_to_load}
 use Rattle.template_spec.specs.Meaning.{BuildFile}
-use Rattle.template_spec.specs.Placing.{placed}
+use Rattle.template_spec.specs.Passes.{template_passed}
 use Rattle.template_spec.specs.Template.{Items}
 use Rattle.template_spec.proofs.BuildKeeps.{HeldItems, HeldResult, nothing_keeps, built_keeps, documents_written}
 use Rattle.ytt_outside.specs.Standing.{Standing, nothing, file, folder}
 use Rattle.ytt_spec.specs.Meaning.{built, default_depth, documents_meaning, file_names, gives_documents, largest_file, last_part, meaning, named_in, outcome_of, path_meaning, started, text_meaning}
 use Rattle.ytt_spec.specs.Words.{Command, render}
-use Rattle.ytt_spec.proofs.HeldTemplates.{template_held}
+use Rattle.ytt_spec.proofs.HeldWhole.{whole_held}
 use Rattle.std.specs.Result.{IfOk}
 use Rattle.std.proofs.lemmas.Result.{IfOk-at_ok}
 use Rattle.ytt_laws.proofs.Yielded.{yielded_if, yielded_then, yielded_where}
@@ -50,31 +49,32 @@ plain_written bytes ds ts e p =
     (reads_trees 1 bytes ts read, reads_writable 1 bytes ts read)
 
 abbrev IsRead : List ℕ → Documents → Type 0
-IsRead bytes ds = (Read 1 bytes ≡ Ok ds) × DocumentsHeld ds
+IsRead bytes ds = (Read 1 bytes ≡ Ok ds) × DocumentsHeld ds × DocumentsShallow ds
 
-text_holds : (r : Reader) → IsReader r → (steps : ℕ) (bytes : List ℕ) → IfOk (text_meaning r steps bytes) AreWritten
-text_holds r reads steps bytes =
-    yielded_then (IsRead bytes) AreWritten (Read 1 bytes) (documents_meaning r steps) (yielded_where (IsRead bytes) (Read 1 bytes) (λ ds e. (e, IfOk-at_ok DocumentsHeld e (good_read 1 bytes))))
-    (λ ds h. yielded_if AreWritten (has_code ds) (outcome.and_then (built steps) (placed r 1 ds)) (plain_trees ds)
-    (λ k. yielded_then (HeldItems 0) AreWritten (placed r 1 ds) (built steps) (template_held r reads 1 ds h.1) (template_written steps))
+text_holds : (r : CodeReader) (ignore : Bool) (steps : ℕ) (bytes : List ℕ) → IfOk (text_meaning r ignore steps bytes) AreWritten
+text_holds r ignore steps bytes =
+    yielded_then (IsRead bytes) AreWritten (Read 1 bytes) (documents_meaning r ignore steps)
+    (yielded_where (IsRead bytes) (Read 1 bytes) (λ ds e. (e, IfOk-at_ok DocumentsHeld e (good_read 1 bytes), IfOk-at_ok DocumentsShallow e (shallow_read 1 bytes))))
+    (λ ds h. yielded_if AreWritten (has_code ds) (outcome.and_then (built steps) (template_passed r ignore 1 ds)) (plain_trees ds)
+    (λ k. yielded_then (HeldItems 0) AreWritten (template_passed r ignore 1 ds) (built steps) (whole_held r ignore 1 ds h.1 h.2) (template_written steps))
     (λ k. yielded_where AreWritten (plain_trees ds) (λ ts e. plain_written bytes ds ts h.0 e)))
 
-path_holds : (r : Reader) → IsReader r → (path : List ℕ) (steps : ℕ) (standing : Standing) → IfOk (path_meaning r path steps standing) AreWritten
-path_holds r reads path steps nothing = tt
-path_holds r reads path steps (folder names) = tt
-path_holds r reads path steps (file bytes) =
+path_holds : (r : CodeReader) (path : List ℕ) (ignore : Bool) (steps : ℕ) (standing : Standing) → IfOk (path_meaning r path ignore steps standing) AreWritten
+path_holds r path ignore steps nothing = tt
+path_holds r path ignore steps (folder names) = tt
+path_holds r path ignore steps (file bytes) =
     yielded_if AreWritten (not (gives_documents (last_part path))) _ _ (λ h. tt)
-    (λ h. yielded_if AreWritten (nat_lt largest_file (length bytes)) _ (text_meaning r steps bytes) (λ k. tt) (λ k. text_holds r reads steps bytes))
+    (λ h. yielded_if AreWritten (nat_lt largest_file (length bytes)) _ (text_meaning r ignore steps bytes) (λ k. tt) (λ k. text_holds r ignore steps bytes))
 
--- the documents of a text
-pub text_written : (r : Reader) → IsReader r → (steps : ℕ) (bytes : List ℕ) (ds : Trees) → text_meaning r steps bytes ≡ Ok ds → AreWritten ds
-text_written r reads steps bytes ds h = IfOk-at_ok AreWritten h (text_holds r reads steps bytes)
+-- the documents of a text, whatever reads code
+pub text_written : (r : CodeReader) (ignore : Bool) (steps : ℕ) (bytes : List ℕ) (ds : Trees) → text_meaning r ignore steps bytes ≡ Ok ds → AreWritten ds
+text_written r ignore steps bytes ds h = IfOk-at_ok AreWritten h (text_holds r ignore steps bytes)
 
 named_written : (names : List (List ℕ)) (outcome : Outcome Trees) (ds : Trees) → IfOk outcome AreWritten → named_in names outcome ≡ Ok ds → AreWritten ds
 named_written names (Ok documents) ds h e = let same : documents ≡ ds = cc in subst AreWritten same h
 named_written names (Err fault) ds h e = cc
 
 -- those of a command
-pub meaning_written : (r : Reader) → IsReader r → (command : Command) (tree : List ℕ → Standing) (ds : Trees) → meaning r command tree ≡ Ok ds → AreWritten ds
-meaning_written r reads (render asked) tree ds h =
-    named_written (file_names (render asked)) (path_meaning r asked.path asked.steps (tree asked.path)) ds (path_holds r reads asked.path asked.steps (tree asked.path)) h
+pub meaning_written : (r : CodeReader) (command : Command) (tree : List ℕ → Standing) (ds : Trees) → meaning r command tree ≡ Ok ds → AreWritten ds
+meaning_written r (render asked) tree ds h =
+    named_written (file_names (render asked)) (path_meaning r asked.path asked.ignore_unknown asked.steps (tree asked.path)) ds (path_holds r asked.path asked.ignore_unknown asked.steps (tree asked.path)) h

@@ -1,10 +1,10 @@
 -- The options of the command line: how a word is cut, which option it begins, and what may follow.
-use Rattle.std.proofs.Common.{◌≡◌, ◌≢◌, ℕ, ◌+◌, Bool, true, false, ◌&&◌, ◌||◌, cond, eqb, List, [], ◌∷◌, ◌++◌, Option, Some, None, is_none, option_and_then, bytes_eq, refl, ap, sym, subst, ◌∙◌, ⊎_elim}
+use Rattle.std.proofs.Common.{◌≡◌, ◌≢◌, ℕ, ◌+◌, Bool, true, false, cond, eqb, List, [], ◌∷◌, ◌++◌, Option, Some, None, is_none, option_and_then, bytes_eq, refl, ap, sym, subst, ◌∙◌, ⊎_elim}
 use Rattle.std.proofs.lemmas.Bool.Decides.{eqb_tells}
 use Rattle.std.proofs.lemmas.Slice.Eq.{bytes_eq-Decides}
 use Rattle.std.specs.Cmp.{first_so, second_so}
 use Rattle.std.specs.List.{list_all}
-use Rattle.ytt_spec.specs.Words.{Asked, wrong, CommandOption, Given, Often, exactly_once, at_most_once, added, asked_from, asked_value, begun, command_options, equals, may_follow, may_have, name_in, named, value_in, values_of}
+use Rattle.ytt_spec.specs.Words.{Asked, wrong, CommandOption, Given, alone, apart, joined, Often, exactly_once, at_most_once, Takes, a_value, no_value, added, asked_from, asked_value, begun, command_options, equals, is_flag, may_follow, may_have, may_stand, name_in, named, takes_text, value_in, value_of, values_of}
 
 -- ---- a word, cut at its first `=`
 
@@ -54,50 +54,49 @@ no_equals name o h =
     is_None None h = refl
     is_None (Some x) h = cc
 
+-- what takes a value is no flag
+pub no_flag : (o : CommandOption) (value : List ℕ) → may_stand o (apart value) ≡ true → may_stand o alone ≡ false
+no_flag o value h = by o.takes h
+  where
+    by : (t : Takes) → takes_text t value ≡ true → is_flag t ≡ false
+    by no_value h = cc
+    by (a_value is_value) h = refl
+
 -- ---- the option that a word begins
 
 -- where it may stand
-pub record MayStand (gs : List Given) (name : List ℕ) (value : Option (List ℕ)) (o : CommandOption) : Type 0 where
+pub record Follows (gs : List Given) (name : List ℕ) (o : CommandOption) : Type 0 where
   pub found : named name command_options ≡ Some o
-  pub joined : (o.is_long || is_none value) ≡ true
   pub follows : may_follow o.often (values_of name gs) ≡ true
 
-abbrev stands : List Given → List ℕ → Option (List ℕ) → CommandOption → Bool
-stands gs name value p = (p.is_long || is_none value) && may_follow p.often (values_of name gs)
+by_follows : (gs : List Given) (name : List ℕ) (p o : CommandOption) (b : Bool) → named name command_options ≡ Some p → may_follow p.often (values_of name gs) ≡ b → cond b (Some p) None ≡ Some o → Follows gs name o
+by_follows gs name p o true e t j = let is : p ≡ o = cc in subst (Follows gs name) is (record { found = e; follows = t })
+by_follows gs name p o false e t j = cc
 
-by_stands : (gs : List Given) (name : List ℕ) (value : Option (List ℕ)) (p o : CommandOption) (b : Bool) → named name command_options ≡ Some p → stands gs name value p ≡ b → cond b (Some p) None ≡ Some o → MayStand gs name value o
-by_stands gs name value p o true e t j =
-    let is : p ≡ o = cc in
-    let joined = first_so (p.is_long || is_none value) (may_follow p.often (values_of name gs)) t in
-    let follows = second_so (p.is_long || is_none value) (may_follow p.often (values_of name gs)) t in
-    subst (MayStand gs name value) is (record { found = e; joined = joined; follows = follows })
-by_stands gs name value p o false e t j = cc
+by_named : (gs : List Given) (name : List ℕ) (o : CommandOption) (r : Option CommandOption) → named name command_options ≡ r → option_and_then (λ p. cond (may_follow p.often (values_of name gs)) (Some p) None) r ≡ Some o
+    → Follows gs name o
+by_named gs name o None e k = cc
+by_named gs name o (Some p) e k = by_follows gs name p o (may_follow p.often (values_of name gs)) e refl k
 
-by_named : (gs : List Given) (name : List ℕ) (value : Option (List ℕ)) (o : CommandOption) (r : Option CommandOption) → named name command_options ≡ r → option_and_then (λ p. cond (stands gs name value p) (Some p) None) r ≡ Some o
-    → MayStand gs name value o
-by_named gs name value o None e k = cc
-by_named gs name value o (Some p) e k = by_stands gs name value p o (stands gs name value p) e refl k
-
-pub begun_stands : (gs : List Given) (name : List ℕ) (value : Option (List ℕ)) (o : CommandOption) → begun gs name value ≡ Some o → MayStand gs name value o
-begun_stands gs name value o h = by_named gs name value o (named name command_options) refl h
+pub begun_follows : (gs : List Given) (name : List ℕ) (o : CommandOption) → begun gs name ≡ Some o → Follows gs name o
+begun_follows gs name o h = by_named gs name o (named name command_options) refl h
 
 -- and the other way round
-pub stands_begun : (gs : List Given) (name : List ℕ) (value : Option (List ℕ)) (o : CommandOption) → MayStand gs name value o → begun gs name value ≡ Some o
-stands_begun gs name value o m =
-    ap (option_and_then (λ p. cond ((p.is_long || is_none value) && may_follow p.often (values_of name gs)) (Some p) None)) m.found ∙ (λ i. cond (m.joined i && m.follows i) (Some o) None)
+pub follows_begun : (gs : List Given) (name : List ℕ) (o : CommandOption) → Follows gs name o → begun gs name ≡ Some o
+follows_begun gs name o f = ap (option_and_then (λ p. cond (may_follow p.often (values_of name gs)) (Some p) None)) f.found ∙ ap (λ b. cond b (Some o) None) f.follows
 
 -- ---- what is read next
 
 -- by the option that the first word begins, and the value behind its `=`
 abbrev pub next : ℕ → List Given → (name : List ℕ) → List (List ℕ) → Option CommandOption → Option (List ℕ) → Asked
 next n gs name words None v = wrong n
-next n gs name words (Some o) (Some value) = cond (o.is_value value) (asked_from (n + 1) (added gs name value true) words) (wrong n)
-next n gs name words (Some o) None = asked_value (n + 1) gs o name words
+next n gs name words (Some o) (Some value) = cond (may_stand o (joined value)) (asked_from (n + 1) (added gs name (joined value)) words) (wrong n)
+next n gs name words (Some o) None = cond (may_stand o alone) (asked_from (n + 1) (added gs name alone) words) (asked_value (n + 1) gs o name words)
 
-pub asked_next : (n : ℕ) (gs : List Given) (word : List ℕ) (words : List (List ℕ)) → asked_from n gs (word ∷ words) ≡ next n gs (name_in word) words (begun gs (name_in word) (value_in word)) (value_in word)
-asked_next n gs word words = by (begun gs (name_in word) (value_in word)) (value_in word)
+pub asked_next : (n : ℕ) (gs : List Given) (word : List ℕ) (words : List (List ℕ)) → asked_from n gs (word ∷ words) ≡ next n gs (name_in word) words (begun gs (name_in word)) (value_in word)
+asked_next n gs word words = by (begun gs (name_in word)) (value_in word)
   where
-    by : (o : Option CommandOption) (v : Option (List ℕ)) → elim o [ None ↦ wrong n | Some p ↦ elim v [ Some value ↦ cond (p.is_value value) (asked_from (n + 1) (added gs (name_in word) value true) words) (wrong n) | None ↦ asked_value (n + 1) gs p (name_in word) words ] ] ≡ next n gs (name_in word) words o v
+    by : (o : Option CommandOption) (v : Option (List ℕ)) → elim o [ None ↦ wrong n | Some p ↦ elim v [ Some value ↦ cond (may_stand p (joined value)) (asked_from (n + 1) (added gs (name_in word) (joined value)) words) (wrong n) | None ↦ cond (may_stand p alone) (asked_from (n + 1) (added gs (name_in word) alone) words) (asked_value (n + 1) gs p (name_in word) words) ] ] ≡ next n gs (name_in word) words o v
     by None v = refl
     by (Some p) (Some value) = refl
     by (Some p) None = refl
@@ -108,8 +107,8 @@ pub values_of-append : (name : List ℕ) (gs hs : List Given) → values_of name
 values_of-append name [] hs = refl
 values_of-append name (g ∷ gs) hs = by (values_of-append name gs hs) (bytes_eq name g.name)
   where
-    by : values_of name (gs ++ hs) ≡ values_of name gs ++ values_of name hs → (b : Bool) → cond b (g.value ∷ values_of name (gs ++ hs)) (values_of name (gs ++ hs)) ≡ cond b (g.value ∷ values_of name gs) (values_of name gs) ++ values_of name hs
-    by e true = ap (λ vs. g.value ∷ vs) e
+    by : values_of name (gs ++ hs) ≡ values_of name gs ++ values_of name hs → (b : Bool) → cond b (value_of g.form ∷ values_of name (gs ++ hs)) (values_of name (gs ++ hs)) ≡ cond b (value_of g.form ∷ values_of name gs) (values_of name gs) ++ values_of name hs
+    by e true = ap (λ vs. value_of g.form ∷ vs) e
     by e false = e
 
 -- an option that has another value behind these may follow them

@@ -1,10 +1,11 @@
 -- The number of the wrong word is that of the first at which no request goes on.
 use Rattle.std.proofs.Common.{◌≡◌, ℕ, ◌+◌, ◌-◌, ◌≤◌, Bool, true, false, ◌&&◌, cond, List, [], ◌∷◌, ◌++◌, length, take, Option, Some, None, bytes_eq, codes, refl, subst, ap, sym, ◌∙◌, arith, append_assoc, append-nil, length-append}
 use Rattle.std.proofs.Math.Seq.{take-append_seam, take-append-add}
-use Rattle.ytt_spec.proofs.Options.{asked_next, begun_stands, next, same, stands_begun, values_of-append}
+use Rattle.std.specs.List.{list_all}
+use Rattle.ytt_spec.proofs.Options.{Follows, asked_next, begun_follows, follows_begun, next, same, values_of-append}
 use Rattle.ytt_spec.proofs.WordsRead.{read_request, request_read}
 use Rattle.ytt_spec.specs.Requests.{Begins, IsFirstWrong, IsRequest}
-use Rattle.ytt_spec.specs.Words.{Asked, asked_for, wrong, Command, CommandOption, Given, Often, exactly_once, at_most_once, added, are_all_given, asked, asked_from, asked_value, begun, command_given, command_options, default_steps, file_option, is_command, may_follow, may_have, name_in, named, render, steps_option, value_in, values_of}
+use Rattle.ytt_spec.specs.Words.{Asked, asked_for, wrong, Command, CommandOption, Given, Form, alone, apart, joined, Often, exactly_once, at_most_once, added, are_all_given, asked, asked_from, asked_value, begun, command_given, command_options, default_steps, file_option, ignore_option, is_command, may_follow, may_have, may_stand, name_in, named, render, steps_option, value_in, value_of, values_of}
 
 -- Of words from number n on, the one of number m is the first at which the reading can't end in a request.
 pub record Stops (read : List (List ℕ) → Asked) (n : ℕ) (words : List (List ℕ)) (m : ℕ) : Type 0 where
@@ -85,60 +86,68 @@ begins_after at_most_once [] v h = refl
 begins_after exactly_once (u ∷ us) v h = cc
 begins_after at_most_once (u ∷ us) v h = cc
 
-added_within : (gs : List Given) (name value : List ℕ) (is_joined : Bool) (o : CommandOption) → Within gs → named name command_options ≡ Some o → may_follow o.often (values_of name gs) ≡ true → Within (added gs name value is_joined)
-added_within gs name value is_joined o w found follows other =
-    subst (IsWithin (named other command_options)) (sym (values_of-append other gs (record { name = name; value = value; is_joined = is_joined } ∷ []))) (by (bytes_eq other name) refl)
+added_within : (gs : List Given) (name : List ℕ) (form : Form) (o : CommandOption) → Within gs → Follows gs name o → Within (added gs name form)
+added_within gs name form o w f other =
+    subst (IsWithin (named other command_options)) (sym (values_of-append other gs (record { name = name; form = form } ∷ []))) (by (bytes_eq other name) refl)
   where
-    by : (b : Bool) → bytes_eq other name ≡ b → IsWithin (named other command_options) (values_of other gs ++ cond b (value ∷ []) [])
+    by : (b : Bool) → bytes_eq other name ≡ b → IsWithin (named other command_options) (values_of other gs ++ cond b (value_of form ∷ []) [])
     by true e =
         let is : other ≡ name = same other name e in
-        subst (λ (m : List ℕ). IsWithin (named m command_options) (values_of m gs ++ (value ∷ []))) (sym is) (subst (λ (r : Option CommandOption). IsWithin r (values_of name gs ++ (value ∷ []))) (sym found) (begins_after o.often (values_of name gs) value follows))
+        subst (λ (m : List ℕ). IsWithin (named m command_options) (values_of m gs ++ (value_of form ∷ []))) (sym is) (subst (λ (r : Option CommandOption). IsWithin r (values_of name gs ++ (value_of form ∷ []))) (sym f.found) (begins_after o.often (values_of name gs) (value_of form) f.follows))
     by false e = subst (IsWithin (named other command_options)) (sym (append-nil (values_of other gs))) (w other)
 
 -- some words go on to a request
 abbrev Completes : (List (List ℕ) → Asked) → Type 0
 Completes read = (more : List (List ℕ)) × (command : Command) × (read more ≡ asked_for command)
 
-steps_fit : (vs : List (List ℕ)) → may_begin at_most_once vs ≡ true → may_have at_most_once vs ≡ true
-steps_fit [] h = refl
-steps_fit (v ∷ []) h = refl
-steps_fit (v ∷ w ∷ vs) h = cc
+at_most : (vs : List (List ℕ)) → may_begin at_most_once vs ≡ true → may_have at_most_once vs ≡ true
+at_most [] h = refl
+at_most (v ∷ []) h = refl
+at_most (v ∷ w ∷ vs) h = cc
+
+-- the options that may be left out stand as often as they may
+others_given : (gs : List Given) → Within gs → list_all (λ o. may_have o.often (values_of o.name gs)) (steps_option ∷ ignore_option ∷ []) ≡ true
+others_given gs w = λ i. at_most (values_of steps_option.name gs) (w steps_option.name) i && (at_most (values_of ignore_option.name gs) (w ignore_option.name) i && true)
+
+abbrev path_words : List (List ℕ)
+path_words = file_option.name ∷ codes "a" ∷ []
 
 -- a path completes them, where there is none
 completes : (n : ℕ) (gs : List Given) → Within gs → Completes (asked_from n gs)
 completes n gs w = by (values_of file_option.name gs) refl (w file_option.name)
   where
-    steps_done : may_have at_most_once (values_of steps_option.name gs) ≡ true
-    steps_done = steps_fit (values_of steps_option.name gs) (w steps_option.name)
-
     by : (vs : List (List ℕ)) → values_of file_option.name gs ≡ vs → may_begin exactly_once vs ≡ true → Completes (asked_from n gs)
     by [] e h =
-        let starts = stands_begun gs file_option.name None file_option (record { found = refl; joined = refl; follows = ap (may_follow exactly_once) e }) in
-        let all = added gs file_option.name (codes "a") false in
+        let follows : Follows gs file_option.name file_option = record { found = refl; follows = ap (may_follow exactly_once) e } in
+        let all = added gs file_option.name (apart (codes "a")) in
         let paths : values_of file_option.name all ≡ codes "a" ∷ [] = values_of-append file_option.name gs _ ∙ ap (λ vs. vs ++ (codes "a" ∷ [])) e in
-        let numbers : values_of steps_option.name all ≡ values_of steps_option.name gs = values_of-append steps_option.name gs _ ∙ append-nil (values_of steps_option.name gs) in (
-          file_option.name ∷ codes "a" ∷ [],
+        let others = others_given all (added_within gs file_option.name (apart (codes "a")) file_option w follows) in (
+          path_words,
           command_given all,
-          asked_next n gs file_option.name (codes "a" ∷ []) ∙ ap (λ o. next n gs file_option.name (codes "a" ∷ []) o None) starts
-              ∙ (λ i. cond (may_have exactly_once (paths i) && ((ap (may_have at_most_once) numbers ∙ steps_done) i && true)) (asked_for (command_given all)) (wrong (n + 1 + 1))),
+          asked_next n gs file_option.name (codes "a" ∷ []) ∙ ap (λ o. next n gs file_option.name (codes "a" ∷ []) o None) (follows_begun gs file_option.name file_option follows)
+              ∙ (λ i. cond (may_have exactly_once (paths i) && others i) (asked_for (command_given all)) (wrong (n + 1 + 1))),
         )
-    by (v ∷ []) e h = ([], command_given gs, λ i. cond (may_have exactly_once (e i) && (steps_done i && true)) (asked_for (command_given gs)) (wrong n))
+    by (v ∷ []) e h = ([], command_given gs, λ i. cond (may_have exactly_once (e i) && others_given gs w i) (asked_for (command_given gs)) (wrong n))
     by (v ∷ u ∷ vs) e h = cc
 
--- each option has a value
-sample : (name : List ℕ) (o : CommandOption) → named name command_options ≡ Some o → (value : List ℕ) × (o.is_value value ≡ true)
-sample name o h = by (bytes_eq name file_option.name) (bytes_eq name steps_option.name) h
+-- each option that is no flag has a value
+sample : (name : List ℕ) (o : CommandOption) → named name command_options ≡ Some o → may_stand o alone ≡ false → (value : List ℕ) × (may_stand o (apart value) ≡ true)
+sample name o h f = by (bytes_eq name file_option.name) (bytes_eq name steps_option.name) (bytes_eq name ignore_option.name) h
   where
-    by : (a b : Bool) → cond a (Some file_option) (cond b (Some steps_option) None) ≡ Some o → (value : List ℕ) × (o.is_value value ≡ true)
-    by true b e = let is : file_option ≡ o = cc in (codes "a", ap (λ (x : CommandOption). x.is_value (codes "a")) (sym is))
-    by false true e = let is : steps_option ≡ o = cc in (codes "1", ap (λ (x : CommandOption). x.is_value (codes "1")) (sym is))
-    by false false e = cc
+    by : (a b c : Bool) → cond a (Some file_option) (cond b (Some steps_option) (cond c (Some ignore_option) None)) ≡ Some o → (value : List ℕ) × (may_stand o (apart value) ≡ true)
+    by true b c e = let is : file_option ≡ o = cc in (codes "a", ap (λ (x : CommandOption). may_stand x (apart (codes "a"))) (sym is))
+    by false true c e = let is : steps_option ≡ o = cc in (codes "1", ap (λ (x : CommandOption). may_stand x (apart (codes "1"))) (sym is))
+    by false false true e =
+        let is : ignore_option ≡ o = cc in
+        let never : true ≡ false = ap (λ (x : CommandOption). may_stand x alone) is ∙ f in
+        cc
+    by false false false e = cc
 
-completes_value : (n : ℕ) (gs : List Given) (o : CommandOption) (name : List ℕ) → Within gs → named name command_options ≡ Some o → may_follow o.often (values_of name gs) ≡ true → Completes (asked_value n gs o name)
-completes_value n gs o name w found follows =
-    let v = sample name o found in
-    let c = completes (n + 1) (added gs name v.0 false) (added_within gs name v.0 false o w found follows) in
-    (v.0 ∷ c.0, c.1, ap (λ b. cond b (asked_from (n + 1) (added gs name v.0 false) c.0) (wrong n)) v.1 ∙ c.2)
+completes_value : (n : ℕ) (gs : List Given) (o : CommandOption) (name : List ℕ) → Within gs → Follows gs name o → may_stand o alone ≡ false → Completes (asked_value n gs o name)
+completes_value n gs o name w follows no_flag =
+    let v = sample name o follows.found no_flag in
+    let c = completes (n + 1) (added gs name (apart v.0)) (added_within gs name (apart v.0) o w follows) in
+    (v.0 ∷ c.0, c.1, ap (λ b. cond b (asked_from (n + 1) (added gs name (apart v.0)) c.0) (wrong n)) v.1 ∙ c.2)
 
 -- ---- by the tests that are made of a word
 
@@ -151,40 +160,54 @@ refused_here : (read : List (List ℕ) → Asked) (n : ℕ) (word : List ℕ) (w
 refused_here read n word words m c is refused =
     stops_here read n (word ∷ words) m c is (λ w ws f others. let same_word : w ≡ word = cc in ap (λ v. read (v ∷ others)) same_word ∙ refused others ∙ ap wrong (sym is))
 
-by_value : (n : ℕ) (gs : List Given) (o : CommandOption) (word value : List ℕ) (words : List (List ℕ)) (m : ℕ) (b : Bool) → Within gs → begun gs (name_in word) (value_in word) ≡ Some o → value_in word ≡ Some value
-    → (asked_from (n + 1) (added gs (name_in word) value true) words ≡ wrong m → Stops (asked_from (n + 1) (added gs (name_in word) value true)) (n + 1) words m)
-    → o.is_value value ≡ b → cond b (asked_from (n + 1) (added gs (name_in word) value true) words) (wrong n) ≡ wrong m → Stops (asked_from n gs) n (word ∷ words) m
-by_value n gs o word value words m true w starts v read h e =
-    one_read (asked_from n gs) (asked_from (n + 1) (added gs (name_in word) value true)) n word words m
-    (λ others. asked_next n gs word others ∙ (λ i. next n gs (name_in word) others (starts i) (v i)) ∙ ap (λ t. cond t (asked_from (n + 1) (added gs (name_in word) value true) others) (wrong n)) h) (read e)
-by_value n gs o word value words m false w starts v read h e =
+-- the words that an option begins, by what is read next
+by_start : (n : ℕ) (gs : List Given) (word : List ℕ) (others : List (List ℕ)) (o : Option CommandOption) (v : Option (List ℕ)) → begun gs (name_in word) ≡ o → value_in word ≡ v → asked_from n gs (word ∷ others) ≡ next n gs (name_in word) others o v
+by_start n gs word others o v starts cut = asked_next n gs word others ∙ (λ i. next n gs (name_in word) others (starts i) (cut i))
+
+by_joined : (n : ℕ) (gs : List Given) (o : CommandOption) (word value : List ℕ) (words : List (List ℕ)) (m : ℕ) (b : Bool) → Within gs → begun gs (name_in word) ≡ Some o → value_in word ≡ Some value
+    → (asked_from (n + 1) (added gs (name_in word) (joined value)) words ≡ wrong m → Stops (asked_from (n + 1) (added gs (name_in word) (joined value))) (n + 1) words m)
+    → may_stand o (joined value) ≡ b → cond b (asked_from (n + 1) (added gs (name_in word) (joined value)) words) (wrong n) ≡ wrong m → Stops (asked_from n gs) n (word ∷ words) m
+by_joined n gs o word value words m true w starts cut read h e =
+    one_read (asked_from n gs) (asked_from (n + 1) (added gs (name_in word) (joined value))) n word words m
+    (λ others. by_start n gs word others (Some o) (Some value) starts cut ∙ ap (λ t. cond t (asked_from (n + 1) (added gs (name_in word) (joined value)) others) (wrong n)) h) (read e)
+by_joined n gs o word value words m false w starts cut read h e =
     let is : m ≡ n = cc in
     refused_here (asked_from n gs) n word words m (completes n gs w) is
-    (λ others. asked_next n gs word others ∙ (λ i. next n gs (name_in word) others (starts i) (v i)) ∙ ap (λ t. cond t (asked_from (n + 1) (added gs (name_in word) value true) others) (wrong n)) h)
+    (λ others. by_start n gs word others (Some o) (Some value) starts cut ∙ ap (λ t. cond t (asked_from (n + 1) (added gs (name_in word) (joined value)) others) (wrong n)) h)
 
-by_next : (n : ℕ) (gs : List Given) (word : List ℕ) (words : List (List ℕ)) (m : ℕ) (o : Option CommandOption) (v : Option (List ℕ)) → Within gs → begun gs (name_in word) (value_in word) ≡ o → value_in word ≡ v
-    → ((value : List ℕ) → Within (added gs (name_in word) value true) → asked_from (n + 1) (added gs (name_in word) value true) words ≡ wrong m → Stops (asked_from (n + 1) (added gs (name_in word) value true)) (n + 1) words m)
-    → ((q : CommandOption) → named (name_in word) command_options ≡ Some q → may_follow q.often (values_of (name_in word) gs) ≡ true → asked_value (n + 1) gs q (name_in word) words ≡ wrong m
-    → Stops (asked_value (n + 1) gs q (name_in word)) (n + 1) words m)
+by_alone : (n : ℕ) (gs : List Given) (o : CommandOption) (word : List ℕ) (words : List (List ℕ)) (m : ℕ) (b : Bool) → begun gs (name_in word) ≡ Some o → value_in word ≡ None
+    → (asked_from (n + 1) (added gs (name_in word) alone) words ≡ wrong m → Stops (asked_from (n + 1) (added gs (name_in word) alone)) (n + 1) words m)
+    → (may_stand o alone ≡ false → asked_value (n + 1) gs o (name_in word) words ≡ wrong m → Stops (asked_value (n + 1) gs o (name_in word)) (n + 1) words m)
+    → may_stand o alone ≡ b → cond b (asked_from (n + 1) (added gs (name_in word) alone) words) (asked_value (n + 1) gs o (name_in word) words) ≡ wrong m → Stops (asked_from n gs) n (word ∷ words) m
+by_alone n gs o word words m true starts cut read read_value h e =
+    one_read (asked_from n gs) (asked_from (n + 1) (added gs (name_in word) alone)) n word words m
+    (λ others. by_start n gs word others (Some o) None starts cut ∙ ap (λ t. cond t (asked_from (n + 1) (added gs (name_in word) alone) others) (asked_value (n + 1) gs o (name_in word) others)) h) (read e)
+by_alone n gs o word words m false starts cut read read_value h e =
+    one_read (asked_from n gs) (asked_value (n + 1) gs o (name_in word)) n word words m
+    (λ others. by_start n gs word others (Some o) None starts cut ∙ ap (λ t. cond t (asked_from (n + 1) (added gs (name_in word) alone) others) (asked_value (n + 1) gs o (name_in word) others)) h) (read_value h e)
+
+by_next : (n : ℕ) (gs : List Given) (word : List ℕ) (words : List (List ℕ)) (m : ℕ) (o : Option CommandOption) (v : Option (List ℕ)) → Within gs → begun gs (name_in word) ≡ o → value_in word ≡ v
+    → ((form : Form) → Within (added gs (name_in word) form) → asked_from (n + 1) (added gs (name_in word) form) words ≡ wrong m → Stops (asked_from (n + 1) (added gs (name_in word) form)) (n + 1) words m)
+    → ((q : CommandOption) → Follows gs (name_in word) q → may_stand q alone ≡ false → asked_value (n + 1) gs q (name_in word) words ≡ wrong m → Stops (asked_value (n + 1) gs q (name_in word)) (n + 1) words m)
     → next n gs (name_in word) words o v ≡ wrong m → Stops (asked_from n gs) n (word ∷ words) m
 by_next n gs word words m None v w starts cut read read_value e =
     let is : m ≡ n = cc in
-    refused_here (asked_from n gs) n word words m (completes n gs w) is (λ others. asked_next n gs word others ∙ ap (λ o. next n gs (name_in word) others o (value_in word)) starts)
+    refused_here (asked_from n gs) n word words m (completes n gs w) is (λ others. by_start n gs word others None v starts cut)
 by_next n gs word words m (Some o) (Some value) w starts cut read read_value e =
-    let at = begun_stands gs (name_in word) (value_in word) o starts in
-    by_value n gs o word value words m (o.is_value value) w starts cut (read value (added_within gs (name_in word) value true o w at.found at.follows)) refl e
+    let follows = begun_follows gs (name_in word) o starts in
+    by_joined n gs o word value words m (may_stand o (joined value)) w starts cut (read (joined value) (added_within gs (name_in word) (joined value) o w follows)) refl e
 by_next n gs word words m (Some o) None w starts cut read read_value e =
-    let at = begun_stands gs (name_in word) (value_in word) o starts in
-    one_read (asked_from n gs) (asked_value (n + 1) gs o (name_in word)) n word words m (λ others. asked_next n gs word others ∙ (λ i. next n gs (name_in word) others (starts i) (cut i))) (read_value o at.found at.follows e)
+    let follows = begun_follows gs (name_in word) o starts in
+    by_alone n gs o word words m (may_stand o alone) starts cut (read alone (added_within gs (name_in word) alone o w follows)) (read_value o follows) refl e
 
 at_value : (n : ℕ) (gs : List Given) (o : CommandOption) (name value : List ℕ) (words : List (List ℕ)) (m : ℕ) (b : Bool) → Completes (asked_value n gs o name)
-    → (asked_from (n + 1) (added gs name value false) words ≡ wrong m → Stops (asked_from (n + 1) (added gs name value false)) (n + 1) words m)
-    → o.is_value value ≡ b → cond b (asked_from (n + 1) (added gs name value false) words) (wrong n) ≡ wrong m → Stops (asked_value n gs o name) n (value ∷ words) m
+    → (asked_from (n + 1) (added gs name (apart value)) words ≡ wrong m → Stops (asked_from (n + 1) (added gs name (apart value))) (n + 1) words m)
+    → may_stand o (apart value) ≡ b → cond b (asked_from (n + 1) (added gs name (apart value)) words) (wrong n) ≡ wrong m → Stops (asked_value n gs o name) n (value ∷ words) m
 at_value n gs o name value words m true c read h e =
-    one_read (asked_value n gs o name) (asked_from (n + 1) (added gs name value false)) n value words m (λ others. ap (λ t. cond t (asked_from (n + 1) (added gs name value false) others) (wrong n)) h) (read e)
+    one_read (asked_value n gs o name) (asked_from (n + 1) (added gs name (apart value))) n value words m (λ others. ap (λ t. cond t (asked_from (n + 1) (added gs name (apart value)) others) (wrong n)) h) (read e)
 at_value n gs o name value words m false c read h e =
     let is : m ≡ n = cc in
-    refused_here (asked_value n gs o name) n value words m c is (λ others. ap (λ t. cond t (asked_from (n + 1) (added gs name value false) others) (wrong n)) h)
+    refused_here (asked_value n gs o name) n value words m c is (λ others. ap (λ t. cond t (asked_from (n + 1) (added gs name (apart value)) others) (wrong n)) h)
 
 no_more : (n : ℕ) (gs : List Given) (m : ℕ) (b : Bool) → Within gs → cond b (asked_for (command_given gs)) (wrong n) ≡ wrong m → Stops (asked_from n gs) n [] m
 no_more n gs m true w e = cc
@@ -194,24 +217,27 @@ mutual
   options_stop : (n : ℕ) (gs : List Given) (words : List (List ℕ)) (m : ℕ) → Within gs → asked_from n gs words ≡ wrong m → Stops (asked_from n gs) n words m
   options_stop n gs [] m w e = no_more n gs m (are_all_given gs) w e
   options_stop n gs (word ∷ words) m w e =
-      by_next n gs word words m (begun gs (name_in word) (value_in word)) (value_in word) w refl refl (λ value. options_stop (n + 1) (added gs (name_in word) value true) words m) (λ o found follows. value_stops (n + 1) gs o (name_in word) words m w found follows)
+      by_next n gs word words m (begun gs (name_in word)) (value_in word) w refl refl (λ form. options_stop (n + 1) (added gs (name_in word) form) words m) (λ o follows no_flag. value_stops (n + 1) gs o (name_in word) words m w follows no_flag)
       (sym (asked_next n gs word words) ∙ e)
 
-  value_stops : (n : ℕ) (gs : List Given) (o : CommandOption) (name : List ℕ) (words : List (List ℕ)) (m : ℕ) → Within gs → named name command_options ≡ Some o → may_follow o.often (values_of name gs) ≡ true
-      → asked_value n gs o name words ≡ wrong m → Stops (asked_value n gs o name) n words m
-  value_stops n gs o name [] m w found follows e =
+  value_stops : (n : ℕ) (gs : List Given) (o : CommandOption) (name : List ℕ) (words : List (List ℕ)) (m : ℕ) → Within gs → Follows gs name o → may_stand o alone ≡ false → asked_value n gs o name words ≡ wrong m
+      → Stops (asked_value n gs o name) n words m
+  value_stops n gs o name [] m w follows no_flag e =
       let is : m ≡ n = cc in
-      stops_here (asked_value n gs o name) n [] m (completes_value n gs o name w found follows) is (λ word ws f. no_word word ws f)
-  value_stops n gs o name (value ∷ words) m w found follows e =
-      at_value n gs o name value words m (o.is_value value) (completes_value n gs o name w found follows) (options_stop (n + 1) (added gs name value false) words m (added_within gs name value false o w found follows)) refl e
+      stops_here (asked_value n gs o name) n [] m (completes_value n gs o name w follows no_flag) is (λ word ws f. no_word word ws f)
+  value_stops n gs o name (value ∷ words) m w follows no_flag e =
+      at_value n gs o name value words m (may_stand o (apart value)) (completes_value n gs o name w follows no_flag) (options_stop (n + 1) (added gs name (apart value)) words m (added_within gs name (apart value) o w follows)) refl e
 
 -- ---- the command
+
+abbrev path_command : Command
+path_command = render (record { path = codes "a"; steps = default_steps; ignore_unknown = false })
 
 -- behind a first word that is no command all is read as options
 without_command : (word : List ℕ) (words : List (List ℕ)) (m : ℕ) → is_command word ≡ false → (front : List (List ℕ)) (s : Stops (asked_from 1 []) 1 (word ∷ words) m) → s.front ≡ front → Stops asked 1 (word ∷ words) m
 without_command word words m h [] s f =
     let is : m ≡ 1 = s.number ∙ ap (λ l. 1 + length l) f in
-    here asked 1 (word ∷ words) m (codes "-f" ∷ codes "a" ∷ []) (render (record { path = codes "a"; steps = default_steps })) is refl
+    here asked 1 (word ∷ words) m path_words path_command is refl
     (λ w ws e others.
     let same : w ≡ word = cc in
     let rest : s.rest ≡ w ∷ words = sym (s.split ∙ ap (λ l. l ++ s.rest) f) ∙ ap (λ v. v ∷ words) (sym same) in
@@ -238,7 +264,7 @@ by_command word words m true h e =
 by_command word words m false h e = let s = options_stop 1 [] (word ∷ words) m none_within e in without_command word words m h s.front s refl
 
 asked_stops : (words : List (List ℕ)) (m : ℕ) → asked words ≡ wrong m → Stops asked 1 words m
-asked_stops [] m e = let is : m ≡ 1 = cc in here asked 1 [] m (codes "-f" ∷ codes "a" ∷ []) (render (record { path = codes "a"; steps = default_steps })) is refl (λ w ws f. no_word w ws f)
+asked_stops [] m e = let is : m ≡ 1 = cc in here asked 1 [] m path_words path_command is refl (λ w ws f. no_word w ws f)
 asked_stops (word ∷ words) m e = by_command word words m (is_command word) refl e
 
 front_taken : (words front rest : List (List ℕ)) (n : ℕ) → words ≡ front ++ rest → n ≡ 1 + length front → take (n - 1) words ≡ front

@@ -3,8 +3,8 @@ use Rattle.std.specs.Prelude.{ℕ, List, [], ◌∷◌, ◌++◌, codes, decimal
 use Rattle.ytt_base.specs.FaultText.{fault_line}
 use Rattle.ytt_outside.specs.Standing.{Standing}
 use Rattle.yaml_spec.specs.Text.{Text}
-use Rattle.star_grammar.specs.EachReader.{MeansRead}
-use Rattle.star_spec.specs.Reading.{Reader}
+use Rattle.star_grammar.specs.CodeReaders.{MeansCode}
+use Rattle.star_spec.specs.CodeReading.{CodeReader}
 use Rattle.ytt_spec.specs.Meaning.{Meant, meaning}
 use Rattle.ytt_spec.specs.Words.{Asked, asked_for, wrong, asked}
 
@@ -31,14 +31,14 @@ abbrev pub due_for : Meant → Due
 due_for (Ok documents) = done (Text documents)
 due_for (Err refusal) = fault (fault_line refusal.names refusal.fault)
 
-abbrev pub due_asked : Reader → Asked → (List ℕ → Standing) → Due
+abbrev pub due_asked : CodeReader → Asked → (List ℕ → Standing) → Due
 due_asked r (wrong n) tree = usage (usage_line n)
 due_asked r (asked_for command) tree = due_for (meaning r command tree)
 
 -- what is due for these words over these files, where code is read so
-abbrev pub due : Reader → List (List ℕ) → (List ℕ → Standing) → Due
+abbrev pub due : CodeReader → List (List ℕ) → (List ℕ → Standing) → Due
 due r words tree = due_asked r (asked words) tree
 
 -- this is due, whichever reader reads the code as it reads
 abbrev pub IsDue : List (List ℕ) → (List ℕ → Standing) → Due → Type 0
-IsDue words tree = MeansRead (λ r. due r words tree)
+IsDue words tree = MeansCode (λ r. due r words tree)

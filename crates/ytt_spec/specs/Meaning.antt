@@ -10,13 +10,13 @@ use Rattle.ytt_outside.specs.Standing.{Standing, nothing, file, folder}
 use Rattle.yaml_spec.specs.Noted.{Documents, has_code}
 use Rattle.yaml_spec.specs.Read.{Read, plain_trees}
 use Rattle.star_spec.specs.Calls.{Host, no_natives}
-use Rattle.star_grammar.specs.EachReader.{MeansRead}
+use Rattle.star_grammar.specs.CodeReaders.{MeansCode}
 use Rattle.star_spec.specs.Eval.{starlark}
 use Rattle.star_spec.specs.Outcomes.{State, Ending, done, bad}
-use Rattle.star_spec.specs.Reading.{Reader}
+use Rattle.star_spec.specs.CodeReading.{CodeReader}
 use Rattle.template_spec.specs.Files.{FileResult, Loader, nothing_to_load}
 use Rattle.template_spec.specs.Meaning.{BuildFile, documents}
-use Rattle.template_spec.specs.Placing.{placed}
+use Rattle.template_spec.specs.Passes.{template_passed}
 use Rattle.template_spec.specs.Template.{Items}
 use Rattle.ytt_spec.specs.Words.{Command, render}
 
@@ -73,25 +73,25 @@ abbrev pub built : (steps : ℕ) → Items → Outcome Trees
 built steps template = built_with no_natives nothing_to_load (λ file. template) default_depth template (started steps)
 
 -- Documents without code are what they are, which takes no steps; with code they are a template, which is built.
-abbrev pub documents_meaning : Reader → (steps : ℕ) → Documents → Outcome Trees
-documents_meaning r steps ds = if has_code ds then placed r 1 ds >>= built steps else plain_trees ds
+abbrev pub documents_meaning : CodeReader → (ignore_unknown : Bool) → (steps : ℕ) → Documents → Outcome Trees
+documents_meaning r ignore steps ds = if has_code ds then template_passed r ignore 1 ds >>= built steps else plain_trees ds
 
 -- A text that reads as no documents has its first refusal.
-abbrev pub text_meaning : Reader → (steps : ℕ) → List ℕ → Outcome Trees
-text_meaning r steps bytes = Read 1 bytes >>= documents_meaning r steps
+abbrev pub text_meaning : CodeReader → (ignore_unknown : Bool) → (steps : ℕ) → List ℕ → Outcome Trees
+text_meaning r ignore steps bytes = Read 1 bytes >>= documents_meaning r ignore steps
 
 -- What a path means, by what stands at it: the documents of a file of such a name.
-abbrev pub path_meaning : Reader → (path : List ℕ) → (steps : ℕ) → Standing → Outcome Trees
-path_meaning r path steps nothing = Err (path_fault kind.FileMissing path)
-path_meaning r path steps (folder names) = Err not_built
-path_meaning r path steps (file bytes) =
+abbrev pub path_meaning : CodeReader → (path : List ℕ) → (ignore_unknown : Bool) → (steps : ℕ) → Standing → Outcome Trees
+path_meaning r path ignore steps nothing = Err (path_fault kind.FileMissing path)
+path_meaning r path ignore steps (folder names) = Err not_built
+path_meaning r path ignore steps (file bytes) =
     if not (gives_documents (last_part path)) then Err not_built
     else if nat_lt largest_file (length bytes) then Err (path_fault kind.FileTooLarge path)
-    else text_meaning r steps bytes
+    else text_meaning r ignore steps bytes
 
 -- a text means this outcome, whichever reader reads the code as it reads
-abbrev pub TextMeans : (steps : ℕ) → List ℕ → Outcome Trees → Type 0
-TextMeans steps bytes = MeansRead (λ r. text_meaning r steps bytes)
+abbrev pub TextMeans : (ignore_unknown : Bool) → (steps : ℕ) → List ℕ → Outcome Trees → Type 0
+TextMeans ignore steps bytes = MeansCode (λ r. text_meaning r ignore steps bytes)
 
 -- ---- what a request means
 
@@ -114,9 +114,9 @@ named_in names (Ok documents) = Ok documents
 named_in names (Err fault) = Err (record { fault = fault; names = names })
 
 -- What a command means over a whole tree of files. The reader of code is a parameter: each that reads as code reads gives the same.
-abbrev pub meaning : Reader → Command → (tree : List ℕ → Standing) → Meant
-meaning r (render asked) tree = named_in (file_names (render asked)) (path_meaning r asked.path asked.steps (tree asked.path))
+abbrev pub meaning : CodeReader → Command → (tree : List ℕ → Standing) → Meant
+meaning r (render asked) tree = named_in (file_names (render asked)) (path_meaning r asked.path asked.ignore_unknown asked.steps (tree asked.path))
 
 -- it means this, whichever reader reads the code as it reads
 abbrev pub Means : Command → (tree : List ℕ → Standing) → Meant → Type 0
-Means command tree = MeansRead (λ r. meaning r command tree)
+Means command tree = MeansCode (λ r. meaning r command tree)

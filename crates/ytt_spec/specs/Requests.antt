@@ -1,20 +1,20 @@
 -- What a request is, and which word of a command line is wrong: in terms of how requests are spelled.
-use Rattle.std.specs.Prelude.{◌≡◌, ◌⊎◌, ℕ, ◌+◌, ◌-◌, ◌≤◌, Bool, true, false, not, ◌&&◌, ◌||◌, List, [], ◌∷◌, ◌++◌, length, take, codes, Some, None}
+use Rattle.std.specs.Prelude.{◌≡◌, ◌⊎◌, ℕ, ◌+◌, ◌-◌, ◌≤◌, Bool, true, false, List, [], ◌∷◌, ◌++◌, length, take, codes, Some, None}
 use Rattle.std.specs.List.{list_all}
-use Rattle.ytt_spec.specs.Words.{Command, Given, are_all_given, command_given, command_options, equals, named}
+use Rattle.ytt_spec.specs.Words.{Command, Given, alone, apart, joined, are_all_given, command_given, command_options, equals, may_stand, named}
 
 -- the words of an option
-abbrev pub spelled_alone : Given → List (List ℕ)
-spelled_alone g = elim g.is_joined [ true ↦ (g.name ++ equals ∷ g.value) ∷ [] | false ↦ g.name ∷ g.value ∷ [] ]
+abbrev pub spelled_one : Given → List (List ℕ)
+spelled_one g = elim g.form [ alone ↦ g.name ∷ [] | apart value ↦ g.name ∷ value ∷ [] | joined value ↦ (g.name ++ equals ∷ value) ∷ [] ]
 
 -- the words of options
 abbrev pub spelled : List Given → List (List ℕ)
 spelled [] = []
-spelled (g ∷ gs) = spelled_alone g ++ spelled gs
+spelled (g ∷ gs) = spelled_one g ++ spelled gs
 
--- it is an option with a value of it, and a long one where they are one word
+-- it is an option, and may stand so
 abbrev pub is_good : Given → Bool
-is_good g = elim (named g.name command_options) [ None ↦ false | Some o ↦ (o.is_long || not g.is_joined) && o.is_value g.value ]
+is_good g = elim (named g.name command_options) [ None ↦ false | Some o ↦ may_stand o g.form ]
 
 -- A request for this command: options in any order, each as often as it must stand, behind the command's word or without it.
 pub record IsRequest (words : List (List ℕ)) (command : Command) : Type 0 where

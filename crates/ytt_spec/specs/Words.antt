@@ -1,14 +1,15 @@
 -- What the words of a command line ask for.
-use Rattle.std.specs.Prelude.{ℕ, ◌+◌, ◌==◌, Bool, true, false, nat_le, ◌&&◌, ◌||◌, List, [], ◌∷◌, ◌++◌, length, codes, bytes_eq, Option, Some, None, is_none, option_and_then, if◌then◌else◌}
+use Rattle.std.specs.Prelude.{ℕ, ◌+◌, ◌==◌, Bool, true, false, nat_le, ◌&&◌, List, [], ◌∷◌, ◌++◌, length, codes, bytes_eq, Option, Some, None, is_some, option_and_then, if◌then◌else◌}
 use Rattle.std.specs.List.{list_all}
 use Rattle.std.specs.Option.{option_map_or}
 use Rattle.std.specs.Str.{all_ascii_digits}
 use Rattle.std.specs.Str.Parse.{digits_value}
 
--- what `render` is asked with: the path, and the budget of steps
+-- what `render` is asked with: the path, the budget of steps, and whether comments of no known form may stand in a template
 pub record Render : Type 0 where
   pub path : List ℕ
   pub steps : ℕ
+  pub ignore_unknown : Bool
 
 -- what may be asked for
 pub data Command : Type 0 where
@@ -50,38 +51,72 @@ pub data Often : Type 0 where
   exactly_once : Often
   at_most_once : Often
 
--- an option by its name: whether it is a long one, whose value may stand behind `=` in the same word; how often it may stand; and the texts that are values of it
+-- what an option takes: a value, by the texts that are one, or none, as a flag
+pub data Takes : Type 0 where
+  a_value : (List ℕ → Bool) → Takes
+  no_value : Takes
+
+-- an option by its name: whether it is a long one, whose value may stand behind `=` in the same word; how often it may stand; and what it takes
 pub record CommandOption : Type 0 where
   pub name : List ℕ
   pub is_long : Bool
   pub often : Often
-  pub is_value : List ℕ → Bool
+  pub takes : Takes
 
 abbrev pub file_option : CommandOption
-file_option = record { name = codes "-f"; is_long = false; often = exactly_once; is_value = is_path }
+file_option = record { name = codes "-f"; is_long = false; often = exactly_once; takes = a_value is_path }
 
 abbrev pub steps_option : CommandOption
-steps_option = record { name = codes "--steps"; is_long = true; often = at_most_once; is_value = is_steps }
+steps_option = record { name = codes "--steps"; is_long = true; often = at_most_once; takes = a_value is_steps }
+
+abbrev pub ignore_option : CommandOption
+ignore_option = record { name = codes "--ignore-unknown-comments"; is_long = true; often = at_most_once; takes = no_value }
 
 -- all options
 abbrev pub command_options : List CommandOption
-command_options = file_option ∷ steps_option ∷ []
+command_options = file_option ∷ steps_option ∷ ignore_option ∷ []
 
 -- the option of this name
 abbrev pub named : List ℕ → List CommandOption → Option CommandOption
 named name [] = None
 named name (o ∷ os) = if bytes_eq name o.name then Some o else named name os
 
--- an option that stands in the words: its name and value, and whether these are one word
+-- how an option stands in the words: alone, with the next word as its value, or with its value behind `=` in the same word
+pub data Form : Type 0 where
+  alone : Form
+  apart : (value : List ℕ) → Form
+  joined : (value : List ℕ) → Form
+
+abbrev pub is_flag : Takes → Bool
+is_flag no_value = true
+is_flag (a_value is_value) = false
+
+-- it takes this text
+abbrev pub takes_text : Takes → List ℕ → Bool
+takes_text no_value text = false
+takes_text (a_value is_value) text = is_value text
+
+-- a flag stands alone, another option with a value of it, and in one word only a long one
+abbrev pub may_stand : CommandOption → Form → Bool
+may_stand o alone = is_flag o.takes
+may_stand o (apart value) = takes_text o.takes value
+may_stand o (joined value) = o.is_long && takes_text o.takes value
+
+-- an option that stands in the words
 pub record Given : Type 0 where
   pub name : List ℕ
-  pub value : List ℕ
-  pub is_joined : Bool
+  pub form : Form
+
+-- its value; a flag has the empty one
+abbrev pub value_of : Form → List ℕ
+value_of alone = []
+value_of (apart value) = value
+value_of (joined value) = value
 
 -- the values that the option of this name has, in their order
 abbrev pub values_of : List ℕ → List Given → List (List ℕ)
 values_of name [] = []
-values_of name (g ∷ gs) = if bytes_eq name g.name then g.value ∷ values_of name gs else values_of name gs
+values_of name (g ∷ gs) = if bytes_eq name g.name then value_of g.form ∷ values_of name gs else values_of name gs
 
 -- an option may have these values, and no others
 abbrev pub may_have : Often → List (List ℕ) → Bool
@@ -109,6 +144,7 @@ abbrev pub command_given : List Given → Command
 command_given gs = render (record {
   path = option_map_or (λ v. v) (first_of (values_of file_option.name gs)) [];
   steps = option_map_or number_of (first_of (values_of steps_option.name gs)) default_steps;
+  ignore_unknown = is_some (first_of (values_of ignore_option.name gs));
 })
 
 -- ---- words
@@ -125,30 +161,30 @@ abbrev pub value_in : List ℕ → Option (List ℕ)
 value_in [] = None
 value_in (b ∷ bs) = if b == equals then Some bs else value_in bs
 
--- the option that a word begins by its name, where it may stand behind those that are given: a value in the same word needs a long one
-abbrev pub begun : List Given → (name : List ℕ) → (value : Option (List ℕ)) → Option CommandOption
-begun gs name value = option_and_then (λ o. if (o.is_long || is_none value) && may_follow o.often (values_of name gs) then Some o else None) (named name command_options)
+-- the option of this name, where it may stand behind those that are given
+abbrev pub begun : List Given → (name : List ℕ) → Option CommandOption
+begun gs name = option_and_then (λ o. if may_follow o.often (values_of name gs) then Some o else None) (named name command_options)
 
-abbrev pub added : List Given → List ℕ → List ℕ → Bool → List Given
-added gs name value is_joined = gs ++ record { name = name; value = value; is_joined = is_joined } ∷ []
+abbrev pub added : List Given → List ℕ → Form → List Given
+added gs name form = gs ++ record { name = name; form = form } ∷ []
 
 abbrev mutual
   -- the words from number n on, behind these options; where a word is missing, its number is the one behind the last
   pub asked_from : ℕ → List Given → List (List ℕ) → Asked
   asked_from n gs [] = if are_all_given gs then asked_for (command_given gs) else wrong n
   asked_from n gs (word ∷ words) =
-      elim (begun gs (name_in word) (value_in word)) [
+      elim (begun gs (name_in word)) [
         | None ↦ wrong n
         | Some o ↦ elim (value_in word) [
-          | Some value ↦ if o.is_value value then asked_from (n + 1) (added gs (name_in word) value true) words else wrong n
-          | None ↦ asked_value (n + 1) gs o (name_in word) words
+          | Some value ↦ if may_stand o (joined value) then asked_from (n + 1) (added gs (name_in word) (joined value)) words else wrong n
+          | None ↦ if may_stand o alone then asked_from (n + 1) (added gs (name_in word) alone) words else asked_value (n + 1) gs o (name_in word) words
         ]
       ]
 
   -- the same, where the first word is the value of an option
   pub asked_value : ℕ → List Given → CommandOption → (name : List ℕ) → List (List ℕ) → Asked
   asked_value n gs o name [] = wrong n
-  asked_value n gs o name (value ∷ words) = if o.is_value value then asked_from (n + 1) (added gs name value false) words else wrong n
+  asked_value n gs o name (value ∷ words) = if may_stand o (apart value) then asked_from (n + 1) (added gs name (apart value)) words else wrong n
 
 abbrev pub is_command : List ℕ → Bool
 is_command word = bytes_eq word (codes "render")
