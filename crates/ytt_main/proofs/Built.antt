@@ -9,11 +9,10 @@ use Rattle.star_spec.specs.Eval.{starlark}
 use Rattle.star_spec.specs.Outcomes.{Ending, done, bad}
 use Rattle.star_spec.specs.Program.{Instruction}
 use Rattle.template_spec.specs.Compiled.{compiled}
+use Rattle.template_spec.specs.ControlWords.{free, WordsStand}
 use Rattle.template_spec.specs.Files.{FileResult, Loader, nothing_to_load}
 use Rattle.template_spec.specs.Meaning.{RunFile}
-use Rattle.template_spec.specs.Placed.{Placed}
 use Rattle.template_spec.specs.Template.{Items}
-use Rattle.template_spec.proofs.NestedWords.{placed_words}
 use Rattle.template_spec.proofs.Theorem.{files_agree}
 use Rattle.star_eval.specs.Parts.{Shows}
 use Rattle.star_eval.specs.declared.run.FlatResult.{FlatResult}
@@ -27,12 +26,11 @@ gives_shown (Err stop.Memory) ending h = tt
 gives_shown (Ok r) (bad e s) h = elim h [ ]
 gives_shown (Err (stop.Fault f)) (done x s) h = elim h [ ]
 
--- where its program is the template compiled, and the template is placed, it is what the template builds
-pub gives_built : (steps : ℕ) (t : Items) (program : List Instruction) (result : Result FlatResult Stop) → Placed t → program ≡ compiled t
+-- where its program is the template compiled, and no word leaves a node of the template, it is what the template builds
+pub gives_built : (steps : ℕ) (t : Items) (program : List Instruction) (result : Result FlatResult Stop) → WordsStand free t → program ≡ compiled t
     → ((loader : Loader (Unit {0})) (files : ℕ → List Instruction) (depth : ℕ) → Shows result (RunFile starlark no_natives loader files depth program (started steps)))
     → Gives (λ r. trees_of r.documents) result (built steps t)
-gives_built steps t program result placed same shows =
-    let stand = placed_words t placed in
+gives_built steps t program result stand same shows =
     subst (λ e. Gives (λ r. trees_of r.documents) result (outcome_of e))
     (files_agree starlark no_natives program t same stand (λ f. t) (λ f. stand) nothing_to_load default_depth (started steps))
     (gives_shown result (RunFile starlark no_natives nothing_to_load (λ f. compiled t) default_depth program (started steps)) (shows nothing_to_load (λ f. compiled t) default_depth))

@@ -1,5 +1,5 @@
 -- What a text means, step by step, and that it reads back.
-use Rattle.std.proofs.Common.{◌≡◌, ℕ, true, false, if◌then◌else◌, List, Result, Ok, Err, IfOk, subst, sym}
+use Rattle.std.proofs.Common.{◌≡◌, ℕ, Bool, true, false, if◌then◌else◌, List, Result, Ok, Err, IfOk, subst, sym}
 use Rattle.ytt_base.specs.Outcomes.{Gives, ◌>>=◌}
 use Rattle.ytt_base.specs.Trees.{AreTrees, Writable}
 use Rattle.ytt_base.specs.View.{trees_of}
@@ -7,23 +7,23 @@ use Rattle.ytt_base.specs.declared.fault.Stop.{Stop}
 use Rattle.ytt_base.specs.declared.tree.Tree.{Tree}
 use Rattle.yaml_spec.specs.Noted.{Documents, has_code}
 use Rattle.yaml_spec.specs.Read.{plain_trees}
-use Rattle.star_spec.specs.Reading.{Reader}
-use Rattle.star_grammar.specs.EachReader.{GivesRead}
-use Rattle.star_grammar.specs.Flat.{IsReader}
-use Rattle.template_spec.specs.Placing.{placed}
+use Rattle.star_spec.specs.CodeReading.{CodeReader}
+use Rattle.star_grammar.specs.CodeReaders.{GivesCode, IsCodeReader}
+use Rattle.template_spec.specs.Passes.{template_passed}
 use Rattle.ytt_spec.proofs.HeldBuilt.{text_written}
 use Rattle.ytt_spec.specs.Meaning.{built, documents_meaning, text_meaning}
 
--- documents with code mean what their template builds
-pub template_means : (r : Reader) (steps : ℕ) (ds : Documents) (result : Result (List Tree) Stop) → has_code ds ≡ true → Gives trees_of result (placed r 1 ds >>= built steps) → Gives trees_of result (documents_meaning r steps ds)
-template_means r steps ds result h g = subst (λ b. Gives trees_of result (if b then placed r 1 ds >>= built steps else plain_trees ds)) (sym h) g
+module _ (r : CodeReader) (ignore : Bool) (steps : ℕ) (ds : Documents) (result : Result (List Tree) Stop) where
+  -- documents with code mean what their template builds
+  pub template_means : has_code ds ≡ true → Gives trees_of result (template_passed r ignore 1 ds >>= built steps) → Gives trees_of result (documents_meaning r ignore steps ds)
+  template_means h g = subst (λ b. Gives trees_of result (if b then template_passed r ignore 1 ds >>= built steps else plain_trees ds)) (sym h) g
 
--- documents without code mean what they are
-pub plain_means : (r : Reader) (steps : ℕ) (ds : Documents) (result : Result (List Tree) Stop) → has_code ds ≡ false → Gives trees_of result (plain_trees ds) → Gives trees_of result (documents_meaning r steps ds)
-plain_means r steps ds result h g = subst (λ b. Gives trees_of result (if b then placed r 1 ds >>= built steps else plain_trees ds)) (sym h) g
+  -- documents without code mean what they are
+  pub plain_means : has_code ds ≡ false → Gives trees_of result (plain_trees ds) → Gives trees_of result (documents_meaning r ignore steps ds)
+  plain_means h g = subst (λ b. Gives trees_of result (if b then template_passed r ignore 1 ds >>= built steps else plain_trees ds)) (sym h) g
 
 -- the documents of a text have a text that reads back
-pub written_documents : (r : Reader) → IsReader r → (steps : ℕ) (bytes : List ℕ) (result : Result (List Tree) Stop) → GivesRead trees_of result (λ r. text_meaning r steps bytes)
+pub written_documents : (r : CodeReader) → IsCodeReader r → (ignore : Bool) (steps : ℕ) (bytes : List ℕ) (result : Result (List Tree) Stop) → GivesCode trees_of result (λ r. text_meaning r ignore steps bytes)
     → IfOk result (λ ts. AreTrees (trees_of ts)) × IfOk result (λ ts. Writable (trees_of ts))
-written_documents r reads steps bytes (Ok ts) means = text_written r reads steps bytes (trees_of ts) (means r reads)
-written_documents r reads steps bytes (Err stop) means = (tt, tt)
+written_documents r reads ignore steps bytes (Ok ts) means = text_written r ignore steps bytes (trees_of ts) (means r reads)
+written_documents r reads ignore steps bytes (Err stop) means = (tt, tt)

@@ -1,5 +1,5 @@
 -- What each ending of the top call leaves, and what it comes from.
-use Rattle.std.specs.Prelude.{◌≡◌, ◌⊎◌, ℕ, List, Ok}
+use Rattle.std.specs.Prelude.{◌≡◌, ◌⊎◌, ℕ, Bool, List, Ok}
 use Rattle.ytt_base.specs.Trees.{Trees}
 use Rattle.ytt_outside.specs.Counts.{Rose}
 use Rattle.ytt_outside.specs.Sink.{Grows, GrowsByFront}
@@ -41,7 +41,7 @@ pub record IsDone (words : List (List ℕ)) (files : Files) (out err : Sink) : T
   pub found : AreMeant words files documents
   pub written : HasWritten out (Text documents)
   pub reads_back : ReadsAlone (Text documents) documents
-  pub renders_itself : (steps : ℕ) → TextMeans steps (Text documents) (Ok documents)
+  pub renders_itself : (ignore_unknown : Bool) (steps : ℕ) → TextMeans ignore_unknown steps (Text documents) (Ok documents)
   pub silent : IsUntouched err
 
 -- A line is due on `err` by this cause, and it has the line.

@@ -4,6 +4,7 @@
 mod answer;
 mod render;
 mod run;
+mod template;
 mod words;
 
 pub use run::{Status, ytt_main};

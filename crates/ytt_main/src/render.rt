@@ -4,8 +4,8 @@ ghost use Rattle.ytt_base.specs.Outcomes.{and_then};
 ghost use Rattle.ytt_base.specs.Trees.{AreTrees, Writable};
 ghost use Rattle.ytt_base.specs.View.{trees_of};
 ghost use Rattle.yaml_noted.specs.View.{documents_of};
-ghost use Rattle.star_grammar.specs.EachReader.{GivesRead};
-ghost use Rattle.template_spec.specs.Placing.{placed};
+ghost use Rattle.star_grammar.specs.CodeReaders.{GivesCode};
+ghost use Rattle.template_spec.specs.Passes.{template_passed};
 ghost use Rattle.ytt_spec.specs.Meaning.{Means, built, documents_meaning, file_names, gives_documents, has_ending, last_part, path_fault, text_meaning};
 ghost use Rattle.ytt_main.specs.Asks.{command_of};
 ghost use Rattle.ytt_main.specs.Rendering.{HasCause, IsNoFolder, IsReadFailure, Refuses, Renders};
@@ -13,10 +13,10 @@ ghost use Rattle.ytt_main.specs.Rendering.{HasCause, IsNoFolder, IsReadFailure, 
 use crate::words::Request;
 use sqlite_items::Items;
 use star_eval::run_flat;
-use star_read::a_reader_exists;
+use notes_read::a_code_reader_exists;
 use std::alloc::Global;
 use template_compile::compile_flat;
-use template_tree::place_flat;
+use crate::template::pass_template;
 use yaml_read::{NotedDocs, has_code, plain_trees, read_noted};
 use ytt_base::fault::{Fault, FaultKind, Stop};
 use ytt_base::text::{Memory, Names, Text};
@@ -97,10 +97,15 @@ fn read_failed(alloc: Global, path: &str) -> RenderStop
 }
 
 /// The documents that a template builds with so many steps, or its first fault.
-fn build(alloc: Global, documents: NotedDocs, steps: u64) -> Result<Trees, Stop>
-    ensures { GivesRead trees_of result (λ r. and_then (built steps) (placed r 1 (documents_of documents))) }
+fn build(
+    alloc: Global,
+    documents: NotedDocs,
+    ignore_unknown: bool,
+    steps: u64,
+) -> Result<Trees, Stop>
+    ensures { GivesCode trees_of result (λ r. and_then (built steps) (template_passed r ignore_unknown 1 (documents_of documents))) }
 {
-    let template = place_flat(alloc, documents, 1)?;
+    let template = pass_template(alloc, documents, ignore_unknown)?;
     let program = compile_flat(alloc, &template)?;
     let ran = run_flat(alloc, &program, steps)?;
     Ok(ran.documents)
@@ -108,33 +113,48 @@ fn build(alloc: Global, documents: NotedDocs, steps: u64) -> Result<Trees, Stop>
 
 /// What noted documents mean: with code they are a template, which is built, and without they are
 /// documents.
-fn resolve(alloc: Global, documents: NotedDocs, steps: u64) -> Result<Trees, Stop>
-    ensures { GivesRead trees_of result (λ r. documents_meaning r steps (documents_of documents)) }
+fn resolve(
+    alloc: Global,
+    documents: NotedDocs,
+    ignore_unknown: bool,
+    steps: u64,
+) -> Result<Trees, Stop>
+    ensures { GivesCode trees_of result (λ r. documents_meaning r ignore_unknown steps (documents_of documents)) }
 {
     if has_code(&documents) {
-        return build(alloc, documents, steps);
+        return build(alloc, documents, ignore_unknown, steps);
     }
     plain_trees(alloc, &documents)
 }
 
 /// The documents of a text, or its first fault.
-fn read_text(alloc: Global, bytes: &[u8], steps: u64) -> Result<Trees, Stop>
+fn read_text(
+    alloc: Global,
+    bytes: &[u8],
+    ignore_unknown: bool,
+    steps: u64,
+) -> Result<Trees, Stop>
     requires { length bytes.now < 2 ^ 32 }
-    ensures { GivesRead trees_of result (λ r. text_meaning r steps bytes.now) }
+    ensures { GivesCode trees_of result (λ r. text_meaning r ignore_unknown steps bytes.now) }
 {
     let documents = read_noted(alloc, bytes, 1)?;
-    resolve(alloc, documents, steps)
+    resolve(alloc, documents, ignore_unknown, steps)
 }
 
 /// The documents of a text, such as can be written, or its first fault.
-fn read_documents(alloc: Global, bytes: &[u8], steps: u64) -> Result<Trees, Stop>
+fn read_documents(
+    alloc: Global,
+    bytes: &[u8],
+    ignore_unknown: bool,
+    steps: u64,
+) -> Result<Trees, Stop>
     requires { length bytes.now < 2 ^ 32 }
-    ensures documents { GivesRead trees_of result (λ r. text_meaning r steps bytes.now) }
+    ensures documents { GivesCode trees_of result (λ r. text_meaning r ignore_unknown steps bytes.now) }
     ensures held { IfOk result (λ trees. AreTrees (trees_of trees)) }
     ensures writable { IfOk result (λ trees. Writable (trees_of trees)) }
 {
-    a_reader_exists();
-    read_text(alloc, bytes, steps)
+    a_code_reader_exists();
+    read_text(alloc, bytes, ignore_unknown, steps)
 }
 
 /// The documents of the one file that is asked for, with its budget of steps, or the first fault.
@@ -188,7 +208,12 @@ fn read_file<F: Files>(
         Err(FilesStop::Memory) => Err(RenderStop::Memory),
         Ok(Got::Missing) => Err(path_fault(alloc, request, FaultKind::FileMissing, path)),
         Ok(Got::TooLarge) => Err(path_fault(alloc, request, FaultKind::FileTooLarge, path)),
-        Ok(Got::Bytes(bytes)) => match read_documents(alloc, bytes.as_slice(), request.steps) {
+        Ok(Got::Bytes(bytes)) => match read_documents(
+            alloc,
+            bytes.as_slice(),
+            request.ignore_unknown,
+            request.steps,
+        ) {
             Ok(trees) => Ok(trees),
             Err(Stop::Fault(fault)) => Err(refused(alloc, request, fault)),
             Err(Stop::Memory) => Err(RenderStop::Memory),

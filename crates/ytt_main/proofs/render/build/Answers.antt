@@ -14,11 +14,11 @@ returns-in_err-ran c = λ r reads.
     let t = template_of c.in_ok-template.template in
     let p = err_from_is_err_and c.from_residual-in_err-ran.result c.from_residual-in_err-ran.ensures.1 in
     let s = c.in_err-ran.field-0.0 in
-    let g = gives_built c.args.steps t (program_of c.in_ok-program.program) (Err s) c.in_ok-template.ensures.placed c.in_ok-program.ensures.code c.in_err-ran.ensures.meaning in
+    let g = gives_built c.args.steps t (program_of c.in_ok-program.program) (Err s) c.in_ok-template.ensures.stands c.in_ok-program.ensures.code c.in_err-ran.ensures.meaning in
     rw (p.1, p.2) (gives_next trees_of (built c.args.steps) (Err s) t _ (c.in_ok-template.ensures.template r reads) (gives_alike (λ (ran : FlatResult). trees_of ran.documents) trees_of s _ g))
 
 pub returns : goal.returns
 returns c = λ r reads.
     let t = template_of c.in_ok-template.template in
-    let g = gives_built c.args.steps t (program_of c.in_ok-program.program) (Ok c.in_ok-ran.ran) c.in_ok-template.ensures.placed c.in_ok-program.ensures.code c.in_ok-ran.ensures.meaning in
+    let g = gives_built c.args.steps t (program_of c.in_ok-program.program) (Ok c.in_ok-ran.ran) c.in_ok-template.ensures.stands c.in_ok-program.ensures.code c.in_ok-ran.ensures.meaning in
     gives_next trees_of (built c.args.steps) (Ok c.in_ok-ran.ran.documents) t _ (c.in_ok-template.ensures.template r reads) g
