@@ -1,5 +1,5 @@
 -- How many items of a collection have begun: the item that began last, and those it is in, are the last of their collections.
-use Rattle.std.proofs.Common.{◌≡◌, ℕ, zero, suc, ◌<◌, ◌≤◌, Bool, true, false, List, [], ◌∷◌, ◌++◌, length, bytes_eq, ◌⊎◌, inl, inr, refl, sym, ◌∙◌, ap, arith, if◌then◌else◌}
+use Rattle.std.proofs.Common.{◌≡◌, ℕ, zero, suc, ◌<◌, ◌≤◌, Bool, true, false, List, [], ◌∷◌, ◌++◌, length, bytes_eq, ◌⊎◌, inl, inr, refl, sym, ◌∙◌, ap, subst, arith, if◌then◌else◌}
 use Rattle.star_spec.specs.Program.{ItemKind}
 use Rattle.template_spec.specs.Events.{Path, Event, begins}
 use Rattle.template_spec.specs.OpenBlocks.{collection_of, so_far}
@@ -84,3 +84,21 @@ coming_other p c k l past g e =
     let d : g.1 ≡ c = cc f in
     let r : so_far g.1 (begins (so_far c past ∷ c) k l ∷ past) ≡ so_far c (begins (so_far c past ∷ c) k l ∷ past) = ap (λ (x : Path). so_far x (begins (so_far c past ∷ c) k l ∷ past)) d in
     omega (arith, r, m, g.3, so_far-itself (so_far c past) c k l past)
+
+-- ---- the same of the next item of a collection
+
+pub latest_item : (q p : Path) (k : ItemKind) (l : ℕ) (past : List Event) → p ≡ so_far (collection_of p) past ∷ collection_of p →
+    Latest q past → Inside q (collection_of p) → Latest p (begins p k l ∷ past)
+latest_item q p k l past e h i = subst (λ (x : Path). Latest x (begins x k l ∷ past)) (sym e) (latest_begins q (collection_of p) k l past h i)
+
+pub gone_item : (q c p : Path) (k : ItemKind) (l : ℕ) (past : List Event) → p ≡ so_far (collection_of p) past ∷ collection_of p →
+    Latest q past → Inside q c → Inside q (collection_of p) → length (collection_of p) < length c → Gone (begins p k l ∷ past) c
+gone_item q c p k l past e h i j s = subst (λ (x : Path). Gone (begins x k l ∷ past) c) (sym e) (gone_behind q c (collection_of p) k l past h i j s)
+
+pub coming_item : (p : Path) (past : List Event) → p ≡ so_far (collection_of p) past ∷ collection_of p → Coming past p
+coming_item p past e = subst (λ (x : Path). Coming past x) (sym e) (coming_next (collection_of p) past)
+
+pub coming_apart : (p q : Path) (k : ItemKind) (l : ℕ) (past : List Event) → q ≡ so_far (collection_of q) past ∷ collection_of q →
+    Coming (begins q k l ∷ past) p → p ≡ q → ⊥
+coming_apart p q k l past e g f =
+    coming_other p (collection_of q) k l past (subst (λ (x : Path). Coming (begins x k l ∷ past) p) e g) (f ∙ e)
