@@ -6,6 +6,7 @@ use Rattle.template_spec.specs.Comments.{Said}
 use Rattle.template_spec.specs.Events.{Path, Event, begins}
 use Rattle.template_spec.specs.OpenBlocks.{collection_of, so_far}
 use Rattle.template_spec.specs.Nesting.{a_node, a_mark}
+use Rattle.template_spec.specs.Template.{Item}
 use Rattle.template_pass.specs.Flat.{Shape}
 use Rattle.template_pass.specs.Rows.{level_of}
 use Rattle.template_pass.specs.Building.{Before, Put, an_item, put_beside, put_mark, Slot, fresh, with_part, with_beside, item_with}
@@ -31,6 +32,16 @@ slot_of file c (item_put p k l key w ns ∷ qs) =
     changed_if (bytes_eq (collection_of p) c) (with_part (a_node (item_with file k l key w ns (slot_of file p qs)))) (slot_of file c qs)
 slot_of file c (beside_put p l s ∷ qs) = changed_if (bytes_eq p c) (with_beside file l s) (slot_of file c qs)
 slot_of file c (mark_put d l s ∷ qs) = changed_if (bytes_eq d c) (with_part (a_mark l s)) (slot_of file c qs)
+
+abbrev pub node_if : Bool → Item → List Item → List Item
+node_if b x xs = if b then x ∷ xs else xs
+
+-- the items of a collection
+abbrev pub nodes_of : (file : ℕ) → Path → List PathPut → List Item
+nodes_of file c [] = []
+nodes_of file c (item_put p k l key w ns ∷ qs) = node_if (bytes_eq (collection_of p) c) (item_with file k l key w ns (slot_of file p qs)) (nodes_of file c qs)
+nodes_of file c (beside_put p l s ∷ qs) = nodes_of file c qs
+nodes_of file c (mark_put d l s ∷ qs) = nodes_of file c qs
 
 -- each item is the next one of a collection that the last item is in, and what else is put belongs to one that it is in
 abbrev pub Ordered : (last : Path) → (past : List Event) → List PathPut → Type 0
