@@ -6,7 +6,7 @@ use Rattle.template_spec.specs.OpenBlocks.{collection_of, so_far}
 use Rattle.template_pass.proofs.Inside.{Inside, inside_self, inside_more, inside_then, inside_split, inside_length, inside_same, inside_between, inside_item, path_same, path_other}
 
 -- an item that the last one is in, or is, is the last of its collection
-pub Latest : (last : Path) → (past : List Event) → Type 0
+unfoldable pub Latest : (last : Path) → (past : List Event) → Type 0
 Latest q past = (n : ℕ) (c : Path) → Inside q (n ∷ c) → so_far c past ≡ suc n
 
 -- a collection in an item that is not the last of its own
@@ -14,7 +14,7 @@ pub Gone : (past : List Event) → Path → Type 0
 Gone past c = (m : ℕ) × (d : Path) × Inside c (m ∷ d) × (suc m < so_far d past)
 
 -- an item that has not begun
-pub Coming : (past : List Event) → Path → Type 0
+unfoldable pub Coming : (past : List Event) → Path → Type 0
 Coming past p = (n : ℕ) × (c : Path) × (p ≡ n ∷ c) × (so_far c past ≤ n)
 
 pub so_far-itself : (n : ℕ) (c : Path) (k : ItemKind) (l : ℕ) (past : List Event) → so_far c (begins (n ∷ c) k l ∷ past) ≡ suc (so_far c past)

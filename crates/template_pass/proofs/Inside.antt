@@ -100,3 +100,10 @@ path_cases p q = by (bytes_eq p q) refl
     by : (b : Bool) → bytes_eq p q ≡ b → (p ≡ q) ⊎ (p ≡ q → ⊥)
     by true e = inl (same_path p q e)
     by false e = inr (λ s. let t : bytes_eq p q ≡ true = path_same p q s in cc (e, t))
+
+pub same_either_way : (p q : Path) → bytes_eq p q ≡ bytes_eq q p
+same_either_way p q = by (path_cases p q)
+  where
+    by : (p ≡ q) ⊎ (p ≡ q → ⊥) → bytes_eq p q ≡ bytes_eq q p
+    by (inl e) = path_same p q e ∙ sym (path_same q p (sym e))
+    by (inr h) = path_other p q h ∙ sym (path_other q p (λ e. h (sym e)))

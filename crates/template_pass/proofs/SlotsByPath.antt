@@ -16,7 +16,7 @@ use Rattle.template_pass.proofs.Slots.{slot_at-none, slot_at-changed, slot_at-ot
 
 -- ---- nothing is put into a collection that is over
 
-unchanged : (d c : Path) (f : Slot → Slot) (s : Slot) → (d ≡ c → ⊥) → changed_if (bytes_eq d c) f s ≡ s
+pub unchanged : (d c : Path) (f : Slot → Slot) (s : Slot) → (d ≡ c → ⊥) → changed_if (bytes_eq d c) f s ≡ s
 unchanged d c f s h = ap (λ (b : Bool). changed_if b f s) (path_other d c h)
 
 outside_gone : (q d c : Path) (past : List Event) → Latest q past → Gone past c → Inside q d → d ≡ c → ⊥
