@@ -5,4 +5,5 @@ pub mod Inside
 pub mod Settled
 pub mod SlotsByPath
 pub mod Slots
+pub mod Trees
 pub mod Woven
