@@ -1,0 +1,2 @@
+pub mod OrderlyEvents
+pub mod Paths
