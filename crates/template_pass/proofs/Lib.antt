@@ -1,2 +1,4 @@
 pub mod OrderlyEvents
 pub mod Paths
+pub mod Standing
+pub mod Unclosed
