@@ -10,7 +10,7 @@ use Rattle.template_spec.specs.Template.{Item}
 use Rattle.template_pass.specs.Flat.{Shape}
 use Rattle.template_pass.specs.Rows.{level_of}
 use Rattle.template_pass.specs.Building.{Before, Put, an_item, put_beside, put_mark, Slot, fresh, with_part, with_beside, item_with}
-use Rattle.template_pass.proofs.Inside.{Inside}
+use Rattle.template_pass.proofs.Paths.{In}
 
 pub data PathPut : Type 0 where
   item_put : Path → ItemKind → (line : ℕ) → (key : Option Scalar) → Shape → List Before → PathPut
@@ -47,6 +47,6 @@ nodes_of file c (mark_put d l s ∷ qs) = nodes_of file c qs
 abbrev pub Ordered : (last : Path) → (past : List Event) → List PathPut → Type 0
 Ordered q past [] = Unit {0}
 Ordered q past (item_put p k l key w ns ∷ qs) =
-    Inside q (collection_of p) × (p ≡ so_far (collection_of p) past ∷ collection_of p) × Ordered p (begins p k l ∷ past) qs
-Ordered q past (beside_put p l s ∷ qs) = Inside q p × (suc (level_of p) ≡ length p) × Ordered q past qs
-Ordered q past (mark_put c l s ∷ qs) = Inside q c × Ordered q past qs
+    In q (collection_of p) × (p ≡ so_far (collection_of p) past ∷ collection_of p) × Ordered p (begins p k l ∷ past) qs
+Ordered q past (beside_put p l s ∷ qs) = In q p × (suc (level_of p) ≡ length p) × Ordered q past qs
+Ordered q past (mark_put c l s ∷ qs) = In q c × Ordered q past qs

@@ -14,7 +14,7 @@ use Rattle.template_pass.specs.Orderly.{Orderly}
 use Rattle.template_pass.specs.Rows as row
 use Rattle.template_pass.specs.Rows.{Row, level_of, bare_row, bare_event, Start, started}
 use Rattle.template_pass.proofs.ByPath.{PathPut, item_put, beside_put, mark_put, by_level, Ordered}
-use Rattle.template_pass.proofs.Inside.{Inside, inside_of_lies}
+use Rattle.template_pass.proofs.Paths.{In, lain}
 
 -- ---- rows
 
@@ -98,7 +98,7 @@ path_puts past ns (says l s ∷ es) ss = marked (place_of past es s) l s (path_p
 -- a mark belongs to a collection of this level, which the last item is in
 abbrev pub Stands : (last : Path) → Option Path → (level : Option ℕ) → Type 0
 Stands q None None = Unit {0}
-Stands q (Some c) (Some d) = Inside q c × (d ≡ length c)
+Stands q (Some c) (Some d) = In q c × (d ≡ length c)
 Stands q None (Some d) = ⊥
 Stands q (Some c) None = ⊥
 
@@ -152,7 +152,7 @@ puts_by_path q past bs n ns (says l s ∷ es) ss h =
 abbrev pub BesideStands : (last : Path) → List Event → Type 0
 BesideStands q [] = Unit {0}
 BesideStands q (begins p k l ∷ es) = BesideStands p es
-BesideStands q (beside p k b l s ∷ es) = Inside q p × (suc (level_of p) ≡ length p) × BesideStands q es
+BesideStands q (beside p k b l s ∷ es) = In q p × (suc (level_of p) ≡ length p) × BesideStands q es
 BesideStands q (says l s ∷ es) = BesideStands q es
 
 marked_ordered : (q : Path) (past : List Event) (o : Option Path) (d : Option ℕ) (l : ℕ) (s : Said) (qs : List PathPut) → Stands q o d → Ordered q past qs → Ordered q past (marked o l s qs)
@@ -168,7 +168,7 @@ pub puts_ordered : (q : Path) (past seen : List Event) (bs : List Open) (n : ℕ
     MarksStand q past bs n es (rows_of es ss) → BesideStands q es → Orderly q past es → Ordered q seen (path_puts past ns es ss)
 puts_ordered q past seen bs n ns [] ss a m b o = tt
 puts_ordered q past seen bs n ns (begins p k l ∷ es) ss a m b o =
-    (inside_of_lies q (collection_of p) o.0, o.1 ∙ ap (λ (x : ℕ). x ∷ collection_of p) (a (collection_of p)),
+    (lain q (collection_of p) o.0, o.1 ∙ ap (λ (x : ℕ). x ∷ collection_of p) (a (collection_of p)),
     puts_ordered p (begins p k l ∷ past) (begins p k l ∷ seen) (behind bs (next_level (rows_of es (drop 1 ss))) n (row.begins (level_of p) k l (first_start ss).key (first_start ss).written)) (suc n) []
     es (drop 1 ss) (λ c. ap (λ (x : ℕ). if bytes_eq (collection_of p) c then suc x else x) (a c)) m b o.2)
 puts_ordered q past seen bs n ns (beside p k v l s ∷ es) ss a m b o = (b.0, b.1, puts_ordered q (beside p k v l s ∷ past) seen bs (suc n) ns es ss a m b.2 o)

@@ -2,8 +2,13 @@ pub mod ByPath
 pub mod Counted
 pub mod EventPuts
 pub mod Inside
+pub mod OrderlyEvents
+pub mod Paths
 pub mod Settled
 pub mod SlotsByPath
 pub mod Slots
+pub mod Standing
+pub mod TextItems
 pub mod Trees
+pub mod Unclosed
 pub mod Woven

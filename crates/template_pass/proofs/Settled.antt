@@ -16,9 +16,10 @@ use Rattle.template_pass.specs.Orderly.{Orderly}
 use Rattle.template_pass.specs.Rows as row
 use Rattle.template_pass.specs.Rows.{Start, level_of}
 use Rattle.template_pass.proofs.ByPath.{PathPut, item_put, changed_if, node_if, nodes_of, slot_of}
-use Rattle.template_pass.proofs.Counted.{Latest, Coming, coming_outside, coming_before, coming_item, coming_apart, latest_item}
+use Rattle.template_pass.proofs.Counted.{Latest, Ahead, ahead_outside, ahead_before, ahead_item, ahead_apart, latest_item}
 use Rattle.template_pass.proofs.EventPuts.{first_start, marked, path_puts, place_of, level_place, rows_of, Stands, MarksStand, BesideStands}
-use Rattle.template_pass.proofs.Inside.{Inside, inside_at, inside_of_lies, same_path, path_same, path_other, same_either_way}
+use Rattle.template_pass.proofs.Inside.{inside_at, same_path, path_same, path_other, same_either_way}
+use Rattle.template_pass.proofs.Paths.{In, lain}
 use Rattle.template_pass.proofs.SlotsByPath.{unchanged}
 
 -- ---- what is said beside an item
@@ -142,29 +143,29 @@ nodes_in file text all c (b ∷ bs) = node_if (bytes_eq (collection_of b.path) c
 
 -- what concerns items that have not begun is the same from here on as in the whole text
 abbrev EventsAhead : (text past since es : List Event) → Type 0
-EventsAhead text past since es = (p : Path) → Coming past p → events_at p text text ≡ events_at p since es
+EventsAhead text past since es = (p : Path) → Ahead past p → events_at p text text ≡ events_at p since es
 
 abbrev SlotsAhead : (file : ℕ) → (all : List PathPut) → (past : List Event) → List PathPut → Type 0
-SlotsAhead file all past qs = (p : Path) → Coming past p → slot_of file p all ≡ slot_of file p qs
+SlotsAhead file all past qs = (p : Path) → Ahead past p → slot_of file p all ≡ slot_of file p qs
 
 abbrev NotesWait : (file : ℕ) → (since : List Event) → List Before → List Event → Type 0
 NotesWait file since ns es = (more : Notes) → notes_from file more since ≡ notes_then file ns (notes_from file more es)
 
-apart_from : (q c p : Path) (past : List Event) → Latest q past → Coming past p → Inside q c → c ≡ p → ⊥
-apart_from q c p past h g i e = coming_outside q p past h g (inside_at q c p (sym e) i)
+apart_from : (q c p : Path) (past : List Event) → Latest q past → Ahead past p → In q c → c ≡ p → ⊥
+apart_from q c p past h g i e = ahead_outside q p past h g (inside_at q c p (sym e) i)
 
 events_behind : (text past since es : List Event) (p : Path) (k : ItemKind) (l : ℕ) → p ≡ so_far (collection_of p) past ∷ collection_of p →
     EventsAhead text past since (begins p k l ∷ es) → EventsAhead text (begins p k l ∷ past) es es
 events_behind text past since es p k l e a x g =
-    a x (coming_before x p k l past g)
-    ∙ ap (λ (b : Bool). if b then since else events_at x es es) (path_other x p (coming_apart x p k l past e g))
+    a x (ahead_before x p k l past g)
+    ∙ ap (λ (b : Bool). if b then since else events_at x es es) (path_other x p (ahead_apart x p k l past e g))
 
 item_slots_behind : (file : ℕ) (q p : Path) (past : List Event) (k : ItemKind) (l : ℕ) (key : Option Scalar) (w : Shape) (ns : List Before) (all qs : List PathPut) →
-    Latest q past → Inside q (collection_of p) → SlotsAhead file all past (item_put p k l key w ns ∷ qs) → SlotsAhead file all (begins p k l ∷ past) qs
+    Latest q past → In q (collection_of p) → SlotsAhead file all past (item_put p k l key w ns ∷ qs) → SlotsAhead file all (begins p k l ∷ past) qs
 item_slots_behind file q p past k l key w ns all qs h i a x g =
-    a x (coming_before x p k l past g)
+    a x (ahead_before x p k l past g)
     ∙ unchanged (collection_of p) x (with_part (a_node (item_with file k l key w ns (slot_of file p qs)))) (slot_of file x qs)
-    (apart_from q (collection_of p) x past h (coming_before x p k l past g) i)
+    (apart_from q (collection_of p) x past h (ahead_before x p k l past g) i)
 
 mark_slots_behind : (file : ℕ) (q : Path) (past : List Event) (o : Option Path) (d : Option ℕ) (l : ℕ) (s : Said) (all qs : List PathPut) →
     Latest q past → Stands q o d → SlotsAhead file all past (marked o l s qs) → SlotsAhead file all past qs
@@ -201,12 +202,12 @@ settled_item file past since es p k l ns ss text starts e a b w =
 
     same : slot_of file p all ≡ slot_of file p below
     same =
-        b p (coming_item p past e)
+        b p (ahead_item p past e)
         ∙ unchanged (collection_of p) p (with_part (a_node (item_with file k l (first_start ss).key (first_start ss).written ns (slot_of file p below)))) (slot_of file p below)
         (own_collection p (so_far (collection_of p) past) e)
 
     since_here : events_at p text text ≡ since
-    since_here = a p (coming_item p past e) ∙ ap (λ (b : Bool). if b then since else events_at p es es) (path_same p p refl)
+    since_here = a p (ahead_item p past e) ∙ ap (λ (b : Bool). if b then since else events_at p es es) (path_same p p refl)
 
     notes : notes_then file ns (slot_of file p all).notes ≡ notes_from file (note_beside file p text) (events_at p text text)
     notes =
@@ -218,10 +219,10 @@ pub settled : (file : ℕ) (c q : Path) (past since : List Event) (bs : List Ope
     Latest q past → MarksStand q past bs n es (rows_of es ss) → BesideStands q es → Orderly q past es →
     EventsAhead text past since es → SlotsAhead file (path_puts [] [] text starts) past (path_puts past ns es ss) → NotesWait file since ns es →
     nodes_of file c (path_puts past ns es ss) ≡ nodes_in file text (path_puts [] [] text starts) c (begun_in es ss)
-unfolding Latest Coming
+unfolding Latest Ahead
 settled file c q past since bs n ns [] ss text starts h m v o a b w = refl
 settled file c q past since bs n ns (begins p k l ∷ es) ss text starts h m v o a b w =
-    let i : Inside q (collection_of p) = inside_of_lies q (collection_of p) o.0 in
+    let i : In q (collection_of p) = lain q (collection_of p) o.0 in
     ap₂ (λ (x : Item) (xs : List Item). node_if (bytes_eq (collection_of p) c) x xs)
     (settled_item file past since es p k l ns ss text starts o.1 a b w)
     (settled file c p (begins p k l ∷ past) es (behind bs (next_level (rows_of es (drop 1 ss))) n (row.begins (level_of p) k l (first_start ss).key (first_start ss).written)) (suc n) [] es (drop 1 ss) text starts

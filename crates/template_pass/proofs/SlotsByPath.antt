@@ -11,7 +11,8 @@ use Rattle.template_pass.specs.Flat.{Shape}
 use Rattle.template_pass.specs.Building.{Before, Slot, fresh, slot_at, changed, with_part, with_beside, item_with, built}
 use Rattle.template_pass.proofs.ByPath.{PathPut, item_put, beside_put, mark_put, by_level, changed_if, slot_of, Ordered}
 use Rattle.template_pass.proofs.Counted.{Latest, Gone, gone_outside, gone_still, latest_item, gone_item}
-use Rattle.template_pass.proofs.Inside.{Inside, inside_self, inside_more, inside_then, inside_at, inside_between, inside_length, inside_same, path_same, path_other, path_cases}
+use Rattle.template_pass.proofs.Inside.{inside_more, inside_at, path_same, path_other, path_cases}
+use Rattle.template_pass.proofs.Paths.{In, in_itself, in_through, in_by_length, in_length, same_by_length}
 use Rattle.template_pass.proofs.Slots.{slot_at-none, slot_at-changed, slot_at-other, slot_at-kept, slot_at-left}
 
 -- ---- nothing is put into a collection that is over
@@ -19,7 +20,7 @@ use Rattle.template_pass.proofs.Slots.{slot_at-none, slot_at-changed, slot_at-ot
 pub unchanged : (d c : Path) (f : Slot → Slot) (s : Slot) → (d ≡ c → ⊥) → changed_if (bytes_eq d c) f s ≡ s
 unchanged d c f s h = ap (λ (b : Bool). changed_if b f s) (path_other d c h)
 
-outside_gone : (q d c : Path) (past : List Event) → Latest q past → Gone past c → Inside q d → d ≡ c → ⊥
+outside_gone : (q d c : Path) (past : List Event) → Latest q past → Gone past c → In q d → d ≡ c → ⊥
 outside_gone q d c past h g i e = gone_outside q c past h g (inside_at q d c (sym e) i)
 
 pub slot_gone : (file : ℕ) (q : Path) (past : List Event) (qs : List PathPut) → Ordered q past qs → Latest q past → (c : Path) → Gone past c → slot_of file c qs ≡ fresh
@@ -35,10 +36,10 @@ slot_gone file q past (mark_put d l s ∷ qs) o h c g =
 -- ---- one change at a level that the last item is in
 
 abbrev pub AsByPath : (file : ℕ) → (last : Path) → List PathPut → List Slot → Type 0
-AsByPath file q qs ss = (c : Path) → Inside q c → slot_at (length c) ss ≡ slot_of file c qs
+AsByPath file q qs ss = (c : Path) → In q c → slot_at (length c) ss ≡ slot_of file c qs
 
-one_changed : (file : ℕ) (q d : Path) (qs : List PathPut) (ss : List Slot) (f : Slot → Slot) → AsByPath file q qs ss → Inside q d →
-    (c : Path) → Inside q c → slot_at (length c) (changed (length d) f ss) ≡ changed_if (bytes_eq d c) f (slot_of file c qs)
+one_changed : (file : ℕ) (q d : Path) (qs : List PathPut) (ss : List Slot) (f : Slot → Slot) → AsByPath file q qs ss → In q d →
+    (c : Path) → In q c → slot_at (length c) (changed (length d) f ss) ≡ changed_if (bytes_eq d c) f (slot_of file c qs)
 one_changed file q d qs ss f up i c j = by (path_cases d c)
   where
     by : (d ≡ c) ⊎ (d ≡ c → ⊥) → slot_at (length c) (changed (length d) f ss) ≡ changed_if (bytes_eq d c) f (slot_of file c qs)
@@ -46,28 +47,28 @@ one_changed file q d qs ss f up i c j = by (path_cases d c)
         ap (λ (x : Path). slot_at (length c) (changed (length x) f ss)) e ∙ slot_at-changed (length c) f ss ∙ ap f (up c j)
         ∙ ap (λ (b : Bool). changed_if b f (slot_of file c qs)) (sym (path_same d c e))
     by (inr h) =
-        slot_at-other (length d) (length c) f ss (λ e. h (inside_same q d c i j e)) ∙ up c j ∙ sym (unchanged d c f (slot_of file c qs) h)
+        slot_at-other (length d) (length c) f ss (λ e. h (same_by_length q d c i j e)) ∙ up c j ∙ sym (unchanged d c f (slot_of file c qs) h)
 
 -- an item begins
 item_changed : (file : ℕ) (q p : Path) (past : List Event) (k : ItemKind) (l : ℕ) (f : Slot → Slot) (qs : List PathPut) (ss : List Slot) →
-    p ≡ so_far (collection_of p) past ∷ collection_of p → Latest q past → Inside q (collection_of p) → Ordered p (begins p k l ∷ past) qs → AsByPath file p qs ss →
-    (c : Path) → Inside q c → slot_at (length c) (changed (length (collection_of p)) f (take (suc (length (collection_of p))) ss)) ≡ changed_if (bytes_eq (collection_of p) c) f (slot_of file c qs)
+    p ≡ so_far (collection_of p) past ∷ collection_of p → Latest q past → In q (collection_of p) → Ordered p (begins p k l ∷ past) qs → AsByPath file p qs ss →
+    (c : Path) → In q c → slot_at (length c) (changed (length (collection_of p)) f (take (suc (length (collection_of p))) ss)) ≡ changed_if (bytes_eq (collection_of p) c) f (slot_of file c qs)
 item_changed file q p past k l f qs ss e h i o up c j = by (path_cases d c)
   where
     d : Path
     d = collection_of p
 
-    below : Inside p d
-    below = subst (λ (x : Path). Inside x d) (sym e) (inside_more (so_far d past) d d (inside_self d))
+    below : In p d
+    below = subst (λ (x : Path). In x d) (sym e) (inside_more (so_far d past) d d (in_itself d))
 
-    kept : (x : Path) → Inside q x → length x ≤ length d → slot_at (length x) (take (suc (length d)) ss) ≡ slot_of file x qs
-    kept x y s = slot_at-kept (suc (length d)) (length x) ss (omega (arith, s)) ∙ up x (inside_then p d x below (inside_between q d x i y s))
+    kept : (x : Path) → In q x → length x ≤ length d → slot_at (length x) (take (suc (length d)) ss) ≡ slot_of file x qs
+    kept x y s = slot_at-kept (suc (length d)) (length x) ss (omega (arith, s)) ∙ up x (in_through p d x below (in_by_length q d x i y s))
 
     apart : (d ≡ c → ⊥) → (length d < length c) ⊎ (length c ≤ length d) → slot_at (length c) (changed (length d) f (take (suc (length d)) ss)) ≡ slot_of file c qs
     apart n (inl s) =
         slot_at-other (length d) (length c) f (take (suc (length d)) ss) (λ z. omega (arith, s, z)) ∙ slot_at-left (suc (length d)) (length c) ss s
         ∙ sym (slot_gone file p (begins p k l ∷ past) qs o (latest_item q p k l past e h i) c (gone_item q c p k l past e h j i s))
-    apart n (inr s) = slot_at-other (length d) (length c) f (take (suc (length d)) ss) (λ z. n (inside_same q d c i j z)) ∙ kept c j s
+    apart n (inr s) = slot_at-other (length d) (length c) f (take (suc (length d)) ss) (λ z. n (same_by_length q d c i j z)) ∙ kept c j s
 
     by : (d ≡ c) ⊎ (d ≡ c → ⊥) → slot_at (length c) (changed (length d) f (take (suc (length d)) ss)) ≡ changed_if (bytes_eq d c) f (slot_of file c qs)
     by (inl z) =
@@ -86,7 +87,7 @@ slots_by_path file q past [] o h c i = slot_at-none (length c)
 slots_by_path file q past (item_put p k l key w ns ∷ qs) o h c i =
     let ss : List Slot = built file (each by_level qs) in
     let up : AsByPath file p qs ss = slots_by_path file p (begins p k l ∷ past) qs o.2 (latest_item q p k l past o.1 h o.0) in
-    let own : slot_at (suc (length (collection_of p))) ss ≡ slot_of file p qs = ap (λ (n : ℕ). slot_at n ss) (item_level p (so_far (collection_of p) past) o.1) ∙ up p (inside_self p) in
+    let own : slot_at (suc (length (collection_of p))) ss ≡ slot_of file p qs = ap (λ (n : ℕ). slot_at n ss) (item_level p (so_far (collection_of p) past) o.1) ∙ up p (in_itself p) in
     ap (λ (s : Slot). slot_at (length c) (changed (length (collection_of p)) (with_part (a_node (item_with file k l key w ns s))) (take (suc (length (collection_of p))) ss))) own
     ∙ item_changed file q p past k l (with_part (a_node (item_with file k l key w ns (slot_of file p qs)))) qs ss o.1 h o.0 o.2 up c i
 slots_by_path file q past (beside_put p l s ∷ qs) o h c i =

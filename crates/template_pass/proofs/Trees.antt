@@ -11,7 +11,8 @@ use Rattle.template_spec.specs.Template.{Item, node, Content, pairs, elements}
 use Rattle.template_pass.specs.Building.{content_of}
 use Rattle.template_pass.specs.Flat.{shape}
 use Rattle.template_pass.proofs.ByPath.{PathPut, node_if, slot_of}
-use Rattle.template_pass.proofs.Inside.{Inside, inside_self, inside_more, inside_then, inside_length, inside_same, path_same, path_other}
+use Rattle.template_pass.proofs.Inside.{inside_more, path_same, path_other}
+use Rattle.template_pass.proofs.Paths.{In, in_itself, in_through, in_length, same_by_length}
 use Rattle.template_pass.proofs.Settled.{Begun, node_of, nodes_in}
 use Rattle.template_pass.proofs.Woven.{weave}
 
@@ -42,10 +43,10 @@ module _ (file : ℕ) (text : List Event) (puts : List PathPut) where
 
   -- items of other collections
   abbrev Elsewhere : Path → Path → (number : ℕ) → Type 0
-  Elsewhere d c n = (d ≡ c → ⊥) × ((m : ℕ) → n ≤ m → Inside d (m ∷ c) → ⊥)
+  Elsewhere d c n = (d ≡ c → ⊥) × ((m : ℕ) → n ≤ m → In d (m ∷ c) → ⊥)
 
-  elsewhere_below : (d p : Path) → (Inside d p → ⊥) → Elsewhere d p 0
-  elsewhere_below d p h = (λ e. h ([], e), λ m l i. h (inside_then d (m ∷ p) p i (inside_more m p p (inside_self p))))
+  elsewhere_below : (d p : Path) → (In d p → ⊥) → Elsewhere d p 0
+  elsewhere_below d p h = (λ e. h ([], e), λ m l i. h (in_through d (m ∷ p) p i (inside_more m p p (in_itself p))))
 
   mutual
     none_among : (d : Path) (k : ItemKind) (c : Path) (n : ℕ) (is : noted.Items) → Elsewhere d c n → nodes_in file text puts d (items_begun k c n is) ≡ []
@@ -56,7 +57,7 @@ module _ (file : ℕ) (text : List Event) (puts : List PathPut) where
         ∙ nodes-append d (below_begun (n ∷ c) x) (items_begun k c (suc n) more)
         ∙ ap₂ (λ (xs ys : List Item). xs ++ ys) (none_below d (n ∷ c) x (h.1 n (omega arith))) (none_among d k c (suc n) more (h.0, λ m l. h.1 m (omega (arith, l))))
 
-    none_below : (d p : Path) (x : noted.Content) → (Inside d p → ⊥) → nodes_in file text puts d (below_begun p x) ≡ []
+    none_below : (d p : Path) (x : noted.Content) → (In d p → ⊥) → nodes_in file text puts d (below_begun p x) ≡ []
     none_below d p (noted_scalar t) h = refl
     none_below d p (noted_list is) h = none_among d element_item p 0 is (elsewhere_below d p h)
     none_below d p (noted_map is) h = none_among d pair_item p 0 is (elsewhere_below d p h)
@@ -66,8 +67,8 @@ module _ (file : ℕ) (text : List Event) (puts : List PathPut) where
   own_nodes k c n noted.no_items = []
   own_nodes k c n (noted.item i x more) = node_of file text puts (begun_of (n ∷ c) k i x) ∷ own_nodes k c (suc n) more
 
-  not_inside : (n : ℕ) (c : Path) → Inside c (n ∷ c) → ⊥
-  not_inside n c i = omega (arith, inside_length c (n ∷ c) i)
+  not_inside : (n : ℕ) (c : Path) → In c (n ∷ c) → ⊥
+  not_inside n c i = omega (arith, in_length c (n ∷ c) i)
 
   own_are : (k : ItemKind) (c : Path) (n : ℕ) (is : noted.Items) → nodes_in file text puts c (items_begun k c n is) ≡ own_nodes k c n is
   own_are k c n noted.no_items = refl
@@ -81,23 +82,23 @@ module _ (file : ℕ) (text : List Event) (puts : List PathPut) where
 
   module _ (all : List Begun) where
     abbrev HeldItems : ItemKind → Path → (number : ℕ) → noted.Items → Type 0
-    HeldItems k c n is = (d : Path) (m : ℕ) → n ≤ m → Inside d (m ∷ c) → nodes_in file text puts d all ≡ nodes_in file text puts d (items_begun k c n is)
+    HeldItems k c n is = (d : Path) (m : ℕ) → n ≤ m → In d (m ∷ c) → nodes_in file text puts d all ≡ nodes_in file text puts d (items_begun k c n is)
 
     abbrev pub Held : Path → noted.Content → Type 0
-    Held p x = (d : Path) → Inside d p → nodes_in file text puts d all ≡ nodes_in file text puts d (below_begun p x)
+    Held p x = (d : Path) → In d p → nodes_in file text puts d all ≡ nodes_in file text puts d (below_begun p x)
 
-    further_in : (d c : Path) (m : ℕ) → Inside d (m ∷ c) → c ≡ d → ⊥
-    further_in d c m i e = let f : length c ≡ length d = ap length e in omega (arith, f, inside_length d (m ∷ c) i)
+    further_in : (d c : Path) (m : ℕ) → In d (m ∷ c) → c ≡ d → ⊥
+    further_in d c m i e = let f : length c ≡ length d = ap length e in omega (arith, f, in_length d (m ∷ c) i)
 
-    behind_own : (k : ItemKind) (c : Path) (n : ℕ) (i : Note) (x : noted.Content) (more : noted.Items) (d : Path) (m : ℕ) → Inside d (m ∷ c) →
+    behind_own : (k : ItemKind) (c : Path) (n : ℕ) (i : Note) (x : noted.Content) (more : noted.Items) (d : Path) (m : ℕ) → In d (m ∷ c) →
         nodes_in file text puts d (items_begun k c n (noted.item i x more)) ≡ nodes_in file text puts d (below_begun (n ∷ c) x) ++ nodes_in file text puts d (items_begun k c (suc n) more)
     behind_own k c n i x more d m j =
         ap (λ (b : Bool). node_if b (node_of file text puts (begun_of (n ∷ c) k i x)) (nodes_in file text puts d (below_begun (n ∷ c) x ++ items_begun k c (suc n) more)))
         (path_other c d (further_in d c m j))
         ∙ nodes-append d (below_begun (n ∷ c) x) (items_begun k c (suc n) more)
 
-    one_item : (d c : Path) (m n : ℕ) → Inside d (m ∷ c) → Inside d (n ∷ c) → m ≡ n
-    one_item d c m n i j = let e : m ∷ c ≡ n ∷ c = inside_same d (m ∷ c) (n ∷ c) i j refl in cc e
+    one_item : (d c : Path) (m n : ℕ) → In d (m ∷ c) → In d (n ∷ c) → m ≡ n
+    one_item d c m n i j = let e : m ∷ c ≡ n ∷ c = same_by_length d (m ∷ c) (n ∷ c) i j refl in cc e
 
     held_item : (k : ItemKind) (c : Path) (n : ℕ) (i : Note) (x : noted.Content) (more : noted.Items) → HeldItems k c n (noted.item i x more) → Held (n ∷ c) x
     held_item k c n i x more h d j =
@@ -111,8 +112,8 @@ module _ (file : ℕ) (text : List Event) (puts : List PathPut) where
         h d m (omega (arith, l)) j ∙ behind_own k c n i x more d m j
         ∙ ap (λ (xs : List Item). xs ++ nodes_in file text puts d (items_begun k c (suc n) more)) (none_below d (n ∷ c) x (λ s. omega (arith, l, one_item d c m n j s)))
 
-    held_below : (k : ItemKind) (p : Path) (is : noted.Items) → ((d : Path) → Inside d p → nodes_in file text puts d all ≡ nodes_in file text puts d (items_begun k p 0 is)) → HeldItems k p 0 is
-    held_below k p is h d m l j = h d (inside_then d (m ∷ p) p j (inside_more m p p (inside_self p)))
+    held_below : (k : ItemKind) (p : Path) (is : noted.Items) → ((d : Path) → In d p → nodes_in file text puts d all ≡ nodes_in file text puts d (items_begun k p 0 is)) → HeldItems k p 0 is
+    held_below k p is h d m l j = h d (in_through d (m ∷ p) p j (inside_more m p p (in_itself p)))
 
     -- ---- the nodes of the definition
 
@@ -142,9 +143,9 @@ module _ (file : ℕ) (text : List Event) (puts : List PathPut) where
         content_placed : (p : Path) (x : noted.Content) → Held p x → content_of file (shape x) (slot_of file p puts).parts ≡ content file text p x
         content_placed p (noted_scalar t) h = refl
         content_placed p (noted_list is) h =
-            ap (λ (ps : List Part). elements (whole (nest file element_item ps))) (parts_of element_item p is (h p (inside_self p)) (own_placed element_item p 0 is (held_below element_item p is h)))
+            ap (λ (ps : List Part). elements (whole (nest file element_item ps))) (parts_of element_item p is (h p (in_itself p)) (own_placed element_item p 0 is (held_below element_item p is h)))
         content_placed p (noted_map is) h =
-            ap (λ (ps : List Part). pairs (whole (nest file pair_item ps))) (parts_of pair_item p is (h p (inside_self p)) (own_placed pair_item p 0 is (held_below pair_item p is h)))
+            ap (λ (ps : List Part). pairs (whole (nest file pair_item ps))) (parts_of pair_item p is (h p (in_itself p)) (own_placed pair_item p 0 is (held_below pair_item p is h)))
 
       -- so it is for a collection in which all items are
       pub slot_parts : (k : ItemKind) (c : Path) (is : noted.Items) → all ≡ items_begun k c 0 is → (slot_of file c puts).parts ≡ parts file text k c 0 is
