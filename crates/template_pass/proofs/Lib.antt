@@ -1,3 +1,4 @@
+pub mod ItemBegins
 pub mod OrderlyEvents
 pub mod Paths
 pub mod Standing

@@ -63,7 +63,7 @@ behind_else r q z n e (says l s ∷ es) h = behind_else r q z n e es h
 abbrev pub has_one : Path → Block → Block
 has_one p b = if b.for_one && not (is_some b.one) then record b { one = Some p } else b
 
-abbrev flagged : Block → (for_one : Bool) → (one : Option Path) → Block
+abbrev pub flagged : Block → (for_one : Bool) → (one : Option Path) → Block
 flagged b z o = record b { for_one = z; one = o }
 
 has_one_again : (p q : Path) (b : Block) (z : Bool) (o : Option Path) → has_one p (has_one q (flagged b z o)) ≡ has_one q (flagged b z o)
@@ -92,7 +92,7 @@ pub left_with_one : (p : Path) (bs : List Block) → left_at (Some p) (each (has
 left_with_one p [] = refl
 left_with_one p (b ∷ bs) = left_with_flags p bs (left_with_one p bs) b b.for_one b.one
 
-same_collection : (p : Path) (b : Block) (z : Bool) (o : Option Path) → (has_one p (flagged b z o)).collection ≡ b.collection
+pub same_collection : (p : Path) (b : Block) (z : Bool) (o : Option Path) → (has_one p (flagged b z o)).collection ≡ b.collection
 same_collection p b false o = refl
 same_collection p b true None = refl
 same_collection p b true (Some x) = refl
