@@ -1,7 +1,7 @@
 -- The stack of levels behind the beginning of an item.
-use Rattle.std.proofs.Common.{◌≡◌, ℕ, zero, suc, ◌+◌, ◌≤◌, Bool, true, false, not, ◌&&◌, nat_lt, if◌then◌else◌, List, [], ◌∷◌, ◌++◌, length, get_or, map as each, bytes_eq, Option, Some, None, refl, sym, ◌∙◌, ap, subst, arith, Decides}
+use Rattle.std.proofs.Common.{◌≡◌, ℕ, zero, suc, ◌≤◌, Bool, true, false, not, ◌&&◌, if◌then◌else◌, List, [], ◌∷◌, ◌++◌, length, get_or, map as each, bytes_eq, Option, Some, None, refl, sym, ◌∙◌, ap, subst, arith}
 use Rattle.std.specs.Bool.{IsTrue}
-use Rattle.std.proofs.lemmas.Bool.Decides.{Decides-like, Decides-not, same_from_decides, nat_tests}
+use Rattle.std.proofs.lemmas.Bool.Decides.{Decides-like, same_from_decides, nat_tests}
 use Rattle.std.proofs.lemmas.Slice.Eq.{bytes_eq-Decides}
 use Rattle.star_spec.specs.Program.{ItemKind}
 use Rattle.template_spec.specs.Events.{Path, Event, begins, beside, says}
@@ -11,7 +11,7 @@ use Rattle.template_pass.specs.Levels as level
 use Rattle.template_pass.specs.Levels.{at_most, Open, advanced}
 use Rattle.template_pass.specs.Rows.{level_of}
 use Rattle.template_pass.specs.Standing.{level_at, seen, Around, Began, Numbered, Coming, Standing}
-use Rattle.template_pass.proofs.Paths.{In, in_itself, in_through, in_collection, in_by_length, in_length, lies, lain, lies_in-Decides, lies_by_length}
+use Rattle.template_pass.proofs.Paths.{In, in_through, in_collection, in_by_length, in_length, lies, lain, lies_in-Decides, lies_by_length}
 use Rattle.template_pass.proofs.Unclosed.{has_one, flagged, same_collection, not_over_itself, behind_item, OfOne, Ones, ones_began}
 
 -- ---- how many items have begun
@@ -236,5 +236,5 @@ item_step q p k l past next bs s w c =
       stack = ap (advanced (level_of p) (level_at next)) s.stack ∙ sym (seen_behind p k l past next c numbered now);
       around = subst (λ bs. Around p (length p) bs) (sym (blocks_behind p k l past next c numbered)) (around_advance p p next (length p) (open_blocks past (Some p)) begun);
       numbered = (now, numbered);
-      coming = c
+      coming = c;
     }

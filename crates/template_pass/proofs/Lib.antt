@@ -1,3 +1,4 @@
+pub mod Alike
 pub mod ItemBegins
 pub mod OrderlyEvents
 pub mod Paths

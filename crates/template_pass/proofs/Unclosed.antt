@@ -1,12 +1,11 @@
 -- What each event does to the blocks that are open.
-use Rattle.std.proofs.Common.{◌≡◌, ℕ, zero, suc, ◌+◌, ◌≤◌, Bool, true, false, not, ◌&&◌, if◌then◌else◌, is_some, List, [], ◌∷◌, length, drop, map as each, Option, Some, None, refl, sym, ◌∙◌, ap, subst, arith}
+use Rattle.std.proofs.Common.{◌≡◌, ℕ, zero, suc, Bool, true, false, not, ◌&&◌, if◌then◌else◌, is_some, List, [], ◌∷◌, length, drop, map as each, Option, Some, None, refl, sym, ◌∙◌, ap}
 use Rattle.std.specs.Bool.{IsTrue}
-use Rattle.star_spec.specs.CodeReading.{Header}
-use Rattle.template_spec.specs.Comments.{Said, ignored, a_note, a_value, statements, opens, elif, otherwise, closes}
+use Rattle.template_spec.specs.Comments.{opens, otherwise, closes}
 use Rattle.template_spec.specs.Events.{Path, Event, begins, beside, says}
-use Rattle.template_spec.specs.OpenBlocks.{lies_in, Block, belongs, is_over, left_at, if_begun, unclosed, open_blocks}
+use Rattle.template_spec.specs.OpenBlocks.{lies_in, Block, belongs, is_over, left_at, if_begun, unclosed}
 use Rattle.template_pass.specs.Standing.{Began}
-use Rattle.template_pass.proofs.Paths.{In, in_itself, lies}
+use Rattle.template_pass.proofs.Paths.{in_itself, lies}
 
 -- the innermost block is none for one item
 abbrev pub HeadStays : List Block → Type 0
