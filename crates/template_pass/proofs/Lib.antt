@@ -1,7 +1,10 @@
+pub mod Alike
+pub mod Built
 pub mod ByPath
 pub mod Counted
 pub mod EventPuts
 pub mod Inside
+pub mod ItemBegins
 pub mod OrderlyEvents
 pub mod Paths
 pub mod Settled

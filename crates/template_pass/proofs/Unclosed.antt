@@ -1,12 +1,11 @@
 -- What each event does to the blocks that are open.
-use Rattle.std.proofs.Common.{◌≡◌, ℕ, zero, suc, ◌+◌, ◌≤◌, Bool, true, false, not, ◌&&◌, if◌then◌else◌, is_some, List, [], ◌∷◌, length, drop, map as each, Option, Some, None, refl, sym, ◌∙◌, ap, subst, arith}
+use Rattle.std.proofs.Common.{◌≡◌, ℕ, zero, suc, Bool, true, false, not, ◌&&◌, if◌then◌else◌, is_some, List, [], ◌∷◌, length, drop, map as each, Option, Some, None, refl, sym, ◌∙◌, ap}
 use Rattle.std.specs.Bool.{IsTrue}
-use Rattle.star_spec.specs.CodeReading.{Header}
-use Rattle.template_spec.specs.Comments.{Said, ignored, a_note, a_value, statements, opens, elif, otherwise, closes}
+use Rattle.template_spec.specs.Comments.{opens, otherwise, closes}
 use Rattle.template_spec.specs.Events.{Path, Event, begins, beside, says}
-use Rattle.template_spec.specs.OpenBlocks.{lies_in, Block, belongs, is_over, left_at, if_begun, unclosed, open_blocks}
+use Rattle.template_spec.specs.OpenBlocks.{lies_in, Block, belongs, is_over, left_at, if_begun, unclosed}
 use Rattle.template_pass.specs.Standing.{Began}
-use Rattle.template_pass.proofs.Paths.{In, in_itself, lies}
+use Rattle.template_pass.proofs.Paths.{in_itself, lies}
 
 -- the innermost block is none for one item
 abbrev pub HeadStays : List Block → Type 0
@@ -63,7 +62,7 @@ behind_else r q z n e (says l s ∷ es) h = behind_else r q z n e es h
 abbrev pub has_one : Path → Block → Block
 has_one p b = if b.for_one && not (is_some b.one) then record b { one = Some p } else b
 
-abbrev flagged : Block → (for_one : Bool) → (one : Option Path) → Block
+abbrev pub flagged : Block → (for_one : Bool) → (one : Option Path) → Block
 flagged b z o = record b { for_one = z; one = o }
 
 has_one_again : (p q : Path) (b : Block) (z : Bool) (o : Option Path) → has_one p (has_one q (flagged b z o)) ≡ has_one q (flagged b z o)
@@ -92,7 +91,7 @@ pub left_with_one : (p : Path) (bs : List Block) → left_at (Some p) (each (has
 left_with_one p [] = refl
 left_with_one p (b ∷ bs) = left_with_flags p bs (left_with_one p bs) b b.for_one b.one
 
-same_collection : (p : Path) (b : Block) (z : Bool) (o : Option Path) → (has_one p (flagged b z o)).collection ≡ b.collection
+pub same_collection : (p : Path) (b : Block) (z : Bool) (o : Option Path) → (has_one p (flagged b z o)).collection ≡ b.collection
 same_collection p b false o = refl
 same_collection p b true None = refl
 same_collection p b true (Some x) = refl
