@@ -1,5 +1,5 @@
 -- The template that is built by levels is the one that placing says, where nothing is wrong.
-use Rattle.std.proofs.Common.{◌≡◌, ℕ, suc, Bool, List, [], ◌∷◌, ◌++◌, length, drop, map as each, Option, Some, None, Ok, refl, sym, ◌∙◌, ap, subst}
+use Rattle.std.proofs.Common.{◌≡◌, ℕ, suc, Bool, List, [], ◌∷◌, ◌++◌, length, drop, Option, Some, None, Ok, refl, sym, ◌∙◌, ap, subst}
 use Rattle.ytt_base.specs.declared.fault.Fault.{Fault}
 use Rattle.yaml_spec.specs.Noted.{Documents}
 use Rattle.star_spec.specs.CodeReading.{CodeReader}
@@ -8,22 +8,22 @@ use Rattle.template_spec.specs.Comments.{Said, ignored, a_note, a_value, stateme
 use Rattle.template_spec.specs.Events.{Path, Event, begins, beside, says, events}
 use Rattle.template_spec.specs.Misplaced.{event_fault, holder_at, returned_at, and_sound, Sound, sound_from, return_faults, note_faults, earliest, left_open, placing_fault, reversed}
 use Rattle.template_spec.specs.Nesting.{Part, marks, nest, whole, parts, template_of}
-use Rattle.template_spec.specs.OpenBlocks.{next_item, open_blocks, first_of, so_far}
-use Rattle.template_spec.specs.Template.{Item, Items}
-use Rattle.template_pass.specs.Building.{Put, Slot, slot_at, puts, built, documents_in, template_by_levels}
-use Rattle.template_pass.specs.Flat.{flat_text, a_map}
+use Rattle.template_spec.specs.OpenBlocks.{next_item, open_blocks, first_of}
+use Rattle.template_spec.specs.Template.{Item}
+use Rattle.template_pass.specs.Building.{Put, Slot, slot_at, puts, built, template_by_levels}
+use Rattle.template_pass.specs.Flat.{flat_text}
 use Rattle.template_pass.specs.Laws.{TemplateIsByLevels}
 use Rattle.template_pass.specs.Levels.{Open, behind, next_level}
 use Rattle.template_pass.specs.Orderly.{Orderly}
 use Rattle.template_pass.specs.Rows as row
 use Rattle.template_pass.specs.Rows.{AreRows, Row, Start, started, flat_started, level_of}
 use Rattle.template_pass.specs.Standing.{Standing, level_at, row_of}
-use Rattle.template_pass.proofs.ByPath.{PathPut, by_level, Ordered, slot_of, nodes_of}
+use Rattle.template_pass.proofs.ByPath.{PathPut, slot_of}
 use Rattle.template_pass.proofs.Counted.{latest_none}
-use Rattle.template_pass.proofs.EventPuts.{first_start, place_of, level_place, path_puts, puts_by_path, puts_ordered, rows_of, rows_same, Stands, MarksStand, BesideStands}
+use Rattle.template_pass.proofs.EventPuts.{place_of, level_place, path_puts, puts_by_path, puts_ordered, rows_of, rows_same, Stands, MarksStand}
 use Rattle.template_pass.proofs.OrderlyEvents.{events_orderly}
 use Rattle.template_pass.proofs.Paths.{in_itself, lain}
-use Rattle.template_pass.proofs.Settled.{Begun, begun_in, nodes_in, settled}
+use Rattle.template_pass.proofs.Settled.{begun_in, nodes_in, settled}
 use Rattle.template_pass.proofs.SlotsByPath.{slots_by_path}
 use Rattle.template_pass.proofs.Standing.{belongs_in, belongs_level, innermost_in, innermost_level, standing_first, standing_step}
 use Rattle.template_pass.proofs.TextItems.{text_items, events_beside}
@@ -89,9 +89,10 @@ marks_stand file q past (beside p k b l t ∷ es) ss bs s w o =
     marks_stand file q (beside p k b l t ∷ past) es ss bs (standing_step file q past (beside p k b l t) es bs s w.0 o) w.1 o
 marks_stand file q past (says l t ∷ es) ss bs s w o =
     subst (λ (n : Option ℕ). Stands q (place_of past es t) (level_place bs n t) × MarksStand q (says l t ∷ past) (behind bs n (length past) (row.says l t)) (suc (length past)) es (rows_of es ss))
-    (sym (next_by_level es ss))
-    (said_stands q past es bs t s,
-    marks_stand file q (says l t ∷ past) es ss (behind bs (level_at (next_item es)) (length past) (row.says l t)) (standing_step file q past (says l t) es bs s w.0 o) w.1 o)
+    (sym (next_by_level es ss)) (
+      said_stands q past es bs t s,
+      marks_stand file q (says l t ∷ past) es ss (behind bs (level_at (next_item es)) (length past) (row.says l t)) (standing_step file q past (says l t) es bs s w.0 o) w.1 o,
+    )
 
 -- ---- the template
 

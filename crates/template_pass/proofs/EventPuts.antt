@@ -1,9 +1,9 @@
 -- What the events of a text put, by paths; and their rows.
-use Rattle.std.proofs.Common.{◌≡◌, ℕ, zero, suc, Bool, true, false, List, [], ◌∷◌, ◌++◌, length, drop, bytes_eq, map as each, Option, Some, None, refl, sym, ◌∙◌, ap, if◌then◌else◌}
-use Rattle.star_spec.specs.Program.{ItemKind, document_item}
+use Rattle.std.proofs.Common.{◌≡◌, ℕ, suc, List, [], ◌∷◌, ◌++◌, length, drop, bytes_eq, map as each, Option, Some, None, refl, ◌∙◌, ap, if◌then◌else◌}
+use Rattle.star_spec.specs.Program.{document_item}
 use Rattle.template_spec.specs.Comments.{Said, ignored, a_note, a_value, statements, opens, elif, otherwise, closes}
 use Rattle.template_spec.specs.Events.{Path, Event, begins, beside, says}
-use Rattle.template_spec.specs.OpenBlocks.{Block, collection_of, belongs, next_item, open_blocks, so_far}
+use Rattle.template_spec.specs.OpenBlocks.{collection_of, belongs, next_item, open_blocks, so_far}
 use Rattle.template_spec.specs.Nesting.{innermost}
 use Rattle.template_pass.specs.Building as building
 use Rattle.template_pass.specs.Building.{Before, Put, put_mark, mark, puts, waiting}
@@ -167,10 +167,12 @@ Agree past seen = (c : Path) → so_far c past ≡ so_far c seen
 pub puts_ordered : (q : Path) (past seen : List Event) (bs : List Open) (n : ℕ) (ns : List Before) (es : List Event) (ss : List Start) → Agree past seen →
     MarksStand q past bs n es (rows_of es ss) → BesideStands q es → Orderly q past es → Ordered q seen (path_puts past ns es ss)
 puts_ordered q past seen bs n ns [] ss a m b o = tt
-puts_ordered q past seen bs n ns (begins p k l ∷ es) ss a m b o =
-    (lain q (collection_of p) o.0, o.1 ∙ ap (λ (x : ℕ). x ∷ collection_of p) (a (collection_of p)),
-    puts_ordered p (begins p k l ∷ past) (begins p k l ∷ seen) (behind bs (next_level (rows_of es (drop 1 ss))) n (row.begins (level_of p) k l (first_start ss).key (first_start ss).written)) (suc n) []
-    es (drop 1 ss) (λ c. ap (λ (x : ℕ). if bytes_eq (collection_of p) c then suc x else x) (a c)) m b o.2)
+puts_ordered q past seen bs n ns (begins p k l ∷ es) ss a m b o = (
+  lain q (collection_of p) o.0,
+  o.1 ∙ ap (λ (x : ℕ). x ∷ collection_of p) (a (collection_of p)),
+  puts_ordered p (begins p k l ∷ past) (begins p k l ∷ seen) (behind bs (next_level (rows_of es (drop 1 ss))) n (row.begins (level_of p) k l (first_start ss).key (first_start ss).written)) (suc n) []
+      es (drop 1 ss) (λ c. ap (λ (x : ℕ). if bytes_eq (collection_of p) c then suc x else x) (a c)) m b o.2,
+)
 puts_ordered q past seen bs n ns (beside p k v l s ∷ es) ss a m b o = (b.0, b.1, puts_ordered q (beside p k v l s ∷ past) seen bs (suc n) ns es ss a m b.2 o)
 puts_ordered q past seen bs n ns (says l s ∷ es) ss a m b o =
     marked_ordered q seen (place_of past es s) (level_place bs (next_level (rows_of es ss)) s) l s (path_puts (says l s ∷ past) (waiting ns (row.says l s)) es ss) m.0

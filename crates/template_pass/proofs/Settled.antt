@@ -1,5 +1,5 @@
 -- Each item as it is put is the item that the whole text gives.
-use Rattle.std.proofs.Common.{◌≡◌, ℕ, zero, suc, ◌<◌, ◌≤◌, Bool, true, false, List, [], ◌∷◌, ◌++◌, length, bytes_eq, drop, Option, Some, None, refl, sym, ◌∙◌, ap, ap₂, arith, if◌then◌else◌}
+use Rattle.std.proofs.Common.{◌≡◌, ℕ, suc, Bool, true, false, List, [], ◌∷◌, ◌++◌, length, bytes_eq, drop, Option, Some, None, refl, sym, ◌∙◌, ap, ap₂, arith, if◌then◌else◌}
 use Rattle.ytt_base.specs.Outcomes.{place_at}
 use Rattle.ytt_base.specs.Trees.{Scalar}
 use Rattle.star_spec.specs.Code.{Expr}
@@ -18,7 +18,7 @@ use Rattle.template_pass.specs.Rows.{Start, level_of}
 use Rattle.template_pass.proofs.ByPath.{PathPut, item_put, changed_if, node_if, nodes_of, slot_of}
 use Rattle.template_pass.proofs.Counted.{Latest, Ahead, ahead_outside, ahead_before, ahead_item, ahead_apart, latest_item}
 use Rattle.template_pass.proofs.EventPuts.{first_start, marked, path_puts, place_of, level_place, rows_of, Stands, MarksStand, BesideStands}
-use Rattle.template_pass.proofs.Inside.{inside_at, same_path, path_same, path_other, same_either_way}
+use Rattle.template_pass.proofs.Inside.{inside_at, path_same, path_other, same_either_way}
 use Rattle.template_pass.proofs.Paths.{In, lain}
 use Rattle.template_pass.proofs.SlotsByPath.{unchanged}
 

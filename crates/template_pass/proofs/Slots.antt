@@ -1,5 +1,5 @@
 -- Slots by their level.
-use Rattle.std.proofs.Common.{◌≡◌, ℕ, zero, suc, ◌<◌, ◌≤◌, List, [], ◌∷◌, take, refl, sym, ◌∙◌, ap, arith}
+use Rattle.std.proofs.Common.{◌≡◌, ℕ, zero, suc, ◌<◌, ◌≤◌, List, [], ◌∷◌, take, refl, ◌∙◌, ap, arith}
 use Rattle.template_pass.specs.Building.{Slot, fresh, slot_at, changed}
 
 pub slot_at-none : (d : ℕ) → slot_at d [] ≡ fresh

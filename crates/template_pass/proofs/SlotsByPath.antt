@@ -1,18 +1,15 @@
 -- The slots by levels are the slots by paths, for each collection that the last item is in.
-use Rattle.std.proofs.Common.{◌≡◌, ℕ, zero, suc, ◌<◌, ◌≤◌, Bool, true, false, List, [], ◌∷◌, length, take, bytes_eq, map as each, Option, ◌⊎◌, inl, inr, refl, sym, ◌∙◌, ap, subst, arith}
+use Rattle.std.proofs.Common.{◌≡◌, ℕ, suc, ◌<◌, ◌≤◌, Bool, List, [], ◌∷◌, length, take, bytes_eq, map as each, ◌⊎◌, inl, inr, refl, sym, ◌∙◌, ap, subst, arith}
 use Rattle.std.proofs.lemmas.Bool.{cases_lt}
-use Rattle.ytt_base.specs.Trees.{Scalar}
 use Rattle.star_spec.specs.Program.{ItemKind}
-use Rattle.template_spec.specs.Comments.{Said}
 use Rattle.template_spec.specs.Events.{Path, Event, begins}
 use Rattle.template_spec.specs.OpenBlocks.{collection_of, so_far}
-use Rattle.template_spec.specs.Nesting.{Part, a_node, a_mark}
-use Rattle.template_pass.specs.Flat.{Shape}
-use Rattle.template_pass.specs.Building.{Before, Slot, fresh, slot_at, changed, with_part, with_beside, item_with, built}
+use Rattle.template_spec.specs.Nesting.{a_node, a_mark}
+use Rattle.template_pass.specs.Building.{Slot, fresh, slot_at, changed, with_part, with_beside, item_with, built}
 use Rattle.template_pass.proofs.ByPath.{PathPut, item_put, beside_put, mark_put, by_level, changed_if, slot_of, Ordered}
 use Rattle.template_pass.proofs.Counted.{Latest, Gone, gone_outside, gone_still, latest_item, gone_item}
 use Rattle.template_pass.proofs.Inside.{inside_more, inside_at, path_same, path_other, path_cases}
-use Rattle.template_pass.proofs.Paths.{In, in_itself, in_through, in_by_length, in_length, same_by_length}
+use Rattle.template_pass.proofs.Paths.{In, in_itself, in_through, in_by_length, same_by_length}
 use Rattle.template_pass.proofs.Slots.{slot_at-none, slot_at-changed, slot_at-other, slot_at-kept, slot_at-left}
 
 -- ---- nothing is put into a collection that is over

@@ -2,18 +2,18 @@
 use Rattle.std.proofs.Common.{◌≡◌, ℕ, suc, Bool, true, false, if◌then◌else◌, List, [], ◌∷◌, ◌++◌, length, drop, map as each, Option, Some, None, Ok, refl, sym, ◌∙◌, ap, ap₂}
 use Rattle.std.specs.Result.{IfOk}
 use Rattle.std.proofs.lemmas.Result.{IfOk-at_ok}
-use Rattle.std.proofs.lemmas.List.{map-append, append-nil}
+use Rattle.std.proofs.lemmas.List.{append-nil}
 use Rattle.ytt_base.specs.Outcomes.{place_at}
 use Rattle.ytt_base.specs.Trees.{Scalar}
 use Rattle.ytt_laws.proofs.Yielded.{yielded_behind, yielded_then}
-use Rattle.yaml_spec.specs.Noted.{Comment, Note, Content, noted_scalar, noted_list, noted_map, Items, no_items, item, Documents}
+use Rattle.yaml_spec.specs.Noted.{Comment, Content, noted_scalar, noted_list, noted_map, Items, no_items, item, Documents}
 use Rattle.star_spec.specs.CodeReading.{CodeReader}
 use Rattle.star_spec.specs.Program.{ItemKind, document_item, pair_item, element_item}
 use Rattle.template_spec.specs.Comments.{Said, ignored, comment_said}
 use Rattle.template_spec.specs.Events as event
 use Rattle.template_spec.specs.Events.{Path, Raw, begun, trails, loose, is_flow, is_collection, raw_items, raw_below, raw_text, Held, nothing, held, held_trailing, let_go, goes_on, grown, gathered, Event, begins, beside, says, spoken, heard, events}
 use Rattle.template_pass.specs.Flat.{Shape, Flat, starts, trailing_of, alone, loose_all, trailing, inside, start, flat_items, flat_below, flat_text}
-use Rattle.template_pass.specs.Rows.{Row, level_of, Start, started, flat_started}
+use Rattle.template_pass.specs.Rows.{level_of, Start, started, flat_started}
 use Rattle.template_pass.proofs.EventPuts.{BesideStands, rows_of}
 use Rattle.template_pass.proofs.Inside.{inside_more}
 use Rattle.template_pass.proofs.OrderlyEvents.{begun_in, begun_by, begun_loose, begun_trailing, events_begun}
@@ -77,6 +77,7 @@ begun_inside false p k z t fs = behind_trailing p k z t fs
 
 mutual
   unfolding flat_begun
+
   flat_items_begun : (k : ItemKind) (c : Path) (n : ℕ) (is : Items) → flat_begun (flat_items k c n is) ≡ items_begun k c n is
   flat_items_begun k c n no_items = refl
   flat_items_begun k c n (item i x more) =

@@ -1,5 +1,5 @@
 -- What stands in a collection is its items with its marks between them, each mark behind so many items.
-use Rattle.std.proofs.Common.{◌≡◌, ℕ, zero, suc, ◌<◌, ◌≤◌, Bool, true, false, ◌&&◌, ◌==◌, List, [], ◌∷◌, ◌++◌, bytes_eq, drop, Option, Some, None, refl, sym, ◌∙◌, ap, arith, ne_eqb, eq-eqb, if◌then◌else◌}
+use Rattle.std.proofs.Common.{◌≡◌, ℕ, suc, ◌<◌, Bool, true, false, ◌&&◌, ◌==◌, List, [], ◌∷◌, ◌++◌, bytes_eq, drop, Option, Some, None, refl, sym, ◌∙◌, ap, arith, ne_eqb, eq-eqb, if◌then◌else◌}
 use Rattle.star_spec.specs.Program.{ItemKind}
 use Rattle.template_spec.specs.Comments.{Said, ignored, a_note, a_value, statements, opens, elif, otherwise, closes}
 use Rattle.template_spec.specs.Events.{Path, Event, begins, beside, says}
@@ -12,7 +12,7 @@ use Rattle.template_pass.specs.Rows.{Start}
 use Rattle.template_pass.proofs.ByPath.{PathPut, changed_if, node_if, nodes_of, slot_of}
 use Rattle.template_pass.proofs.Counted.{so_far-more}
 use Rattle.template_pass.proofs.EventPuts.{first_start, marked, path_puts, place_of}
-use Rattle.template_pass.proofs.Inside.{same_path, path_same, path_other}
+use Rattle.template_pass.proofs.Inside.{same_path, path_same}
 
 -- items from a number on, with the marks before each and behind all
 abbrev pub weave : Path → (number : ℕ) → List Mark → List Item → List Part
@@ -67,9 +67,6 @@ standing c n m ms [] e f = taken c n m ms [] e f
 standing c n m ms (x ∷ xs) e f =
     taken c n m ms (a_node x ∷ weave c (suc n) (m ∷ ms) xs) e f
     ∙ ap (λ (ps : List Part). a_mark m.line m.said ∷ marks_at c n ms (a_node x ∷ ps)) (passed c (suc n) m ms xs (λ g. omega (arith, f)))
-
-abbrev marked_first : (past : List Event) → (line : ℕ) → Said → (coming : List Event) → List Mark → List Mark
-marked_first past l s coming ms = mark past coming l s ++ ms
 
 none_behind_mark : (c : Path) (n : ℕ) (o : Option Path) (past : List Event) (l : ℕ) (s : Said) (ms : List Mark) (ps : List Part) → n < so_far c past →
     marks_at c n (mark_of o past l s ++ ms) ps ≡ marks_at c n ms ps
