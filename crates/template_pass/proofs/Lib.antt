@@ -1,4 +1,5 @@
 pub mod Alike
+pub mod Faults
 pub mod ItemBegins
 pub mod OrderlyEvents
 pub mod Paths
