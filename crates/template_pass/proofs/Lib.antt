@@ -3,6 +3,7 @@ pub mod Built
 pub mod ByPath
 pub mod Counted
 pub mod EventPuts
+pub mod Faults
 pub mod Inside
 pub mod ItemBegins
 pub mod OrderlyEvents

@@ -36,7 +36,7 @@ orderly_behind q past (says l s) es h = h
 -- ---- where a statement, an opener, a branch or an end belongs
 
 module _ (q : Path) (past : List Event) where
-  belongs_lies : (m : ℕ) (bs : List Block) (next : Option Path) → Around q m bs → Coming q past next → In q (belongs bs next)
+  pub belongs_lies : (m : ℕ) (bs : List Block) (next : Option Path) → Around q m bs → Coming q past next → In q (belongs bs next)
   belongs_lies m [] None a c = (q, sym (append-nil q))
   belongs_lies m [] (Some p) a c = lain q (collection_of p) c.0
   belongs_lies m (b ∷ bs) None a c = lain q b.collection a.0
@@ -46,7 +46,7 @@ module _ (q : Path) (past : List Event) where
       by_test true = lain q (collection_of p) c.0
       by_test false = lain q b.collection a.0
 
-  belongs_by_level : (m : ℕ) (bs : List Block) (next : Option Path) → Around q m bs → Coming q past next → length (belongs bs next) ≡ level.belongs (each seen bs) (level_at next)
+  pub belongs_by_level : (m : ℕ) (bs : List Block) (next : Option Path) → Around q m bs → Coming q past next → length (belongs bs next) ≡ level.belongs (each seen bs) (level_at next)
   belongs_by_level m [] None a c = refl
   belongs_by_level m [] (Some p) a c = refl
   belongs_by_level m (b ∷ bs) None a c = refl
