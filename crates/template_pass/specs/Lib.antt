@@ -4,3 +4,4 @@ pub mod Laws
 pub mod Levels
 pub mod Orderly
 pub mod Rows
+pub mod Standing

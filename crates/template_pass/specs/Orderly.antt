@@ -1,5 +1,5 @@
 -- The order of a text's items: an outer one before an inner one, and each the next one of its collection.
-use Rattle.std.specs.Prelude.{◌≡◌, ℕ, List, [], ◌∷◌, IsTrue}
+use Rattle.std.specs.Prelude.{◌≡◌, List, [], ◌∷◌, IsTrue}
 use Rattle.template_spec.specs.Events.{Path, Event, begins, beside, says}
 use Rattle.template_spec.specs.OpenBlocks.{collection_of, lies_in, so_far}
 

@@ -1,5 +1,5 @@
 -- Which blocks are open at a place of a template, and to which collection a statement or a block belongs there.
-use Rattle.std.specs.Prelude.{ℕ, zero, suc, ◌-◌, Bool, true, false, not, if◌then◌else◌, List, [], ◌∷◌, length, drop, bytes_eq, Option, Some, None}
+use Rattle.std.specs.Prelude.{ℕ, zero, suc, ◌-◌, Bool, true, false, not, ◌&&◌, if◌then◌else◌, List, [], ◌∷◌, length, drop, bytes_eq, Option, Some, None}
 use Rattle.star_spec.specs.CodeReading.{Header}
 use Rattle.template_spec.specs.Comments.{opens, otherwise, closes}
 use Rattle.template_spec.specs.Events.{Path, Event, begins, beside, says}
@@ -44,36 +44,43 @@ abbrev pub first_of : {A : Type 0} → Option A → Option A → Option A
 first_of None o = o
 first_of (Some a) o = Some a
 
--- the text of an item is over where this item comes next
+-- the text of an item is over where this item comes next, unless that is the item or stands in it
 abbrev pub is_over : (one next : Option Path) → Bool
 is_over None next = false
 is_over (Some p) None = true
-is_over (Some p) (Some q) = not (lies_in (collection_of q) p)
+is_over (Some p) (Some q) = not (lies_in q p)
 
--- The blocks that are open behind these events, innermost first. The events are given latest first, and `here` is the item
--- that comes next; `after` is the first item behind this place. `closed` counts the `end`s behind this place whose
--- openers are still to come, and `has_else` tells that the next open block has an `else`.
-abbrev pub open_from : (here after : Option Path) → (closed : ℕ) → (has_else : Bool) → List Event → List Block
-open_from here after n e [] = []
-open_from here after n e (begins p k l ∷ es) = open_from here (Some p) n e es
-open_from here after n e (beside p k b l s ∷ es) = open_from here after n e es
-open_from here after n e (says l closes ∷ es) = open_from here after (suc n) e es
-open_from here after zero e (says l otherwise ∷ es) = open_from here after zero true es
-open_from here after (suc n) e (says l (opens h false) ∷ es) = open_from here after n e es
-open_from here after zero e (says l (opens h false) ∷ es) =
-    let outer = open_from here after zero false es in
-    record { collection = belongs outer (first_of after here); header = h; for_one = false; line = l; one = None; has_else = e; before = length es } ∷ outer
-open_from here after zero e (says l (opens h true) ∷ es) =
-    elim (is_over after here) [
-      | true ↦ open_from here after zero e es
-      | false ↦
-          let outer = open_from here after zero false es in
-          record { collection = belongs outer (first_of after here); header = h; for_one = true; line = l; one = after; has_else = e; before = length es } ∷ outer
-    ]
-open_from here after n e (says l s ∷ es) = open_from here after n e es
+-- the blocks that are left where this item comes next: one for a single item goes with the item's text
+abbrev pub left_at : (next : Option Path) → List Block → List Block
+left_at next [] = []
+left_at next (b ∷ bs) = if b.for_one && is_over b.one next then left_at next bs else b ∷ left_at next bs
 
+abbrev pub if_begun : (has_begun : Bool) → Option Path → Option Path
+if_begun true next = next
+if_begun false next = None
+
+-- The blocks that no `end` closes, innermost first; one for a single item stays among them also when that is over. The events are
+-- given latest first. `next` is the item that begins first behind this place, and `has_begun` tells that it has by now.
+-- `closed` counts the `end`s behind this place whose openers are still to come, and `has_else` tells that the next block
+-- that takes an `else` has one. A block's collection is by the blocks that are open where its opener stands.
+abbrev pub unclosed : (next : Option Path) → (has_begun : Bool) → (closed : ℕ) → (has_else : Bool) → List Event → List Block
+unclosed q z n e [] = []
+unclosed q z n e (begins p k l ∷ es) = unclosed (Some p) true n e es
+unclosed q z n e (beside p k b l s ∷ es) = unclosed q z n e es
+unclosed q z n e (says l closes ∷ es) = unclosed q z (suc n) e es
+unclosed q z zero e (says l otherwise ∷ es) = unclosed q z zero true es
+unclosed q z (suc n) e (says l (opens h false) ∷ es) = unclosed q z n e es
+unclosed q z zero e (says l (opens h false) ∷ es) =
+    let outer = unclosed q z zero false es in
+    record { collection = belongs (left_at q outer) q; header = h; for_one = false; line = l; one = None; has_else = e; before = length es } ∷ outer
+unclosed q z zero e (says l (opens h true) ∷ es) =
+    let outer = unclosed q z zero e es in
+    record { collection = belongs (left_at q outer) q; header = h; for_one = true; line = l; one = if_begun z q; has_else = false; before = length es } ∷ outer
+unclosed q z n e (says l s ∷ es) = unclosed q z n e es
+
+-- the blocks that are open behind these events, given latest first, where this item comes next
 abbrev pub open_blocks : (past : List Event) → (next : Option Path) → List Block
-open_blocks past next = open_from next None zero false past
+open_blocks past next = left_at next (unclosed next false zero false past)
 
 -- how many items of a collection have begun
 abbrev pub so_far : Path → (past : List Event) → ℕ
