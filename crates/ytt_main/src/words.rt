@@ -201,9 +201,9 @@ fn words_of<'a>(
 
 /// The values with the option's own, or `None` where the option may not stand so.
 fn put<'a>(values: Values<'a>, option: CommandOption, form: Form<'a>) -> Option<Values<'a>>
-    ensures refused { IsNone result → may_stand (option_of option) (form_of form) ≡ false }
-    ensures good { IfSome result (λ new. may_stand (option_of option) (form_of form) ≡ true) }
-    ensures put { IfSome result (λ new. (gs : List Given) → HaveRead gs values.entry → may_follow (option_of option).often (values_of (option_of option).name gs) ≡ true → HaveRead (added gs (option_of option).name (form_of form)) new) }
+    ensures refused { IsNone result → may_stand (option_of option) (form_of form.entry) ≡ false }
+    ensures good { IfSome result (λ new. may_stand (option_of option) (form_of form.entry) ≡ true) }
+    ensures put { IfSome result (λ new. (gs : List Given) → HaveRead gs values.entry → may_follow (option_of option).often (values_of (option_of option).name gs) ≡ true → HaveRead (added gs (option_of option).name (form_of form.entry)) new) }
 {
     match (option, form) {
         (CommandOption::File, Form::Apart(path)) if is_path(path) => Some(Values {

@@ -1,10 +1,18 @@
-use Rattle.std.proofs.Common.{sym, ◌∙◌}
-use Rattle.ytt_main.proofs.Walk.{file_read, steps_read}
+use Rattle.std.proofs.Common.{◌≡◌, None, Some, if◌then◌else◌, rules}
+use Rattle.ytt_spec.specs.Words.{is_steps, number_of, value_of}
+use Rattle.ytt_main.specs.Asks.{form_of}
+use Rattle.ytt_main.proofs.Walk.{file_read, flag_read, steps_read}
 use Rattle.ytt_main.proofs.words.put.Goals as goal
 
-pub returns-else-not-is_path-clause-put : goal.returns-else-not-is_path-clause-put
-returns-else-not-is_path-clause-put c = rw c.in-File.is (λ gs j h f. file_read gs c.args.values c.args.text j h f)
+pub returns-in-File-Apart-clause-put : goal.returns-in-File-Apart-clause-put
+returns-in-File-Apart-clause-put c = rw (c.in-File-Apart.is-0, c.in-File-Apart.is-1) (λ gs h f. file_read gs c.args.values c.in-File-Apart.path h f)
 
-pub returns-in_ok-read_steps-in-Steps-clause-put : goal.returns-in_ok-read_steps-in-Steps-clause-put
-returns-in_ok-read_steps-in-Steps-clause-put c =
-    rw c.in-Steps.is (λ gs j h f. steps_read gs c.args.values c.args.text.now c.in_ok-read_steps-in-Steps.field-0 j (sym c.in_ok-read_steps-in-Steps.was ∙ c.read_steps.ensures) h f)
+pub returns-in_ok-read_steps-in-Steps-Apart-clause-put : goal.returns-in_ok-read_steps-in-Steps-Apart-clause-put
+returns-in_ok-read_steps-in-Steps-Apart-clause-put c =
+    let form = form_of c.args.form in
+    let steps = c.in_ok-read_steps-in-Steps-Apart.field-0 in
+    let read : Some steps ≡ (if is_steps (value_of form) then Some (number_of (value_of form)) else None) = search rules in
+    rw c.in-Steps-Apart.is-0 (λ gs h f. steps_read gs c.args.values form steps read h f)
+
+pub returns-in-IgnoreUnknown-Alone-clause-put : goal.returns-in-IgnoreUnknown-Alone-clause-put
+returns-in-IgnoreUnknown-Alone-clause-put c = rw (c.in-IgnoreUnknown-Alone.is-0, c.in-IgnoreUnknown-Alone.is-1) (λ gs h f. flag_read gs c.args.values h f)
