@@ -2,6 +2,7 @@ pub mod Binders
 pub mod Boxes
 pub mod Clauses
 pub mod Found
+pub mod Frames
 pub mod Gathering
 pub mod Nesting
 pub mod Putting
@@ -9,4 +10,3 @@ mod Rows
 pub mod Running
 pub mod Sets
 pub mod Told
-pub mod Views

@@ -1,6 +1,6 @@
 pub mod Answers
 pub mod Environments
 pub mod Events
+pub mod Frames
 pub mod Gathered
 pub mod Variables
-pub mod Views

@@ -12,5 +12,7 @@ mod scope;
 mod walk;
 
 pub use binding::{Resolved, Variables, resolve};
-pub use laws::{call_scopes, names_have_their_boxes, new_scopes};
+pub use laws::{
+    call_frames, call_scopes, names_are_variables, names_have_their_boxes, new_frames, new_scopes,
+};
 pub use levels::Variable;

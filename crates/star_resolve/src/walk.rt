@@ -3,7 +3,7 @@ ghost use Rattle.std.specs.Prelude.{◌≡◌, ℕ, ◌∷◌, ◌++◌, [], tru
 ghost use Rattle.star_spec.specs.Names.{clauses_names};
 ghost use Rattle.star_resolve.specs.declared.event.Event.TheVariants as event;
 ghost use Rattle.star_resolve.specs.Events.{clauses_events, entries_events, expr_events, exprs_events, optional_events, parameters_events, pieces_events};
-ghost use Rattle.star_resolve.specs.Views.{clauses_of, entries_of, optional_of, pieces_of};
+ghost use Rattle.star_tree.specs.Listed.{clauses_of, entries_of, optional_of, pieces_of};
 ghost use Rattle.star_tree.specs.Whole.{expr_of, exprs_of, parameters_of};
 
 use crate::event::{Event, Events, put_name};

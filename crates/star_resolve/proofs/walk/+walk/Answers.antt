@@ -7,10 +7,10 @@ use Rattle.star_tree.specs.declared.code.Expr.{Expr}
 use Rattle.star_resolve.specs.declared.event.Event.{Event}
 use Rattle.star_resolve.specs.declared.event.Event.TheVariants as event
 use Rattle.star_resolve.specs.Events.{clauses_events, expr_events, parameters_events}
-use Rattle.star_resolve.specs.Views.{clauses_of}
+use Rattle.star_tree.specs.Listed.{clauses_of}
 use Rattle.star_resolve.proofs.Clauses.{clauses_turn, first_for, later_for, test_of}
 use Rattle.star_resolve.proofs.Putting.{put_after, put_same, put_then}
-use Rattle.star_resolve.proofs.Views.{expr_of-DictFor, expr_of-Lambda, expr_of-ListFor}
+use Rattle.star_tree.proofs.Forms.{expr_of-DictFor, expr_of-Lambda, expr_of-ListFor}
 use Rattle.star_resolve.proofs.walk.+walk.Goals as goal
 use Rattle.star_resolve.proofs.walk.+walk.Goals.{put_clauses-in-ForIn+in_ok-put_expr-in-ForIn+then-waiting+in_ok-put_leave-in-ForIn+in_ok-put_expr-in-ForIn-2+in_ok-put_enter-in-ForIn, put_clauses-in-ForIn+in_ok-put_expr-in-ForIn+else-waiting+in_ok-put_expr-in-ForIn-3, put_clauses-in-OnlyIf+in_ok-put_expr-in-OnlyIf}
 

@@ -16,7 +16,7 @@ use Rattle.star_tree.specs.declared.code.Piece as piece
 use Rattle.star_tree.specs.declared.code.Expr as held
 use Rattle.star_tree.specs.declared.code.Expr.{Expr, the_lemmas}
 use Rattle.star_tree.specs.Whole.{binary_operator_of, default_part, expr_of, expr_part, exprs_of, for_part, if_part, optional_from, parameter_of, parameters_of, unary_operator_of, written_part}
-use Rattle.star_resolve.specs.Views.{clause_of, clauses_of, entries_of, entry_of, optional_of, piece_of, pieces_of}
+use Rattle.star_tree.specs.Listed.{clause_of, clauses_of, entries_of, entry_of, optional_of, piece_of, pieces_of}
 
 pub expr_of-Int : (file line : ℕ) (z : ℤ) → expr_of file (held.Int line z) ≡ plain.int (place_at file line) z
 expr_of-Int file line z = search (rules, the_lemmas)
