@@ -266,13 +266,14 @@ module _ {H : Type 0} where
       let once : each_once names ≡ added [] names = once_added [] names in
       let made : with_boxes names [] s ≡ done (boxed n (each_once names) []) (with_unset (length (each_once names)) s) =
       boxes_made names [] [] s (λ x. refl) ∙ (λ i. done (boxed n (sym once i) []) (with_unset (length (sym once i)) s))
-      in
-      (made,
-      record {
-        boxes = λ x. ap (λ ns. box_of x (boxed n ns [])) once ∙ boxed_found x names [] n [] (λ z. refl) ∙ ap (λ ns. box_by x ns (counted n (length ns))) (sym once)
-        ∙ by_place x (each_once names) (counted n (length (each_once names)));
-        known = λ x. more_boxes names [] (boxed n (each_once names) []) s (with_unset (length (each_once names)) s) made x
-      })
+      in (
+        made,
+        record {
+          boxes = λ x. ap (λ ns. box_of x (boxed n ns [])) once ∙ boxed_found x names [] n [] (λ z. refl) ∙ ap (λ ns. box_by x ns (counted n (length ns))) (sym once)
+              ∙ by_place x (each_once names) (counted n (length (each_once names)));
+          known = λ x. more_boxes names [] (boxed n (each_once names) []) s (with_unset (length (each_once names)) s) made x;
+        },
+      )
 
   -- ---- calls
 
@@ -300,14 +301,16 @@ module _ {H : Type 0} where
       let first : each (λ (b : Name × ℕ). b.0) own ≡ parameters = names_boxed bs own s t made ∙ all_names_bound ps ds vs bs allowed h in
       let knows : Knows own parameters = λ x. given_boxes bs own s t made x ∙ ap (binds x) (all_names_bound ps ds vs bs allowed h) ∙ binds_any x parameters in
       let once : each_once (parameters ++ names) ≡ parameters ++ others = once_both parameters names distinct in
-      let boxes : with_boxes names own t ≡ done (boxed n others own) (with_unset (length others) t) = boxes_made names parameters own t knows in
-      (once, boxes,
-      record {
-        boxes = λ x. boxed_found x names parameters n own knows
-        ∙ ap (λ o. or_else o (box_by x others (counted n (length others)))) (env_places x own ∙ ap (λ ns. box_by x ns frame) first)
-        ∙ sym (by_both x parameters others frame (counted n (length others)) (same_length own ∙ ap length first))
-        ∙ by_place x (parameters ++ others) (frame ++ counted n (length others))
-        ∙ ap (λ ns. box_in (frame ++ counted n (length others)) (position (bytes_eq x) ns)) (sym once);
-        known = λ x. more_boxes names own (boxed n others own) t (with_unset (length others) t) boxes x
-        ∙ ap (λ b. b || binds x names) (given_boxes bs own s t made x ∙ ap (binds x) (all_names_bound ps ds vs bs allowed h)) ∙ sym (binds_either x parameters names)
-      })
+      let boxes : with_boxes names own t ≡ done (boxed n others own) (with_unset (length others) t) = boxes_made names parameters own t knows in (
+        once,
+        boxes,
+        record {
+          boxes = λ x. boxed_found x names parameters n own knows
+              ∙ ap (λ o. or_else o (box_by x others (counted n (length others)))) (env_places x own ∙ ap (λ ns. box_by x ns frame) first)
+              ∙ sym (by_both x parameters others frame (counted n (length others)) (same_length own ∙ ap length first))
+              ∙ by_place x (parameters ++ others) (frame ++ counted n (length others))
+              ∙ ap (λ ns. box_in (frame ++ counted n (length others)) (position (bytes_eq x) ns)) (sym once);
+          known = λ x. more_boxes names own (boxed n others own) t (with_unset (length others) t) boxes x
+              ∙ ap (λ b. b || binds x names) (given_boxes bs own s t made x ∙ ap (binds x) (all_names_bound ps ds vs bs allowed h)) ∙ sym (binds_either x parameters names);
+        },
+      )

@@ -3,6 +3,7 @@ pub mod Boxes
 pub mod Clauses
 pub mod Found
 pub mod Frames
+pub mod Functions
 pub mod Gathering
 pub mod Nesting
 pub mod Putting

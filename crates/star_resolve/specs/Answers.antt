@@ -68,6 +68,10 @@ abbrev pub refused : List Answer → Option Fault
 refused [] = None
 refused (a ∷ more) = refused_if a.found (unknown_name a.place a.name) (refused more)
 
+-- what is answered to the names of a program whose file and functions bind these names
+abbrev pub scoped_answers : (globals : List Name) → (functions : List (List Name)) → (builtins : List Name) → List Instruction → List Answer
+scoped_answers globals functions builtins is = answers globals (each_once builtins) [] (program_events functions is)
+
 -- what is answered to the names of a program
 abbrev pub program_answers : (builtins : List Name) → List Instruction → List Answer
-program_answers builtins is = answers (each_once (front (all_names is))) (each_once builtins) [] (program_events (behind (all_names is)) is)
+program_answers builtins is = scoped_answers (each_once (front (all_names is))) (behind (all_names is)) builtins is

@@ -9,6 +9,7 @@ mod levels;
 mod names;
 mod program;
 mod scope;
+mod scopes;
 mod walk;
 
 pub use binding::{Resolved, Variables, resolve};
