@@ -119,6 +119,7 @@ answers_are : (globals builtins : List Name) (ls : Levels) (es : List Event) →
 answers_are globals builtins ls [] = refl
 answers_are globals builtins ls (event.Name p x ∷ es) =
     λ i. record { place = p; name = x; found = found_is globals builtins ls p x i } ∷ answers_are globals builtins ls es i
+answers_are globals builtins ls (event.Function n ∷ es) = answers_are globals builtins ls es
 answers_are globals builtins ls (event.Enter names ∷ es) = answers_are globals builtins (Some names ∷ ls) es
 answers_are globals builtins ls (event.Block ∷ es) = answers_are globals builtins (None ∷ ls) es
 answers_are globals builtins ls (event.Leave ∷ es) =

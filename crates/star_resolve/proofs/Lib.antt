@@ -1,3 +1,4 @@
+pub mod Announced
 pub mod Binders
 pub mod Boxes
 pub mod Clauses

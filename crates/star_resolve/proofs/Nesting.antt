@@ -9,8 +9,9 @@ use Rattle.star_spec.specs.Allowed.{parameter_names}
 use Rattle.star_spec.specs.Scopes.{Use, use_at, arms_names, arms_uses, expr_uses, op_names, op_uses, ops_names, ops_uses, parameters_uses, names_of_file, program_names, program_uses, uses_of_file}
 use Rattle.ytt_base.specs.declared.fault.Place.{Place}
 use Rattle.star_resolve.specs.Events.{program_events}
+use Rattle.star_resolve.specs.Functions.{scope_size}
 use Rattle.star_resolve.specs.Gathered.{all_names, behind, front, gathered, merged, with_names}
-use Rattle.star_resolve.proofs.Running.{Levels, a_name, begins, enters, expr_runs, last, next, outer_levels, parameters_run, part_runs, run, scopes_in, statement_runs}
+use Rattle.star_resolve.proofs.Running.{Levels, a_name, announces, begins, enters, expr_runs, last, next, outer_levels, parameters_run, part_runs, run, scopes_in, statement_runs}
 
 -- no block is closed where it shouldn't be
 abbrev pub Sound : Parsed → Type 0
@@ -212,7 +213,7 @@ events_run (begin_for p x e ∷ is) ls s =
 events_run (begin_def p n kind x ps ∷ is) ls s =
     let t = block_sound (op_def p n kind x ps) (parse is) s in
     let names = parameter_names ps ++ reverse (front (gathered is).inner) in
-    (next (a_name ls p x) (last (parameters_run ps ls) (enters ls names))).all (program_events (gathered is).functions is)
+    (next (a_name ls p x) (next (announces ls (scope_size names)) (last (parameters_run ps ls) (enters ls names)))).all (program_events (gathered is).functions is)
     ∙ ap (λ us. (use_at (scopes_in ls) p x ∷ parameters_uses (scopes_in ls) ps) ++ us) (events_run is (Some names ∷ ls) t)
     ∙ def_uses ls p n kind x ps (parse is) s names (ap (λ l. parameter_names ps ++ reverse (front l)) (inner_names is t))
 events_run (close p ∷ is) ls s = events_run is (outer_levels ls) s

@@ -24,6 +24,7 @@ left (l ∷ ls) = ls
 
 abbrev pub after_event : Event → Open → Open
 after_event (event.Name p x) ls = ls
+after_event (event.Function n) ls = ls
 after_event (event.Enter names) ls = Some (each_once names) ∷ ls
 after_event event.Block ls = None ∷ ls
 after_event event.Leave ls = left ls
@@ -48,6 +49,7 @@ pub record Answer : Type 0 where
 
 abbrev pub answer_here : (globals builtins : List Name) → Open → Event → List Answer
 answer_here globals builtins ls (event.Name p x) = record { place = p; name = x; found = found globals builtins ls x } ∷ []
+answer_here globals builtins ls (event.Function n) = []
 answer_here globals builtins ls (event.Enter names) = []
 answer_here globals builtins ls event.Block = []
 answer_here globals builtins ls event.Leave = []
@@ -68,10 +70,6 @@ abbrev pub refused : List Answer → Option Fault
 refused [] = None
 refused (a ∷ more) = refused_if a.found (unknown_name a.place a.name) (refused more)
 
--- what is answered to the names of a program whose file and functions bind these names
-abbrev pub scoped_answers : (globals : List Name) → (functions : List (List Name)) → (builtins : List Name) → List Instruction → List Answer
-scoped_answers globals functions builtins is = answers globals (each_once builtins) [] (program_events functions is)
-
 -- what is answered to the names of a program
 abbrev pub program_answers : (builtins : List Name) → List Instruction → List Answer
-program_answers builtins is = scoped_answers (each_once (front (all_names is))) (behind (all_names is)) builtins is
+program_answers builtins is = answers (each_once (front (all_names is))) (each_once builtins) [] (program_events (behind (all_names is)) is)

@@ -2,12 +2,13 @@
 ghost use Rattle.std.specs.Prelude.{◌≡◌, ◌∷◌, ◌++◌, [], reverse, IfOk, OnOk};
 ghost use Rattle.star_resolve.specs.declared.event.Event.TheVariants as event;
 ghost use Rattle.star_resolve.specs.Events.{functions_after, instruction_events, loaded_events, parameters_events, part_events, program_events};
+ghost use Rattle.star_resolve.specs.Functions.{scope_size};
 ghost use Rattle.star_resolve.specs.Gathered.{behind, front};
 ghost use Rattle.star_tree.specs.Whole.{instruction_of, loaded_names_of, parameters_of, part_of, program_of};
 ghost use Rattle.ytt_base.specs.Outcomes.{place_at};
 
 use crate::event::{Event, Events, put_name};
-use crate::walk::{put_expr, put_exprs, put_leave, put_params};
+use crate::walk::{put_expr, put_exprs, put_function, put_leave, put_params};
 use sqlite_items::Items;
 use star_tree::code::{Loaded, NodeOp, Params, Program, Stmt};
 use std::alloc::Global;
@@ -55,8 +56,9 @@ fn put_def(
     names: Texts,
     events: &mut Events,
 ) -> Result<(), Memory>
-    ensures { OnOk result (events.new ≡ events.old ++ (parameters_events (parameters_of file params.now) ++ event.Enter names ∷ [])) }
+    ensures { OnOk result (events.new ≡ events.old ++ (event.Function (scope_size names) ∷ (parameters_events (parameters_of file params.now) ++ event.Enter names ∷ []))) }
 {
+    put_function(alloc, &names, events)?;
     put_params(alloc, file, params, events)?;
     events.push(Event::Enter(names))?;
     Ok(())
