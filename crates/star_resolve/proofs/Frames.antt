@@ -1,22 +1,22 @@
 -- The boxes of variables.
-use Rattle.std.proofs.Common.{◌≡◌, ℕ, zero, suc, ◌+◌, Bool, true, false, ◌||◌, not, ◌&&◌, cond, List, [], ◌∷◌, ◌++◌, length, Option, Some, None, is_some, if◌then◌else◌, IsTrue, refl, sym, ap, ◌∙◌, append_assoc, append-nil, arith, map as each}
+use Rattle.std.proofs.Common.{◌≡◌, ℕ, suc, ◌+◌, Bool, true, false, ◌||◌, not, ◌&&◌, cond, List, [], ◌∷◌, ◌++◌, length, Option, Some, None, is_some, if◌then◌else◌, IsTrue, refl, sym, ap, ◌∙◌, append_assoc, append-nil, arith, map as each}
 use Rattle.std.proofs.lemmas.Slice.Eq.{bytes_eq-Decides}
 use Rattle.std.specs.List.{list_any, position, position_or_len, slice_get}
 use Rattle.std.specs.Prelude.{bytes_eq}
-use Rattle.star_spec.specs.Allowed.{AllowedParameters, all_left, are_distinct, has_name, parameter_names}
-use Rattle.star_spec.specs.Binding.{Given, given, rest_given, all_bound, boxes_of, value_given}
-use Rattle.star_spec.specs.Code.{Name, Parameters}
+use Rattle.star_spec.specs.Allowed.{are_distinct, has_name, parameter_names}
+use Rattle.star_spec.specs.Binding.{Given, given, rest_given, boxes_of, value_given}
+use Rattle.star_spec.specs.Code.{Name}
 use Rattle.star_spec.specs.Keys.{further, or_else}
 use Rattle.star_spec.specs.Names.{box_of, with_box, with_boxes}
 use Rattle.star_spec.specs.Outcomes.{State, Ending, done, bad, then_do, give, on_store}
-use Rattle.star_spec.specs.Scopes.{Around, Use, binds, home_by, home_of, outward}
+use Rattle.star_spec.specs.Scopes.{Around, Use, binds, home_by, outward}
 use Rattle.star_spec.specs.Store.{object, with_object}
-use Rattle.star_spec.specs.Values.{Value, Arguments, Env, of_box}
-use Rattle.star_resolve.specs.Environments.{BoxesOf, Parts, box_at_home, has_box, joined, part_at}
+use Rattle.star_spec.specs.Values.{Env, of_box}
+use Rattle.star_resolve.specs.Environments.{Parts, box_at_home, part_at}
 use Rattle.star_resolve.specs.Frames.{CallFrames, Frame, FrameOf, Frames, NamesAreVariables, NewFrames, added, box_in, boxed, counted, frame_at, unset_boxes, variable_box, with_unset}
-use Rattle.star_resolve.specs.Variables.{each_once, number_in, scope_at, variable_at, variable_of, with_each, with_name}
+use Rattle.star_resolve.specs.Variables.{each_once, number_in, scope_at, variable_at, with_each, with_name}
 use Rattle.star_resolve.proofs.Boxes.{all_names_bound, binds_either, given_boxes, given_names, more_boxes, names_have_their_boxes, pushed}
-use Rattle.star_resolve.proofs.Found.{any_more, bytes_eq-sym, or_false, position_is}
+use Rattle.star_resolve.proofs.Found.{any_more, bytes_eq-sym, position_is}
 use Rattle.star_resolve.proofs.Sets.{position_by}
 
 -- ---- names around a place

@@ -1,6 +1,6 @@
 -- The boxes of variables, by their numbers, against the environments in which code is evaluated, which have a box for each
 -- name: so that what is said of names holds of their variables.
-use Rattle.std.specs.Prelude.{◌≡◌, ℕ, zero, suc, true, List, [], ◌∷◌, ◌++◌, length, slice_get, Option, Some, None, is_some, bytes_eq, position, if◌then◌else◌, map as each, IsTrue}
+use Rattle.std.specs.Prelude.{◌≡◌, ℕ, zero, suc, List, [], ◌∷◌, ◌++◌, length, slice_get, Option, Some, None, is_some, bytes_eq, position, if◌then◌else◌, map as each, IsTrue}
 use Rattle.std.specs.List.{list_any}
 use Rattle.star_spec.specs.Allowed.{AllowedParameters, all_left, are_distinct, parameter_names}
 use Rattle.star_spec.specs.Binding.{Given, all_bound, boxes_of}

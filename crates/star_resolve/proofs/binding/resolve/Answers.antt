@@ -1,4 +1,4 @@
-use Rattle.std.proofs.Common.{◌≡◌, List, [], Err, length, rules, sym, ap, ◌∙◌, map as each}
+use Rattle.std.proofs.Common.{◌≡◌, List, [], Err, length, rules, sym, ap, ◌∙◌}
 use Rattle.star_spec.specs.Code.{Name}
 use Rattle.star_spec.specs.Program.{Instruction}
 use Rattle.star_resolve.specs.declared.event.Event.{Event}
