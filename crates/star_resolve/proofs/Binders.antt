@@ -6,7 +6,7 @@ use Rattle.star_tree.specs.declared.code.Clause.{Clause}
 use Rattle.star_tree.specs.declared.code.Param.{Param}
 use Rattle.star_tree.specs.Whole as whole
 use Rattle.star_tree.specs.Whole.{clauses_from, for_part, if_part, named_part, default_part, bare_part, star_part, stars_part, parameter_of, parameters_from, parameters_of}
-use Rattle.star_resolve.specs.Views.{clause_of, clauses_of}
+use Rattle.star_tree.specs.Listed.{clause_of, clauses_of}
 
 clause_names : (c : whole.Clause) (cs : List whole.Clause) → clauses_names (clauses_from (c ∷ cs)) ≡ clauses_names (clauses_from (c ∷ [])) ++ clauses_names (clauses_from cs)
 clause_names (for_part x e) cs = ap (λ l. l ++ clauses_names (clauses_from cs)) (sym (append-nil (target_names x)))

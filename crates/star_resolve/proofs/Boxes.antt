@@ -100,7 +100,7 @@ fresh_box o r more false = refl
 
 -- ---- the names that arguments are bound to
 
-abbrev given_names : List (Name × Given) → List Name
+abbrev pub given_names : List (Name × Given) → List Name
 given_names bs = each (λ (b : Name × Given). b.0) bs
 
 front_name : (x : Name) (o : Option Value) (r : Option (List (Name × Given))) (bs : List (Name × Given)) (names : List Name) → in_front x o r ≡ Some bs →
@@ -147,14 +147,14 @@ once_bound : (b : Bool) (ps : Parameters) (ds : List Value) (vs : Values) (fs : 
 once_bound true ps ds vs fs bs a h = cc
 once_bound false ps ds vs fs bs a h = names_bound all_left ps ds vs fs bs a h
 
-all_names_bound : (ps : Parameters) (ds : List Value) (vs : Arguments) (bs : List (Name × Given)) → AllowedParameters all_left ps → all_bound ps ds vs ≡ Some bs → given_names bs ≡ parameter_names ps
+pub all_names_bound : (ps : Parameters) (ds : List Value) (vs : Arguments) (bs : List (Name × Given)) → AllowedParameters all_left ps → all_bound ps ds vs ≡ Some bs → given_names bs ≡ parameter_names ps
 all_names_bound ps ds (arguments vs fs) bs a h = once_bound (has_twice fs) ps ds vs fs bs a h
 
 or_both : (a b c : Bool) → (a || (b || c)) ≡ ((a || b) || c)
 or_both true b c = refl
 or_both false b c = refl
 
-binds_either : (x : Name) (a b : List Name) → binds x (a ++ b) ≡ (binds x a || binds x b)
+pub binds_either : (x : Name) (a b : List Name) → binds x (a ++ b) ≡ (binds x a || binds x b)
 binds_either x [] b = refl
 binds_either x (y ∷ a) b = ap (λ c. bytes_eq y x || c) (binds_either x a b) ∙ or_both (bytes_eq y x) (binds x a) (binds x b)
 
@@ -164,7 +164,7 @@ first_box false r o = refl
 
 module _ {H : Type 0} where
   -- after a box for a value
-  abbrev pushed : Value → State H → State H
+  abbrev pub pushed : Value → State H → State H
   pushed v s = on_store (with_object (of_box (Some v))) s
 
   same_end : {A : Type 0} (a b : A) (s t : State H) → done a s ≡ done b t → a ≡ b
@@ -177,7 +177,7 @@ module _ {H : Type 0} where
   one_name y ys env own s t None h e more x =
       more ((y, length s.store) ∷ env) _ e x ∙ fresh_box (box_of x env) (length s.store) (binds x ys) (bytes_eq y x)
 
-  more_boxes : (names : List Name) (env own : Env) (s t : State H) → with_boxes names env s ≡ done own t → (x : Name) → is_some (box_of x own) ≡ (is_some (box_of x env) || binds x names)
+  pub more_boxes : (names : List Name) (env own : Env) (s t : State H) → with_boxes names env s ≡ done own t → (x : Name) → is_some (box_of x own) ≡ (is_some (box_of x env) || binds x names)
   more_boxes [] env own s t e x = ap (λ all. is_some (box_of x all)) (sym (same_end env own s t e)) ∙ or_false (is_some (box_of x env))
   more_boxes (y ∷ ys) env own s t e x = one_name y ys env own s t (box_of y env) refl e (λ before u. more_boxes ys before own u t) x
 
@@ -199,7 +199,7 @@ module _ {H : Type 0} where
   valued (given v) y names own s t rest e more = boxed y (length s.store) names own t (rest (pushed v s)) e (more (pushed v s))
   valued (rest_given fs) y names own s t rest e more = boxed y _ names own t (rest _) e (more _)
 
-  given_boxes : (bs : List (Name × Given)) (own : Env) (s t : State H) → boxes_of bs s ≡ done own t → (x : Name) → is_some (box_of x own) ≡ binds x (given_names bs)
+  pub given_boxes : (bs : List (Name × Given)) (own : Env) (s t : State H) → boxes_of bs s ≡ done own t → (x : Name) → is_some (box_of x own) ≡ binds x (given_names bs)
   given_boxes [] own s t e x = ap (λ all. is_some (box_of x all)) (sym (same_end [] own s t e))
   given_boxes (b ∷ bs) own s t e x = valued b.1 b.0 (given_names bs) own s t (boxes_of bs) e (λ before env u. given_boxes bs env before u) x
 

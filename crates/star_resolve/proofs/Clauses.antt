@@ -9,9 +9,9 @@ use Rattle.star_tree.specs.Whole.{clauses_from, expr_of}
 use Rattle.star_resolve.specs.declared.event.Event.{Event}
 use Rattle.star_resolve.specs.declared.event.Event.TheVariants as event
 use Rattle.star_resolve.specs.Events.{clauses_events, expr_events}
-use Rattle.star_resolve.specs.Views.{clause_of, clauses_of}
+use Rattle.star_tree.specs.Listed.{clause_of, clauses_of}
 use Rattle.star_resolve.proofs.Putting.{put_turn}
-use Rattle.star_resolve.proofs.Views.{clause_of-ForIn, clause_of-OnlyIf}
+use Rattle.star_tree.proofs.Forms.{clause_of-ForIn, clause_of-OnlyIf}
 
 pub first_for : (file : ℕ) (names : List Name) (c : Clause) (t m : tree.Expr) → c ≡ held.ForIn t m → (cs : List Clause) →
     clauses_events true names (clauses_of file (c ∷ cs)) ≡ (expr_events (expr_of file t) ++ (event.Leave ∷ (expr_events (expr_of file m) ++ event.Enter names ∷ []))) ++ clauses_events false names (clauses_of file cs)

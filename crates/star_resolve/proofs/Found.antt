@@ -29,14 +29,14 @@ or_assoc : (a b c : Bool) → ((a || b) || c) ≡ (a || (b || c))
 or_assoc true b c = refl
 or_assoc false b c = refl
 
-bytes_eq-sym : (a b : List ℕ) → bytes_eq a b ≡ bytes_eq b a
+pub bytes_eq-sym : (a b : List ℕ) → bytes_eq a b ≡ bytes_eq b a
 bytes_eq-sym a b = same_from_decides (bytes_eq a b) (bytes_eq b a) (bytes_eq-Decides a b) (Decides-like (bytes_eq b a) sym sym (bytes_eq-Decides b a))
 
-or_false : (a : Bool) → a ≡ (a || false)
+pub or_false : (a : Bool) → a ≡ (a || false)
 or_false true = refl
 or_false false = refl
 
-any_more : (x y : Name) (ns : List Name) → list_any (bytes_eq x) (ns ++ y ∷ []) ≡ (list_any (bytes_eq x) ns || bytes_eq x y)
+pub any_more : (x y : Name) (ns : List Name) → list_any (bytes_eq x) (ns ++ y ∷ []) ≡ (list_any (bytes_eq x) ns || bytes_eq x y)
 any_more x y [] = sym (or_false (bytes_eq x y))
 any_more x y (n ∷ ns) = ap (λ b. bytes_eq x n || b) (any_more x y ns) ∙ sym (or_assoc (bytes_eq x n) (list_any (bytes_eq x) ns) (bytes_eq x y))
 
@@ -62,7 +62,7 @@ any_each x ns (y ∷ ys) =
     ∙ or_assoc (list_any (bytes_eq x) ns) (bytes_eq y x) (binds x ys)
 
 -- the position of a name is its number, where it is bound
-position_is : (x : Name) (names : List Name) → position (bytes_eq x) (each_once names) ≡ cond (binds x names) (Some (number_in names x)) None
+pub position_is : (x : Name) (names : List Name) → position (bytes_eq x) (each_once names) ≡ cond (binds x names) (Some (number_in names x)) None
 position_is x names = position_by (bytes_eq x) (each_once names) ∙ ap (λ b. cond b (Some (number_in names x)) None) (any_each x [] names)
 
 -- ---- scopes
@@ -119,6 +119,7 @@ answers_are : (globals builtins : List Name) (ls : Levels) (es : List Event) →
 answers_are globals builtins ls [] = refl
 answers_are globals builtins ls (event.Name p x ∷ es) =
     λ i. record { place = p; name = x; found = found_is globals builtins ls p x i } ∷ answers_are globals builtins ls es i
+answers_are globals builtins ls (event.Function n ∷ es) = answers_are globals builtins ls es
 answers_are globals builtins ls (event.Enter names ∷ es) = answers_are globals builtins (Some names ∷ ls) es
 answers_are globals builtins ls (event.Block ∷ es) = answers_are globals builtins (None ∷ ls) es
 answers_are globals builtins ls (event.Leave ∷ es) =

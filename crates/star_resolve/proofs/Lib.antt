@@ -1,7 +1,10 @@
+pub mod Announced
 pub mod Binders
 pub mod Boxes
 pub mod Clauses
 pub mod Found
+pub mod Frames
+pub mod Functions
 pub mod Gathering
 pub mod Nesting
 pub mod Putting
@@ -9,4 +12,3 @@ mod Rows
 pub mod Running
 pub mod Sets
 pub mod Told
-pub mod Views

@@ -9,23 +9,24 @@ use Rattle.star_spec.specs.Allowed.{parameter_names}
 use Rattle.star_spec.specs.Scopes.{Use, use_at, arms_names, arms_uses, expr_uses, op_names, op_uses, ops_names, ops_uses, parameters_uses, names_of_file, program_names, program_uses, uses_of_file}
 use Rattle.ytt_base.specs.declared.fault.Place.{Place}
 use Rattle.star_resolve.specs.Events.{program_events}
+use Rattle.star_resolve.specs.Functions.{scope_size}
 use Rattle.star_resolve.specs.Gathered.{all_names, behind, front, gathered, merged, with_names}
-use Rattle.star_resolve.proofs.Running.{Levels, a_name, begins, enters, expr_runs, last, next, outer_levels, parameters_run, part_runs, run, scopes_in, statement_runs}
+use Rattle.star_resolve.proofs.Running.{Levels, a_name, announces, begins, enters, expr_runs, last, next, outer_levels, parameters_run, part_runs, run, scopes_in, statement_runs}
 
 -- no block is closed where it shouldn't be
-abbrev Sound : Parsed → Type 0
+abbrev pub Sound : Parsed → Type 0
 Sound broken = ⊥
 Sound (at_top os) = Unit {0}
 Sound (inside os arms outer) = Sound outer
 
-put_sound : (o : Op) (q : Parsed) → Sound (put o q) → Sound q
+pub put_sound : (o : Op) (q : Parsed) → Sound (put o q) → Sound q
 put_sound o broken s = s
 put_sound o (at_top os) s = tt
 put_sound o (inside os arms outer) s = s
 
 -- ---- the names of blocks
 
-abbrev level_names : Parsed → List (List Name)
+abbrev pub level_names : Parsed → List (List Name)
 level_names broken = []
 level_names (at_top os) = reverse (ops_names os) ∷ []
 level_names (inside os arms outer) = reverse (ops_names os ++ arms_names arms) ∷ level_names outer
@@ -53,7 +54,7 @@ merged_names xs broken s = absurd s
 merged_names xs (at_top os) s = refl
 merged_names xs (inside os arms outer) s = refl
 
-if_sound : (p : Place) (e : Expr) (q : Parsed) → Sound (open_if p e q) → Sound q
+pub if_sound : (p : Place) (e : Expr) (q : Parsed) → Sound (open_if p e q) → Sound q
 if_sound p e broken s = s
 if_sound p e (at_top os) s = tt
 if_sound p e (inside os arms outer) s = put_sound (op_if p (arm e os arms)) outer s
@@ -66,7 +67,7 @@ if_names p e (inside os arms outer) s =
     let t = put_sound o outer s in
     no_more (merged (level_names (inside os arms outer))) ∙ merged_names (op_names o) outer t ∙ sym (put_names o outer t)
 
-arm_sound : (e : Expr) (q : Parsed) → Sound (next_arm e q) → Sound q
+pub arm_sound : (e : Expr) (q : Parsed) → Sound (next_arm e q) → Sound q
 arm_sound e broken s = s
 arm_sound e (at_top os) s = tt
 arm_sound e (inside os arms outer) s = s
@@ -76,7 +77,7 @@ arm_names e broken s = absurd s
 arm_names e (at_top os) s = absurd s
 arm_names e (inside os arms outer) s = no_more (level_names (inside os arms outer))
 
-else_sound : (q : Parsed) → Sound (last_arm q) → Sound q
+pub else_sound : (q : Parsed) → Sound (last_arm q) → Sound q
 else_sound broken s = s
 else_sound (at_top os) s = tt
 else_sound (inside os no_arm outer) s = s
@@ -90,7 +91,7 @@ else_names (inside os no_arm outer) s = no_more (level_names (inside os no_arm o
 else_names (inside os (else_arm x) outer) s = absurd s
 else_names (inside os (arm e x more) outer) s = absurd s
 
-block_sound : (f : Ops → Op) (q : Parsed) → Sound (open_block f q) → Sound q
+pub block_sound : (f : Ops → Op) (q : Parsed) → Sound (open_block f q) → Sound q
 block_sound f broken s = s
 block_sound f (at_top os) s = tt
 block_sound f (inside os no_arm outer) s = put_sound (f os) outer s
@@ -117,7 +118,7 @@ def_names p n kind x ps (inside os no_arm outer) s = sym (put_names (op_def p n 
 def_names p n kind x ps (inside os (else_arm y) outer) s = absurd s
 def_names p n kind x ps (inside os (arm d y more) outer) s = absurd s
 
-inner_names : (is : List Instruction) → Sound (parse is) → (gathered is).inner ≡ level_names (parse is)
+pub inner_names : (is : List Instruction) → Sound (parse is) → (gathered is).inner ≡ level_names (parse is)
 inner_names [] s = refl
 inner_names (part o ∷ is) s =
     let t = put_sound (op_part o) (parse is) s in ap (with_names []) (inner_names is t) ∙ sym (put_names (op_part o) (parse is) t)
@@ -212,14 +213,14 @@ events_run (begin_for p x e ∷ is) ls s =
 events_run (begin_def p n kind x ps ∷ is) ls s =
     let t = block_sound (op_def p n kind x ps) (parse is) s in
     let names = parameter_names ps ++ reverse (front (gathered is).inner) in
-    (next (a_name ls p x) (last (parameters_run ps ls) (enters ls names))).all (program_events (gathered is).functions is)
+    (next (a_name ls p x) (next (announces ls (scope_size names)) (last (parameters_run ps ls) (enters ls names)))).all (program_events (gathered is).functions is)
     ∙ ap (λ us. (use_at (scopes_in ls) p x ∷ parameters_uses (scopes_in ls) ps) ++ us) (events_run is (Some names ∷ ls) t)
     ∙ def_uses ls p n kind x ps (parse is) s names (ap (λ l. parameter_names ps ++ reverse (front l)) (inner_names is t))
 events_run (close p ∷ is) ls s = events_run is (outer_levels ls) s
 
 -- ---- programs
 
-whole_sound : (q : Parsed) → IsSome (whole q) → Sound q
+pub whole_sound : (q : Parsed) → IsSome (whole q) → Sound q
 whole_sound broken h = absurd (cc)
 whole_sound (at_top os) h = tt
 whole_sound (inside os arms outer) h = absurd (cc)

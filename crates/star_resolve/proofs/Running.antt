@@ -1,6 +1,6 @@
 -- Events, one after another, where the scopes around are those that were entered and not left: the names in them are the
 -- uses of the code that they are of.
-use Rattle.std.proofs.Common.{◌≡◌, List, [], ◌∷◌, ◌++◌, Option, Some, None, true, false, refl, sym, ap, ◌∙◌, append_assoc}
+use Rattle.std.proofs.Common.{◌≡◌, ℕ, List, [], ◌∷◌, ◌++◌, Option, Some, None, true, false, refl, sym, ap, ◌∙◌, append_assoc}
 use Rattle.star_spec.specs.Code as code
 use Rattle.star_spec.specs.Code.{Name, Expr, Exprs, no_exprs, an_expr, OptionalExpr, absent, present, Entries, no_entries, an_entry, Clauses, no_clauses, for_clause, if_clause, Pieces, no_pieces, text_piece, expr_piece, Parameters, no_parameters, required, defaulted, bare_star, starred_parameter, double_starred_parameter, LoadedNames, no_loaded, a_loaded, Statement, evaluate, assign, augment, load, return, break, continue, pass}
 use Rattle.star_spec.specs.Names.{clauses_names}
@@ -10,6 +10,7 @@ use Rattle.star_spec.specs.Scopes.{Around, Use, use_at, clauses_uses, entries_us
 use Rattle.ytt_base.specs.declared.fault.Place.{Place}
 use Rattle.star_resolve.specs.declared.event.Event.{Event}
 use Rattle.star_resolve.specs.declared.event.Event.TheVariants as event
+use Rattle.star_resolve.specs.Functions.{scope_size}
 use Rattle.star_resolve.specs.Events.{clauses_events, entries_events, expr_events, exprs_events, loaded_events, optional_events, parameters_events, part_events, pieces_events, statement_events}
 
 -- what is open at a place, the innermost first: a scope with its names, or a block that has none
@@ -29,6 +30,7 @@ scopes_in (Some names ∷ ls) = names ∷ scopes_in ls
 abbrev pub run : Levels → List Event → List Use
 run ls [] = []
 run ls (event.Name p x ∷ es) = use_at (scopes_in ls) p x ∷ run ls es
+run ls (event.Function n ∷ es) = run ls es
 run ls (event.Enter names ∷ es) = run (Some names ∷ ls) es
 run ls (event.Block ∷ es) = run (None ∷ ls) es
 run ls (event.Leave ∷ es) = run (outer_levels ls) es
@@ -42,6 +44,9 @@ nothing ls = record { all = λ rest. refl }
 
 pub a_name : (ls : Levels) (p : Place) (x : Name) → Runs ls ls (event.Name p x ∷ []) (use_at (scopes_in ls) p x ∷ [])
 a_name ls p x = record { all = λ rest. refl }
+
+pub announces : (ls : Levels) (n : ℕ) → Runs ls ls (event.Function n ∷ []) []
+announces ls n = record { all = λ rest. refl }
 
 pub enters : (ls : Levels) (names : List Name) → Runs ls (Some names ∷ ls) (event.Enter names ∷ []) []
 enters ls names = record { all = λ rest. refl }
@@ -82,7 +87,8 @@ mutual
   expr_runs (code.slice p a l h d) ls = next (expr_runs a ls) (next (optional_runs l ls) (next (optional_runs h ls) (optional_runs d ls)))
   expr_runs (code.attribute p a x) ls = expr_runs a ls
   expr_runs (code.lambda p number ps e) ls =
-      next (parameters_run ps ls) (next (enters ls (parameter_names ps)) (last (expr_runs e (Some (parameter_names ps) ∷ ls)) (leaves (Some (parameter_names ps)) ls)))
+      next (announces ls (scope_size (parameter_names ps)))
+      (next (parameters_run ps ls) (next (enters ls (parameter_names ps)) (last (expr_runs e (Some (parameter_names ps) ∷ ls)) (leaves (Some (parameter_names ps)) ls))))
   expr_runs (code.list_comprehension p e cs) ls =
       next (enters ls (clauses_names cs)) (next (expr_runs e (Some (clauses_names cs) ∷ ls)) (first_clauses_run cs (clauses_names cs) ls))
   expr_runs (code.dict_comprehension p a b cs) ls =

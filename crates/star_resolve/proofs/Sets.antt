@@ -25,7 +25,7 @@ index_same : (x : List ℕ) (ks : List (String Global)) → position_or_len (λ 
 index_same x [] = refl
 index_same x (k ∷ ks) = ap (λ n. cond (not (bytes_eq x (string_bytes k))) (1 + n) 0) (index_same x ks)
 
-length_same : (ks : List (String Global)) → length ks ≡ length (each string_bytes ks)
+pub length_same : (ks : List (String Global)) → length ks ≡ length (each string_bytes ks)
 length_same [] = refl
 length_same (k ∷ ks) = ap suc (length_same ks)
 

@@ -24,6 +24,7 @@ left (l ∷ ls) = ls
 
 abbrev pub after_event : Event → Open → Open
 after_event (event.Name p x) ls = ls
+after_event (event.Function n) ls = ls
 after_event (event.Enter names) ls = Some (each_once names) ∷ ls
 after_event event.Block ls = None ∷ ls
 after_event event.Leave ls = left ls
@@ -48,6 +49,7 @@ pub record Answer : Type 0 where
 
 abbrev pub answer_here : (globals builtins : List Name) → Open → Event → List Answer
 answer_here globals builtins ls (event.Name p x) = record { place = p; name = x; found = found globals builtins ls x } ∷ []
+answer_here globals builtins ls (event.Function n) = []
 answer_here globals builtins ls (event.Enter names) = []
 answer_here globals builtins ls event.Block = []
 answer_here globals builtins ls event.Leave = []

@@ -1,5 +1,5 @@
 -- The events of code, in text order.
-use Rattle.std.specs.Prelude.{Bool, true, false, List, [], ◌∷◌, ◌++◌}
+use Rattle.std.specs.Prelude.{ℕ, Bool, true, false, List, [], ◌∷◌, ◌++◌}
 use Rattle.star_spec.specs.Code as code
 use Rattle.star_spec.specs.Code.{Name, Expr, Exprs, no_exprs, an_expr, OptionalExpr, absent, present, Entries, no_entries, an_entry, Clauses, no_clauses, for_clause, if_clause, Pieces, no_pieces, text_piece, expr_piece, Parameters, no_parameters, required, defaulted, bare_star, starred_parameter, double_starred_parameter, LoadedNames, no_loaded, a_loaded, Statement, evaluate, assign, augment, load, return, break, continue, pass}
 use Rattle.star_spec.specs.Program.{NodePart, node_start, node_note, node_key, node_key_from, node_value, node_value_from, node_end, Instruction, part, statement, begin_if, begin_elif, begin_else, begin_for, begin_def, close}
@@ -8,6 +8,7 @@ use Rattle.star_spec.specs.Names.{clauses_names}
 use Rattle.star_spec.specs.Allowed.{parameter_names}
 use Rattle.star_resolve.specs.declared.event.Event.{Event}
 use Rattle.star_resolve.specs.declared.event.Event.TheVariants as event
+use Rattle.star_resolve.specs.Functions.{scope_size}
 use Rattle.star_resolve.specs.Gathered.{front, behind}
 
 -- A comprehension is left for its first members, and entered anew behind them: that is still to come where it is
@@ -32,7 +33,7 @@ abbrev mutual
   expr_events (code.index p a i) = expr_events a ++ expr_events i
   expr_events (code.slice p a l h d) = expr_events a ++ (optional_events l ++ (optional_events h ++ optional_events d))
   expr_events (code.attribute p a x) = expr_events a
-  expr_events (code.lambda p number ps e) = parameters_events ps ++ (event.Enter (parameter_names ps) ∷ (expr_events e ++ event.Leave ∷ []))
+  expr_events (code.lambda p number ps e) = event.Function (scope_size (parameter_names ps)) ∷ (parameters_events ps ++ (event.Enter (parameter_names ps) ∷ (expr_events e ++ event.Leave ∷ [])))
   expr_events (code.list_comprehension p e cs) = event.Enter (clauses_names cs) ∷ (expr_events e ++ clauses_events true (clauses_names cs) cs)
   expr_events (code.dict_comprehension p a b cs) = event.Enter (clauses_names cs) ∷ (expr_events a ++ (expr_events b ++ clauses_events true (clauses_names cs) cs))
   expr_events (code.text_template p ps) = pieces_events ps
@@ -99,7 +100,7 @@ instruction_events names (begin_if p e) = expr_events e ++ event.Block ∷ []
 instruction_events names (begin_elif p e) = expr_events e
 instruction_events names (begin_else p) = []
 instruction_events names (begin_for p x e) = expr_events x ++ (expr_events e ++ event.Block ∷ [])
-instruction_events names (begin_def p number fragment x ps) = event.Name p x ∷ (parameters_events ps ++ event.Enter names ∷ [])
+instruction_events names (begin_def p number fragment x ps) = event.Name p x ∷ (event.Function (scope_size names) ∷ (parameters_events ps ++ event.Enter names ∷ []))
 instruction_events names (close p) = event.Leave ∷ []
 
 abbrev pub functions_after : Instruction → List (List Name) → List (List Name)
@@ -116,3 +117,12 @@ functions_after (close p) functions = functions
 abbrev pub program_events : (functions : List (List Name)) → List Instruction → List Event
 program_events functions [] = []
 program_events functions (i ∷ is) = instruction_events (front functions) i ++ program_events (functions_after i functions) is
+
+-- how many variables the functions have that stand in events
+abbrev pub sizes_in : List Event → List ℕ
+sizes_in [] = []
+sizes_in (event.Function n ∷ es) = n ∷ sizes_in es
+sizes_in (event.Name p x ∷ es) = sizes_in es
+sizes_in (event.Enter names ∷ es) = sizes_in es
+sizes_in (event.Block ∷ es) = sizes_in es
+sizes_in (event.Leave ∷ es) = sizes_in es

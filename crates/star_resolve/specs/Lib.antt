@@ -1,6 +1,7 @@
 pub mod Answers
 pub mod Environments
 pub mod Events
+pub mod Frames
+pub mod Functions
 pub mod Gathered
 pub mod Variables
-pub mod Views

@@ -1,15 +1,16 @@
 // Each name of a program as a variable.
 ghost use Rattle.std.specs.Prelude.{◌≡◌, ◌∷◌, ◌++◌, [], Some, None, reverse, map as each, IfOk, OnOk, IsSome};
 ghost use Rattle.star_spec.specs.Blocks.{blocks};
-ghost use Rattle.star_resolve.specs.Answers.{answer_here, answers, found_in, program_answers, refused};
-ghost use Rattle.star_resolve.specs.Variables.{IfFault, IfRefused, program_fault, program_variables, unknown_name};
+ghost use Rattle.star_spec.specs.Scopes.{program_names};
+ghost use Rattle.star_resolve.specs.Answers.{answer_here, answers, found_in, refused};
+ghost use Rattle.star_resolve.specs.Functions.{program_functions, scope_size};
+ghost use Rattle.star_resolve.specs.Variables.{IfFault, IfRefused, each_once, program_fault, program_variables, unknown_name};
 ghost use Rattle.star_tree.specs.Whole.{program_of};
 
 use crate::event::{Event, Events};
-use crate::gather::all_names;
 use crate::levels::{Levels, Variable, find, follow};
-use crate::program::{events_of, next_names};
 use crate::scope::Scope;
+use crate::scopes::{Walked, sizes_in, walk_through};
 use sqlite_items::Items;
 use star_tree::code::Program;
 use std::alloc::Global;
@@ -19,11 +20,15 @@ use ytt_base::text::{Memory, Names, Text};
 /// Variables in the order of their names.
 pub type Variables = Items<Variable>;
 
-/// A program, and the variable of each name that stands in it, in text order.
+/// A program, and the variable of each name that stands in it, in text order; how many variables the file
+/// has, and how many each function has, in text order, which is that of the functions' numbers. The first
+/// variables of a function are its parameters, in their order, and a lambda has no others.
 #[derive(Drop)]
 pub struct Resolved {
     pub program: Program,
     pub variables: Variables,
+    pub globals: usize,
+    pub functions: Items<usize>,
 }
 
 /// The refusal of a name that is bound nowhere.
@@ -68,6 +73,7 @@ fn answer(
             }
             None => Err(unknown(*place, name)),
         },
+        Event::Function(_) => Ok(()),
         Event::Enter(_) => Ok(()),
         Event::Block => Ok(()),
         Event::Leave => Ok(()),
@@ -94,17 +100,14 @@ fn answer_all(
     Ok(variables)
 }
 
-/// The variables of the names in a program.
-fn variables_of(alloc: Global, program: &Program, builtins: &Names) -> Result<Variables, Stop>
-    ensures bound { IfOk result (λ vs. each Some vs ≡ found_in (program_answers builtins.now (program_of program.now))) }
-    ensures known { OnOk result (refused (program_answers builtins.now (program_of program.now)) ≡ None) }
-    ensures told { IfRefused result (λ f. refused (program_answers builtins.now (program_of program.now)) ≡ Some f) }
+/// The variables of the names in a program that was gone through.
+fn variables_of(alloc: Global, walked: &Walked, builtins: &Names) -> Result<Variables, Stop>
+    ensures bound { IfOk result (λ vs. each Some vs ≡ found_in (answers walked.now.globals (each_once builtins.now) [] walked.now.events)) }
+    ensures known { OnOk result (refused (answers walked.now.globals (each_once builtins.now) [] walked.now.events) ≡ None) }
+    ensures told { IfRefused result (λ f. refused (answers walked.now.globals (each_once builtins.now) [] walked.now.events) ≡ Some f) }
 {
-    let mut functions = all_names(alloc, program.code.as_slice())?;
-    let globals = Scope::of(alloc, &next_names(alloc, &mut functions))?;
     let known = Scope::of(alloc, builtins)?;
-    let events = events_of(alloc, program, functions)?;
-    answer_all(alloc, &events, &globals, &known)
+    answer_all(alloc, &walked.events, &walked.globals, &known)
 }
 
 /// The program with the variable of each of its names.
@@ -120,9 +123,19 @@ pub fn resolve(alloc: Global, program: Program, builtins: &Names) -> Result<Reso
     requires { IsSome (blocks (program_of program)) }
     ensures program { IfOk result (λ r. r.program ≡ program) }
     ensures variables { IfOk result (λ r. each Some r.variables ≡ program_variables builtins.now (program_of program)) }
+    ensures globals { IfOk result (λ r. r.globals ≡ scope_size (program_names (program_of program))) }
+    ensures functions { IfOk result (λ r. r.functions ≡ each scope_size (program_functions (program_of program))) }
     ensures known { OnOk result (program_fault builtins.now (program_of program) ≡ None) }
     ensures unknown { IfRefused result (λ f. program_fault builtins.now (program_of program) ≡ Some f) }
 {
-    let variables = variables_of(alloc, &program, builtins)?;
-    Ok(Resolved { program, variables })
+    let walked = walk_through(alloc, &program)?;
+    let variables = variables_of(alloc, &walked, builtins)?;
+    let functions = sizes_in(alloc, &walked.events)?;
+    let globals = walked.globals.len();
+    Ok(Resolved {
+        program,
+        variables,
+        globals,
+        functions,
+    })
 }

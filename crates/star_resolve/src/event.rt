@@ -12,6 +12,8 @@ use ytt_base::text::{Memory, Text, Texts};
 pub enum Event {
     /// A name, to be read or to be bound.
     Name(Place, Text),
+    /// A function stands here that has so many variables; its defaults come before it begins.
+    Function(usize),
     /// A function or a comprehension begins, which binds these names.
     Enter(Texts),
     /// A block begins that binds no names of its own.

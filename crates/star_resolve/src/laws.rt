@@ -1,5 +1,6 @@
-// That the scopes of names agree with the environments in which code is evaluated.
+// That the scopes of names, and their variables, agree with the environments in which code is evaluated.
 ghost use Rattle.star_resolve.specs.Environments.{CallScopes, NamesHaveTheirBoxes, NewScopes};
+ghost use Rattle.star_resolve.specs.Frames.{CallFrames, NamesAreVariables, NewFrames};
 
 /// In an environment that has the boxes of what the scopes around a name bind, the name has the box that
 /// its scope has for it, or none where no scope binds it.
@@ -16,4 +17,23 @@ pub fn new_scopes<H>()
 /// that stand around the function.
 pub fn call_scopes<H>()
     ensures { CallScopes H }
+{}
+
+/// Where each scope around a place has the boxes of its variables, the box of a name there is the box of
+/// its variable. A name has one exactly where a scope binds it, so no name that `resolve` finds a variable
+/// of the program for is unknown when it is read or assigned to.
+pub fn names_are_variables()
+    ensures { NamesAreVariables }
+{}
+
+/// A file and a comprehension get a new box for each of their variables, in the order of their numbers,
+/// without a value, and change nothing else.
+pub fn new_frames<H>()
+    ensures { NewFrames H }
+{}
+
+/// The first variables of a function are its parameters, in their order, with the boxes of what arguments
+/// are bound to. The others get new boxes behind these, in the order of their numbers.
+pub fn call_frames<H>()
+    ensures { CallFrames H }
 {}

@@ -29,7 +29,7 @@ pub(crate) fn follow(alloc: Global, event: &Event, levels: &mut Levels) -> Resul
     ensures { OnOk result (reverse levels.new ≡ after_event event.now (reverse levels.old)) }
 {
     match event {
-        Event::Name(_, _) => (),
+        Event::Name(_, _) | Event::Function(_) => (),
         Event::Enter(names) => levels.push(Some(Scope::of(alloc, names)?))?,
         Event::Block => levels.push(None)?,
         Event::Leave => {

@@ -9,8 +9,11 @@ mod levels;
 mod names;
 mod program;
 mod scope;
+mod scopes;
 mod walk;
 
 pub use binding::{Resolved, Variables, resolve};
-pub use laws::{call_scopes, names_have_their_boxes, new_scopes};
+pub use laws::{
+    call_frames, call_scopes, names_are_variables, names_have_their_boxes, new_frames, new_scopes,
+};
 pub use levels::Variable;

@@ -1,5 +1,5 @@
 // The names of a scope, as a set in their order.
-ghost use Rattle.std.specs.Prelude.{◌≡◌, bytes_eq, position, IfOk, OnOk};
+ghost use Rattle.std.specs.Prelude.{◌≡◌, bytes_eq, length, position, IfOk, OnOk};
 ghost use Rattle.star_resolve.specs.Variables.{each_once, with_name};
 
 use indexmap::IndexSet;
@@ -48,6 +48,13 @@ impl Scope {
             scope.add(alloc, name)?;
         }
         Ok(scope)
+    }
+
+    /// How many names it binds.
+    pub(crate) fn len(&self) -> usize
+        ensures { result ≡ length self.now }
+    {
+        self.names.len()
     }
 
     /// The number of a name.

@@ -2,16 +2,18 @@
 ghost use Rattle.std.specs.Prelude.{◌≡◌, ℕ, ◌∷◌, ◌++◌, [], true, OnOk};
 ghost use Rattle.star_spec.specs.Names.{clauses_names};
 ghost use Rattle.star_resolve.specs.declared.event.Event.TheVariants as event;
+ghost use Rattle.star_resolve.specs.Functions.{scope_size};
 ghost use Rattle.star_resolve.specs.Events.{clauses_events, entries_events, expr_events, exprs_events, optional_events, parameters_events, pieces_events};
-ghost use Rattle.star_resolve.specs.Views.{clauses_of, entries_of, optional_of, pieces_of};
+ghost use Rattle.star_tree.specs.Listed.{clauses_of, entries_of, optional_of, pieces_of};
 ghost use Rattle.star_tree.specs.Whole.{expr_of, exprs_of, parameters_of};
 
 use crate::event::{Event, Events, put_name};
 use crate::names;
+use crate::scopes::size_of;
 use sqlite_items::{Boxed, Items};
 use star_tree::code::{Clause, Entry, Expr, Param, Params, Piece};
 use std::alloc::Global;
-use ytt_base::text::Memory;
+use ytt_base::text::{Memory, Texts};
 
 /// Puts the events of an expression behind the others.
 #[cycle(walk)]
@@ -55,9 +57,11 @@ pub(crate) fn put_expr(
             put_optional(alloc, file, high, events)?;
             put_optional(alloc, file, step, events)
         }
-        Expr::Lambda(_, params, body) => {
+        Expr::Lambda(_, _, params, body) => {
+            let bound = names::of_parameters(alloc, params)?;
+            put_function(alloc, &bound, events)?;
             put_params(alloc, file, params, events)?;
-            events.push(Event::Enter(names::of_parameters(alloc, params)?))?;
+            events.push(Event::Enter(bound))?;
             put_expr(alloc, file, body.get(), events)?;
             put_leave(events)
         }
@@ -74,6 +78,14 @@ pub(crate) fn put_expr(
         }
         Expr::Template(_, pieces) => put_pieces(alloc, file, pieces, events),
     }
+}
+
+/// Puts that a function stands here which binds these names behind the events.
+pub(crate) fn put_function(alloc: Global, names: &Texts, events: &mut Events) -> Result<(), Memory>
+    ensures { OnOk result (events.new ≡ events.old ++ event.Function (scope_size names.now) ∷ []) }
+{
+    events.push(Event::Function(size_of(alloc, names)?))?;
+    Ok(())
 }
 
 /// Puts the beginning of a comprehension behind the events.

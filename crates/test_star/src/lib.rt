@@ -1,8 +1,10 @@
-//! The syntax trees that texts of code read as, and the variables of names, which no command line shows.
+//! The syntax trees that texts of code read as, the variables of names and the numbers of functions, which no command line shows.
 #![tactic(auto)]
 
 #[cfg(test)]
 mod code;
+#[cfg(test)]
+mod numbers;
 #[cfg(test)]
 mod scopes;
 #[cfg(test)]

@@ -5,11 +5,11 @@ ghost use Rattle.star_tree.specs.Whole.{program_of};
 
 use sqlite_items::{Boxed, Items};
 use star_resolve::{Variable, resolve};
-use star_tree::code::{Expr, Program, Stmt};
+use star_tree::code::{Expr, NodeOp, Program, Stmt};
 use std::alloc::Global;
 use std::test::Fail;
 use test_shown::{Differing, shown_stop};
-use ytt_base::fault::Stop;
+use ytt_base::fault::{Place, Stop};
 use ytt_base::text::{Memory, Text};
 
 const NAMES: &[(&str, &str)] = &[
@@ -18,7 +18,7 @@ const NAMES: &[(&str, &str)] = &[
     ("nope", "error: NameUnknown at b.yml:2: nope"),
 ];
 
-/// A name on the second line of a program whose first line is `x = 1`.
+/// A value that is a name, on the second line of a program whose first line is `x = 1`.
 fn program(alloc: Global, name: &str) -> Result<Program, Memory>
     ensures { IfOk result (λ p. IsSome (blocks (program_of p))) }
 {
@@ -26,7 +26,8 @@ fn program(alloc: Global, name: &str) -> Result<Program, Memory>
     let target = Boxed::new(alloc, Expr::Name(1, Text::of(alloc, "x")?))?;
     code.push(Stmt::Assign(1, target, Boxed::new(alloc, Expr::Int(1, 1))?))?;
     let read = Boxed::new(alloc, Expr::Name(2, Text::of(alloc, name)?))?;
-    code.push(Stmt::Expr(2, read))?;
+    let place = Place { file: 2, line: 2 };
+    code.push(Stmt::Node(NodeOp::ValueFrom(place, read)))?;
     Ok(Program { file: 2, code })
 }
 

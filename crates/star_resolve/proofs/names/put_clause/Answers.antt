@@ -1,9 +1,9 @@
 use Rattle.std.proofs.Common.{◌∷◌, [], ap, sym, ◌∙◌, append-nil}
 use Rattle.star_spec.specs.Names.{clauses_names, target_names}
 use Rattle.star_tree.specs.Whole.{clauses_from, expr_of}
-use Rattle.star_resolve.specs.Views.{clauses_of}
+use Rattle.star_tree.specs.Listed.{clauses_of}
 use Rattle.star_resolve.proofs.Putting.{put_same}
-use Rattle.star_resolve.proofs.Views.{clause_of-ForIn}
+use Rattle.star_tree.proofs.Forms.{clause_of-ForIn}
 use Rattle.star_resolve.proofs.names.put_clause.Goals as goal
 
 pub returns-in-ForIn : goal.returns-in-ForIn

@@ -7,10 +7,11 @@ use Rattle.star_tree.specs.declared.code.Expr.{Expr}
 use Rattle.star_resolve.specs.declared.event.Event.{Event}
 use Rattle.star_resolve.specs.declared.event.Event.TheVariants as event
 use Rattle.star_resolve.specs.Events.{clauses_events, expr_events, parameters_events}
-use Rattle.star_resolve.specs.Views.{clauses_of}
+use Rattle.star_resolve.specs.Functions.{scope_size}
+use Rattle.star_tree.specs.Listed.{clauses_of}
 use Rattle.star_resolve.proofs.Clauses.{clauses_turn, first_for, later_for, test_of}
 use Rattle.star_resolve.proofs.Putting.{put_after, put_same, put_then}
-use Rattle.star_resolve.proofs.Views.{expr_of-DictFor, expr_of-Lambda, expr_of-ListFor}
+use Rattle.star_tree.proofs.Forms.{expr_of-DictFor, expr_of-Lambda, expr_of-ListFor}
 use Rattle.star_resolve.proofs.walk.+walk.Goals as goal
 use Rattle.star_resolve.proofs.walk.+walk.Goals.{put_clauses-in-ForIn+in_ok-put_expr-in-ForIn+then-waiting+in_ok-put_leave-in-ForIn+in_ok-put_expr-in-ForIn-2+in_ok-put_enter-in-ForIn, put_clauses-in-ForIn+in_ok-put_expr-in-ForIn+else-waiting+in_ok-put_expr-in-ForIn-3, put_clauses-in-OnlyIf+in_ok-put_expr-in-OnlyIf}
 
@@ -20,16 +21,20 @@ put_expr-returns-in_ok-put_expr-in-Lambda t c =
     let r = c.put_leave.result in
     let old = c.args.events.now in
     let new = c.put_leave.new.events in
+    let announced = c.put_function.new.events in
     let after_params = c.put_params.new.events in
     let names = parameter_names (parameters_of file c.in-Lambda.params) in
-    let entered = c.in_ok-push-in-Lambda.ensures.ok ∙ ap (λ xs. after_params ++ event.Enter xs ∷ []) (c.in_ok-of_parameters-in-Lambda.ensures file) in
+    let bound = c.in_ok-bound-in-Lambda.ensures file in
+    let stands = c.in_ok-put_function-in-Lambda.ensures ∙ ap (λ xs. old ++ event.Function (scope_size xs) ∷ []) bound in
+    let entered = c.in_ok-push-in-Lambda.ensures.ok ∙ ap (λ xs. after_params ++ event.Enter xs ∷ []) bound in
     put_same r old new _ _
-    (put_after r old after_params new _ _ c.in_ok-put_params-in-Lambda.ensures
+    (put_after r old announced new (event.Function (scope_size names) ∷ []) _ stands
+    (put_after r announced after_params new _ _ c.in_ok-put_params-in-Lambda.ensures
     (put_after r after_params c.push.new.self new (event.Enter names ∷ []) _ entered
-    (put_after r c.push.new.self c.put_expr-in-Lambda.new.events new _ _ c.in_ok-put_expr-in-Lambda.ensures c.put_leave.ensures)))
+    (put_after r c.push.new.self c.put_expr-in-Lambda.new.events new _ _ c.in_ok-put_expr-in-Lambda.ensures c.put_leave.ensures))))
     (ap (λ e. expr_events (expr_of file e)) c.in-Lambda.is
-    ∙ ap expr_events (expr_of-Lambda file _ _ _)
-    ∙ ap (λ e. parameters_events (parameters_of file c.in-Lambda.params) ++ (event.Enter names ∷ (expr_events (expr_of file e) ++ event.Leave ∷ []))) (sym c.get-in-Lambda.ensures))
+    ∙ ap expr_events (expr_of-Lambda file _ _ _ _)
+    ∙ ap (λ e. event.Function (scope_size names) ∷ (parameters_events (parameters_of file c.in-Lambda.params) ++ (event.Enter names ∷ (expr_events (expr_of file e) ++ event.Leave ∷ [])))) (sym c.get-in-Lambda.ensures))
 
 pub put_expr-returns-in_ok-put_expr-in-ListFor : goal.put_expr-returns-in_ok-put_expr-in-ListFor
 put_expr-returns-in_ok-put_expr-in-ListFor t c =

@@ -16,7 +16,7 @@ use Rattle.star_tree.specs.declared.code.Piece as piece
 use Rattle.star_tree.specs.declared.code.Expr as held
 use Rattle.star_tree.specs.declared.code.Expr.{Expr, the_lemmas}
 use Rattle.star_tree.specs.Whole.{binary_operator_of, default_part, expr_of, expr_part, exprs_of, for_part, if_part, optional_from, parameter_of, parameters_of, unary_operator_of, written_part}
-use Rattle.star_resolve.specs.Views.{clause_of, clauses_of, entries_of, entry_of, optional_of, piece_of, pieces_of}
+use Rattle.star_tree.specs.Listed.{clause_of, clauses_of, entries_of, entry_of, optional_of, piece_of, pieces_of}
 
 pub expr_of-Int : (file line : ℕ) (z : ℤ) → expr_of file (held.Int line z) ≡ plain.int (place_at file line) z
 expr_of-Int file line z = search (rules, the_lemmas)
@@ -69,8 +69,8 @@ expr_of-Index file line a i = search (rules, the_lemmas)
 pub expr_of-Dot : (file line : ℕ) (a : Expr) (x : List ℕ) → expr_of file (held.Dot line a x) ≡ plain.attribute (place_at file line) (expr_of file a) x
 expr_of-Dot file line a x = search (rules, the_lemmas)
 
-pub expr_of-Lambda : (file line : ℕ) (ps : List Param) (e : Expr) → expr_of file (held.Lambda line ps e) ≡ plain.lambda (place_at file line) 0 (parameters_of file ps) (expr_of file e)
-expr_of-Lambda file line ps e = search (rules, the_lemmas)
+pub expr_of-Lambda : (file line k : ℕ) (ps : List Param) (e : Expr) → expr_of file (held.Lambda line k ps e) ≡ plain.lambda (place_at file line) k (parameters_of file ps) (expr_of file e)
+expr_of-Lambda file line k ps e = search (rules, the_lemmas)
 
 pub expr_of-ListFor : (file line : ℕ) (e : Expr) (cs : List Clause) → expr_of file (held.ListFor line e cs) ≡ plain.list_comprehension (place_at file line) (expr_of file e) (clauses_of file cs)
 expr_of-ListFor file line e cs = search (rules, the_lemmas)

@@ -1,0 +1,307 @@
+// Expressions with the numbers of their lambdas. `file` is the file of the places in them.
+ghost use Rattle.std.specs.Prelude.{◌≡◌, IfOk, OnOk};
+ghost use Rattle.star_number.specs.Rows.{number_clause, number_entry, number_parameter, number_piece};
+ghost use Rattle.star_spec.specs.Numbering.{number_clauses, number_entries, number_expr, number_exprs, number_optional, number_parameters, number_pieces};
+ghost use Rattle.star_tree.specs.Listed.{clause_of, clauses_of, entries_of, entry_of, optional_of, piece_of, pieces_of};
+ghost use Rattle.star_tree.specs.Whole.{expr_of, exprs_of, parameter_of, parameters_of};
+
+use crate::next::take;
+use sqlite_items::{Boxed, Items};
+use star_tree::code::{Args, Clause, Entry, Expr, Param, Params, Piece};
+use std::alloc::Global;
+use ytt_base::text::Memory;
+
+/// An expression that equals this one but for the numbers of its lambdas, which begin with the next one.
+#[cycle(number)]
+pub(crate) fn number_expr(
+    alloc: Global,
+    file: u32,
+    expr: &Expr,
+    next: &mut usize,
+) -> Result<Expr, Memory>
+    ensures result { IfOk result (λ e. expr_of file e ≡ (number_expr (expr_of file expr.now) next.old).result) }
+    ensures next { OnOk result (next.new ≡ (number_expr (expr_of file expr.now) next.old).next) }
+{
+    match expr {
+        Expr::Int(line, n) => Ok(Expr::Int(*line, *n)),
+        Expr::Text(line, text) => Ok(Expr::Text(*line, text.copy()?)),
+        Expr::Name(line, name) => Ok(Expr::Name(*line, name.copy()?)),
+        Expr::List(line, members) => {
+            let members = number_exprs(alloc, file, members, next)?;
+            Ok(Expr::List(*line, members))
+        }
+        Expr::Tuple(line, members) => {
+            let members = number_exprs(alloc, file, members, next)?;
+            Ok(Expr::Tuple(*line, members))
+        }
+        Expr::Dict(line, entries) => {
+            let entries = number_entries(alloc, file, entries, next)?;
+            Ok(Expr::Dict(*line, entries))
+        }
+        Expr::Unary(line, op, a) => {
+            let a = number_boxed(alloc, file, a.get(), next)?;
+            Ok(Expr::Unary(*line, *op, a))
+        }
+        Expr::Binary(line, op, a, b) => {
+            let a = number_boxed(alloc, file, a.get(), next)?;
+            let b = number_boxed(alloc, file, b.get(), next)?;
+            Ok(Expr::Binary(*line, *op, a, b))
+        }
+        Expr::And(line, a, b) => {
+            let a = number_boxed(alloc, file, a.get(), next)?;
+            let b = number_boxed(alloc, file, b.get(), next)?;
+            Ok(Expr::And(*line, a, b))
+        }
+        Expr::Or(line, a, b) => {
+            let a = number_boxed(alloc, file, a.get(), next)?;
+            let b = number_boxed(alloc, file, b.get(), next)?;
+            Ok(Expr::Or(*line, a, b))
+        }
+        Expr::If(line, test, a, b) => {
+            let a = number_boxed(alloc, file, a.get(), next)?;
+            let test = number_boxed(alloc, file, test.get(), next)?;
+            let b = number_boxed(alloc, file, b.get(), next)?;
+            Ok(Expr::If(*line, test, a, b))
+        }
+        Expr::Call(line, function, args) => {
+            let function = number_boxed(alloc, file, function.get(), next)?;
+            let args = number_exprs(alloc, file, args, next)?;
+            Ok(Expr::Call(*line, function, args))
+        }
+        Expr::Named(line, name, a) => {
+            let a = number_boxed(alloc, file, a.get(), next)?;
+            Ok(Expr::Named(*line, name.copy()?, a))
+        }
+        Expr::Star(line, a) => {
+            let a = number_boxed(alloc, file, a.get(), next)?;
+            Ok(Expr::Star(*line, a))
+        }
+        Expr::Stars(line, a) => {
+            let a = number_boxed(alloc, file, a.get(), next)?;
+            Ok(Expr::Stars(*line, a))
+        }
+        Expr::Index(line, a, b) => {
+            let a = number_boxed(alloc, file, a.get(), next)?;
+            let b = number_boxed(alloc, file, b.get(), next)?;
+            Ok(Expr::Index(*line, a, b))
+        }
+        Expr::Slice(line, a, low, high, step) => {
+            let a = number_boxed(alloc, file, a.get(), next)?;
+            let low = number_optional(alloc, file, low, next)?;
+            let high = number_optional(alloc, file, high, next)?;
+            let step = number_optional(alloc, file, step, next)?;
+            Ok(Expr::Slice(*line, a, low, high, step))
+        }
+        Expr::Dot(line, a, name) => {
+            let a = number_boxed(alloc, file, a.get(), next)?;
+            Ok(Expr::Dot(*line, a, name.copy()?))
+        }
+        Expr::Lambda(line, _, params, body) => {
+            let number = take(next)?;
+            let params = number_params(alloc, file, params, next)?;
+            let body = number_boxed(alloc, file, body.get(), next)?;
+            Ok(Expr::Lambda(*line, number, params, body))
+        }
+        Expr::ListFor(line, element, clauses) => {
+            let element = number_boxed(alloc, file, element.get(), next)?;
+            let clauses = number_clauses(alloc, file, clauses, next)?;
+            Ok(Expr::ListFor(*line, element, clauses))
+        }
+        Expr::DictFor(line, key, value, clauses) => {
+            let key = number_boxed(alloc, file, key.get(), next)?;
+            let value = number_boxed(alloc, file, value.get(), next)?;
+            let clauses = number_clauses(alloc, file, clauses, next)?;
+            Ok(Expr::DictFor(*line, key, value, clauses))
+        }
+        Expr::Template(line, pieces) => {
+            let pieces = number_pieces(alloc, file, pieces, next)?;
+            Ok(Expr::Template(*line, pieces))
+        }
+    }
+}
+
+/// The same in a box.
+#[cycle(number)]
+pub(crate) fn number_boxed(
+    alloc: Global,
+    file: u32,
+    expr: &Expr,
+    next: &mut usize,
+) -> Result<Boxed<Expr>, Memory>
+    ensures result { IfOk result (λ e. expr_of file e ≡ (number_expr (expr_of file expr.now) next.old).result) }
+    ensures next { OnOk result (next.new ≡ (number_expr (expr_of file expr.now) next.old).next) }
+{
+    let numbered = number_expr(alloc, file, expr, next)?;
+    Ok(Boxed::new(alloc, numbered)?)
+}
+
+/// Expressions, in their order.
+#[cycle(number)]
+pub(crate) fn number_exprs(
+    alloc: Global,
+    file: u32,
+    exprs: &Items<Expr>,
+    next: &mut usize,
+) -> Result<Args, Memory>
+    ensures result { IfOk result (λ es. exprs_of file es ≡ (number_exprs (exprs_of file exprs.now) next.old).result) }
+    ensures next { OnOk result (next.new ≡ (number_exprs (exprs_of file exprs.now) next.old).next) }
+{
+    let mut numbered = Items::new(alloc);
+    for expr in exprs.as_slice() {
+        numbered.push(number_expr(alloc, file, expr, next)?)?;
+    }
+    Ok(numbered)
+}
+
+#[cycle(number)]
+fn number_optional(
+    alloc: Global,
+    file: u32,
+    part: &Option<Boxed<Expr>>,
+    next: &mut usize,
+) -> Result<Option<Boxed<Expr>>, Memory>
+    ensures result { IfOk result (λ o. optional_of file o ≡ (number_optional (optional_of file part.now) next.old).result) }
+    ensures next { OnOk result (next.new ≡ (number_optional (optional_of file part.now) next.old).next) }
+{
+    match part {
+        Some(expr) => Ok(Some(number_boxed(alloc, file, expr.get(), next)?)),
+        None => Ok(None),
+    }
+}
+
+#[cycle(number)]
+fn number_entry(alloc: Global, file: u32, entry: &Entry, next: &mut usize) -> Result<Entry, Memory>
+    ensures result { IfOk result (λ e. entry_of file e ≡ (number_entry (entry_of file entry.now) next.old).result) }
+    ensures next { OnOk result (next.new ≡ (number_entry (entry_of file entry.now) next.old).next) }
+{
+    match entry {
+        Entry::Pair(key, value) => {
+            let key = number_boxed(alloc, file, key.get(), next)?;
+            let value = number_boxed(alloc, file, value.get(), next)?;
+            Ok(Entry::Pair(key, value))
+        }
+    }
+}
+
+#[cycle(number)]
+fn number_entries(
+    alloc: Global,
+    file: u32,
+    entries: &Items<Entry>,
+    next: &mut usize,
+) -> Result<Items<Entry>, Memory>
+    ensures result { IfOk result (λ es. entries_of file es ≡ (number_entries (entries_of file entries.now) next.old).result) }
+    ensures next { OnOk result (next.new ≡ (number_entries (entries_of file entries.now) next.old).next) }
+{
+    let mut numbered = Items::new(alloc);
+    for entry in entries.as_slice() {
+        numbered.push(number_entry(alloc, file, entry, next)?)?;
+    }
+    Ok(numbered)
+}
+
+#[cycle(number)]
+fn number_clause(
+    alloc: Global,
+    file: u32,
+    clause: &Clause,
+    next: &mut usize,
+) -> Result<Clause, Memory>
+    ensures result { IfOk result (λ k. clause_of file k ≡ (number_clause (clause_of file clause.now) next.old).result) }
+    ensures next { OnOk result (next.new ≡ (number_clause (clause_of file clause.now) next.old).next) }
+{
+    match clause {
+        Clause::ForIn(target, members) => {
+            let target = number_boxed(alloc, file, target.get(), next)?;
+            let members = number_boxed(alloc, file, members.get(), next)?;
+            Ok(Clause::ForIn(target, members))
+        }
+        Clause::OnlyIf(test) => {
+            let test = number_boxed(alloc, file, test.get(), next)?;
+            Ok(Clause::OnlyIf(test))
+        }
+    }
+}
+
+#[cycle(number)]
+fn number_clauses(
+    alloc: Global,
+    file: u32,
+    clauses: &Items<Clause>,
+    next: &mut usize,
+) -> Result<Items<Clause>, Memory>
+    ensures result { IfOk result (λ ks. clauses_of file ks ≡ (number_clauses (clauses_of file clauses.now) next.old).result) }
+    ensures next { OnOk result (next.new ≡ (number_clauses (clauses_of file clauses.now) next.old).next) }
+{
+    let mut numbered = Items::new(alloc);
+    for clause in clauses.as_slice() {
+        numbered.push(number_clause(alloc, file, clause, next)?)?;
+    }
+    Ok(numbered)
+}
+
+#[cycle(number)]
+fn number_piece(alloc: Global, file: u32, piece: &Piece, next: &mut usize) -> Result<Piece, Memory>
+    ensures result { IfOk result (λ p. piece_of file p ≡ (number_piece (piece_of file piece.now) next.old).result) }
+    ensures next { OnOk result (next.new ≡ (number_piece (piece_of file piece.now) next.old).next) }
+{
+    match piece {
+        Piece::Written(text) => Ok(Piece::Written(text.copy()?)),
+        Piece::Shown(expr) => {
+            let expr = number_boxed(alloc, file, expr.get(), next)?;
+            Ok(Piece::Shown(expr))
+        }
+    }
+}
+
+#[cycle(number)]
+fn number_pieces(
+    alloc: Global,
+    file: u32,
+    pieces: &Items<Piece>,
+    next: &mut usize,
+) -> Result<Items<Piece>, Memory>
+    ensures result { IfOk result (λ ps. pieces_of file ps ≡ (number_pieces (pieces_of file pieces.now) next.old).result) }
+    ensures next { OnOk result (next.new ≡ (number_pieces (pieces_of file pieces.now) next.old).next) }
+{
+    let mut numbered = Items::new(alloc);
+    for piece in pieces.as_slice() {
+        numbered.push(number_piece(alloc, file, piece, next)?)?;
+    }
+    Ok(numbered)
+}
+
+#[cycle(number)]
+fn number_param(alloc: Global, file: u32, param: &Param, next: &mut usize) -> Result<Param, Memory>
+    ensures result { IfOk result (λ p. parameter_of file p ≡ (number_parameter (parameter_of file param.now) next.old).result) }
+    ensures next { OnOk result (next.new ≡ (number_parameter (parameter_of file param.now) next.old).next) }
+{
+    match param {
+        Param::Required(name) => Ok(Param::Required(name.copy()?)),
+        Param::Defaulted(name, default) => {
+            let default = number_boxed(alloc, file, default.get(), next)?;
+            Ok(Param::Defaulted(name.copy()?, default))
+        }
+        Param::BareStar => Ok(Param::BareStar),
+        Param::Starred(name) => Ok(Param::Starred(name.copy()?)),
+        Param::DoubleStarred(name) => Ok(Param::DoubleStarred(name.copy()?)),
+    }
+}
+
+/// Parameters, in their order.
+#[cycle(number)]
+pub(crate) fn number_params(
+    alloc: Global,
+    file: u32,
+    params: &Params,
+    next: &mut usize,
+) -> Result<Params, Memory>
+    ensures result { IfOk result (λ ps. parameters_of file ps ≡ (number_parameters (parameters_of file params.now) next.old).result) }
+    ensures next { OnOk result (next.new ≡ (number_parameters (parameters_of file params.now) next.old).next) }
+{
+    let mut numbered = Items::new(alloc);
+    for param in params.as_slice() {
+        numbered.push(number_param(alloc, file, param, next)?)?;
+    }
+    Ok(numbered)
+}

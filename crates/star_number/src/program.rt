@@ -1,0 +1,118 @@
+// Programs with the numbers of their functions.
+ghost use Rattle.std.specs.Prelude.{◌≡◌, IfOk, OnOk};
+ghost use Rattle.star_tree.specs.Whole.{instruction_of, loaded_names_of, part_of, program_of};
+ghost use Rattle.template_spec.specs.Numbered.{number_instruction, number_part, numbered_program};
+
+use crate::exprs::{number_boxed, number_exprs, number_params};
+use crate::next::take;
+use sqlite_items::Items;
+use star_tree::code::{Loaded, NodeOp, Program, Stmt};
+use std::alloc::Global;
+use ytt_base::text::Memory;
+
+/// A part of a node.
+fn number_node(alloc: Global, file: u32, part: &NodeOp, next: &mut usize) -> Result<NodeOp, Memory>
+    ensures result { IfOk result (λ o. part_of file o ≡ (number_part (part_of file part.now) next.old).result) }
+    ensures next { OnOk result (next.new ≡ (number_part (part_of file part.now) next.old).next) }
+{
+    match part {
+        NodeOp::Start(place, kind, holds) => Ok(NodeOp::Start(*place, *kind, *holds)),
+        NodeOp::Note(place, name, args) => {
+            let args = number_exprs(alloc, file, args, next)?;
+            Ok(NodeOp::Note(*place, name.copy()?, args))
+        }
+        NodeOp::Key(place, key) => Ok(NodeOp::Key(*place, key.copy()?)),
+        NodeOp::Value(place, key) => Ok(NodeOp::Value(*place, key.copy()?)),
+        NodeOp::ValueFrom(place, value) => {
+            let value = number_boxed(alloc, file, value.get(), next)?;
+            Ok(NodeOp::ValueFrom(*place, value))
+        }
+        NodeOp::End(place) => Ok(NodeOp::End(*place)),
+    }
+}
+
+/// The names that a load statement binds.
+fn copy_loaded(alloc: Global, loaded: &Items<Loaded>) -> Result<Items<Loaded>, Memory>
+    ensures { IfOk result (λ copies. copies ≡ loaded.now) }
+{
+    let mut copies = Items::new(alloc);
+    for each in loaded.as_slice() {
+        copies.push(Loaded {
+            bound: each.bound.copy()?,
+            origin: each.origin.copy()?,
+        })?;
+    }
+    Ok(copies)
+}
+
+/// A statement, the head or the end of a block, or a part of a node: equal to this one but for the
+/// numbers of the functions that begin in it.
+fn number_stmt(alloc: Global, file: u32, stmt: &Stmt, next: &mut usize) -> Result<Stmt, Memory>
+    ensures result { IfOk result (λ s. instruction_of file s ≡ (number_instruction (instruction_of file stmt.now) next.old).result) }
+    ensures next { OnOk result (next.new ≡ (number_instruction (instruction_of file stmt.now) next.old).next) }
+{
+    match stmt {
+        Stmt::Expr(line, expr) => {
+            let expr = number_boxed(alloc, file, expr.get(), next)?;
+            Ok(Stmt::Expr(*line, expr))
+        }
+        Stmt::Assign(line, target, value) => {
+            let target = number_boxed(alloc, file, target.get(), next)?;
+            let value = number_boxed(alloc, file, value.get(), next)?;
+            Ok(Stmt::Assign(*line, target, value))
+        }
+        Stmt::Augment(line, op, at, target, value) => {
+            let target = number_boxed(alloc, file, target.get(), next)?;
+            let value = number_boxed(alloc, file, value.get(), next)?;
+            Ok(Stmt::Augment(*line, *op, *at, target, value))
+        }
+        Stmt::Load(line, path, loaded) => {
+            let loaded = copy_loaded(alloc, loaded)?;
+            Ok(Stmt::Load(*line, path.copy()?, loaded))
+        }
+        Stmt::Return(line, expr) => {
+            let expr = number_boxed(alloc, file, expr.get(), next)?;
+            Ok(Stmt::Return(*line, expr))
+        }
+        Stmt::Break(line) => Ok(Stmt::Break(*line)),
+        Stmt::Continue(line) => Ok(Stmt::Continue(*line)),
+        Stmt::Pass(line) => Ok(Stmt::Pass(*line)),
+        Stmt::If(line, test) => {
+            let test = number_boxed(alloc, file, test.get(), next)?;
+            Ok(Stmt::If(*line, test))
+        }
+        Stmt::Elif(line, test) => {
+            let test = number_boxed(alloc, file, test.get(), next)?;
+            Ok(Stmt::Elif(*line, test))
+        }
+        Stmt::Else(line) => Ok(Stmt::Else(*line)),
+        Stmt::For(line, target, members) => {
+            let target = number_boxed(alloc, file, target.get(), next)?;
+            let members = number_boxed(alloc, file, members.get(), next)?;
+            Ok(Stmt::For(*line, target, members))
+        }
+        Stmt::Def(line, _, fragment, name, params) => {
+            let number = take(next)?;
+            let params = number_params(alloc, file, params, next)?;
+            Ok(Stmt::Def(*line, number, *fragment, name.copy()?, params))
+        }
+        Stmt::Close(line) => Ok(Stmt::Close(*line)),
+        Stmt::Node(part) => Ok(Stmt::Node(number_node(alloc, file, part, next)?)),
+    }
+}
+
+/// The program with the number of each of its functions: of each `def` and each lambda, how many others
+/// begin before it in its text.
+pub fn numbered(alloc: Global, program: &Program) -> Result<Program, Memory>
+    ensures { IfOk result (λ p. program_of p ≡ numbered_program (program_of program.now)) }
+{
+    let mut next = 0;
+    let mut code = Items::new(alloc);
+    for stmt in program.code.as_slice() {
+        code.push(number_stmt(alloc, program.file, stmt, &mut next)?)?;
+    }
+    Ok(Program {
+        file: program.file,
+        code,
+    })
+}
