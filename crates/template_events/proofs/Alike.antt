@@ -1,5 +1,5 @@
 -- The rows of items and comments by level are the events, without keys and what is written.
-use Rattle.std.proofs.Common.{◌≡◌, ℕ, suc, List, [], ◌∷◌, ◌++◌, Bool, true, false, ◌==◌, ◌&&◌, Option, Some, None, Result, Ok, Err, refl, sym, ap, ◌∙◌, subst, append-nil, map as each, if◌then◌else◌}
+use Rattle.std.proofs.Common.{◌≡◌, ℕ, suc, List, [], ◌∷◌, Bool, true, false, ◌==◌, ◌&&◌, Option, Some, None, Ok, Err, refl, sym, ap, ◌∙◌, subst, append-nil, map as each, if◌then◌else◌}
 use Rattle.std.proofs.lemmas.Bool.{eqb-true}
 use Rattle.ytt_laws.proofs.Yielded.{ok_same}
 use Rattle.ytt_base.specs.declared.fault.Fault.{Fault}
@@ -13,7 +13,7 @@ use Rattle.template_spec.specs.Events as events
 use Rattle.template_pass.specs.Flat.{Flat, starts, trailing_of, alone, raws_of}
 use Rattle.template_pass.specs.Rows.{Bare, bare_event, bare_row, level_of, Row}
 use Rattle.template_pass.specs.Rows as row
-use Rattle.template_events.specs.Levels.{Owner, Part}
+use Rattle.template_events.specs.Levels.{Owner}
 use Rattle.template_events.specs.Hearing.{Held, and_rows, behind, goes_on, grown, held_from, let_go, row_of, rows_from, spoken}
 use Rattle.template_events.proofs.ByLevel.{all_by_level}
 

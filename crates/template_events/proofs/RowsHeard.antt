@@ -1,6 +1,5 @@
 -- The rows that are heard of the parts of documents are their events.
-use Rattle.std.proofs.Common.{◌≡◌, ℕ, List, Bool, Option, None, Result, Ok, Err, refl, sym, ap, ◌∙◌, subst, map as each}
-use Rattle.std.specs.Result.{IfOk}
+use Rattle.std.proofs.Common.{◌≡◌, ℕ, List, Bool, None, Result, Ok, Err, refl, sym, ap, ◌∙◌, subst, map as each}
 use Rattle.ytt_laws.proofs.Yielded.{ok_same}
 use Rattle.ytt_base.specs.declared.fault.Fault.{Fault}
 use Rattle.ytt_base.specs.declared.fault.Stop.{Stop}
@@ -9,14 +8,13 @@ use Rattle.ytt_base.specs.Outcomes.{Gives, Outcome}
 use Rattle.yaml_spec.specs.Noted.{Documents}
 use Rattle.star_spec.specs.CodeReading.{CodeReader}
 use Rattle.template_spec.specs.Events.{Event, events, heard, gathered, nothing, raw_text}
-use Rattle.template_pass.specs.Flat.{flat_text, raws_of}
-use Rattle.template_pass.specs.Rows.{Bare, bare_event, bare_row, Row, flat_started, started}
-use Rattle.template_events.specs.declared.event.Part as code_part
+use Rattle.template_pass.specs.Flat.{flat_text}
+use Rattle.template_pass.specs.Rows.{Bare, bare_event, bare_row, Row, flat_started}
 use Rattle.template_events.specs.declared.event.Row as code_row
 use Rattle.template_events.specs.Heard.{HasRows}
 use Rattle.template_events.specs.Hearing.{rows_from}
 use Rattle.template_events.specs.Levels.{Part, parts_in}
-use Rattle.template_events.specs.View.{parts_of, rows_of}
+use Rattle.template_events.specs.View.{rows_of}
 use Rattle.template_events.proofs.Alike.{bare_events, bare_rows, rows_alike}
 use Rattle.template_events.proofs.ByLevel.{all_by_level, parts_by_level}
 use Rattle.template_events.proofs.Raws.{raws_are}

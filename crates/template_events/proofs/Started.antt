@@ -1,5 +1,5 @@
 -- The items of the rows are those of the documents.
-use Rattle.std.proofs.Common.{◌≡◌, ℕ, List, [], ◌∷◌, ◌++◌, Bool, true, false, Option, Some, None, Ok, Err, refl, sym, ap, ◌∙◌, if◌then◌else◌}
+use Rattle.std.proofs.Common.{◌≡◌, ℕ, List, [], ◌∷◌, ◌++◌, Bool, true, false, Option, Some, None, Ok, Err, refl, ap, ◌∙◌, if◌then◌else◌}
 use Rattle.std.specs.Result.{IfOk}
 use Rattle.ytt_base.specs.Outcomes.{Outcome, ◌>>=◌, place_at}
 use Rattle.star_spec.specs.CodeReading.{CodeReader}

@@ -1,21 +1,19 @@
 -- What is due behind each step.
-use Rattle.std.proofs.Common.{◌≡◌, ℕ, List, [], ◌∷◌, ◌++◌, Bool, true, false, Option, None, Result, Ok, Err, refl, sym, ap, ◌∙◌, subst, reverse, append_assoc, if◌then◌else◌}
+use Rattle.std.proofs.Common.{◌≡◌, ℕ, List, [], ◌∷◌, ◌++◌, Bool, true, false, Option, None, Ok, Err, refl, sym, ap, ◌∙◌, reverse, append_assoc, if◌then◌else◌}
 use Rattle.std.proofs.lemmas.List.{reverse-append, reverse-reverse}
 use Rattle.ytt_laws.proofs.Yielded.{ok_same}
 use Rattle.ytt_base.specs.declared.fault.Fault.{Fault}
 use Rattle.ytt_base.specs.declared.fault.Stop.{Stop}
 use Rattle.ytt_base.specs.declared.fault.Stop.TheVariants as stop
 use Rattle.ytt_base.specs.Outcomes.{Gives, Outcome}
-use Rattle.yaml_spec.specs.Noted.{Comment, code_in}
 use Rattle.star_grammar.specs.CodeReaders.{GivesCode, IsCodeReader}
 use Rattle.star_spec.specs.CodeReading.{CodeReader}
-use Rattle.template_pass.specs.Rows.{Row, begins}
+use Rattle.template_pass.specs.Rows.{Row}
 use Rattle.template_events.specs.declared.event.Part as code_part
 use Rattle.template_events.specs.declared.event.Row as code_row
 use Rattle.template_events.specs.declared.hear.Held as code_held
 use Rattle.template_events.specs.Heard.{Goes, Takes}
-use Rattle.template_events.specs.Hearing.{Held, and_rows, behind, goes_on, grown, held_from, let_go, rows_from}
-use Rattle.template_events.specs.Levels.{Owner, Part, starts, comment}
+use Rattle.template_events.specs.Hearing.{and_rows, behind, let_go, rows_from}
 use Rattle.template_events.specs.View.{held_of, part_of, parts_of, rows_of}
 
 no_fault : {A : Type 0} (x : A) (f : Fault) → ◌≡◌ {A = Outcome A} (Ok x) (Err f) → ⊥

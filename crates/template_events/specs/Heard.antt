@@ -11,7 +11,7 @@ use Rattle.star_spec.specs.CodeReading.{CodeReader}
 use Rattle.template_spec.specs.Events.{Event, events}
 use Rattle.template_pass.specs.Rows.{AreRows, Row}
 use Rattle.template_events.specs.Levels.{Part}
-use Rattle.template_events.specs.Hearing.{Held, behind, rows_from}
+use Rattle.template_events.specs.Hearing.{behind, rows_from}
 use Rattle.template_events.specs.View.{held_of, rows_of}
 use Rattle.template_events.specs.declared.event.Row as code
 use Rattle.template_events.specs.declared.hear.Held as state

@@ -1,5 +1,5 @@
 -- The items and comments of noted documents in text order, each item by its level: by how many items are around it.
-use Rattle.std.specs.Prelude.{ℕ, ◌+◌, Bool, if◌then◌else◌, List, [], ◌∷◌, ◌++◌, map as each, Option, Some, None}
+use Rattle.std.specs.Prelude.{ℕ, ◌+◌, Bool, if◌then◌else◌, List, [], ◌∷◌, ◌++◌, Option, Some, None}
 use Rattle.ytt_base.specs.Trees.{Scalar}
 use Rattle.yaml_spec.specs.Noted.{Comment, Note, Content, noted_scalar, noted_list, noted_map, Items, no_items, item, Documents}
 use Rattle.star_spec.specs.Program.{ItemKind, document_item, pair_item, element_item}
