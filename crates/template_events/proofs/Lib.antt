@@ -1,0 +1,6 @@
+pub mod Alike
+pub mod ByLevel
+pub mod Raws
+pub mod RowsHeard
+pub mod Started
+pub mod Taking

@@ -1,14 +1,13 @@
 // The items and comments of documents, one after another.
-ghost use Rattle.std.specs.Prelude.{◌≡◌, [], ◌∷◌, ◌++◌, IfOk, OnOk, option_map, map as each};
-ghost use Rattle.star_spec.specs.Program.{document_item};
+ghost use Rattle.std.specs.Prelude.{◌≡◌, ◌+◌, [], ◌∷◌, ◌++◌, IfOk, OnOk, option_map};
 ghost use Rattle.star_tree.specs.View.{item_kind_of};
-ghost use Rattle.template_pass.specs.Flat as spec;
-ghost use Rattle.template_events.specs.View.{flats_of, path_of, shape_of};
+ghost use Rattle.template_events.specs.Levels as spec;
+ghost use Rattle.template_events.specs.View.{owner_of, parts_of, shape_of};
+ghost use Rattle.template_pass.specs.Flat.{first_is_flow, shape};
 ghost use Rattle.template_spec.specs.Events.{is_collection, is_flow};
 ghost use Rattle.yaml_noted.specs.View.{comment_of, comments_of, content_of, documents_of, items_of, note_of};
-ghost use Rattle.ytt_base.specs.View.{key_of};
 
-use crate::event::{Flat, Flats, Path, Start, Written};
+use crate::event::{Owner, Part, Parts, Start, Written};
 use sqlite_items::Items;
 use star_tree::ItemKind;
 use std::alloc::Global;
@@ -16,26 +15,11 @@ use yaml_noted::{Comments, Content, NotedDocs, NotedItem, NotedItems, RawComment
 use ytt_base::text::Memory;
 use ytt_base::tree::Key;
 
-fn push(flats: &mut Flats, flat: Flat) -> Result<(), Memory>
-    ensures { OnOk result (flats.new ≡ flats.old ++ flat ∷ []) }
+fn push(parts: &mut Parts, part: Part) -> Result<(), Memory>
+    ensures { OnOk result (parts.new ≡ parts.old ++ part ∷ []) }
 {
-    flats.push(flat)?;
+    parts.push(part)?;
     Ok(())
-}
-
-fn copy_path(alloc: Global, path: &Path) -> Result<Path, Memory>
-    ensures { IfOk result (λ p. p ≡ path.now) }
-{
-    Ok(Items::from_slice(alloc, path.as_slice())?)
-}
-
-/// The path of an item of this collection.
-fn below(alloc: Global, collection: &Path, number: usize) -> Result<Path, Memory>
-    ensures { IfOk result (λ p. p ≡ collection.now ++ number ∷ []) }
-{
-    let mut path = copy_path(alloc, collection)?;
-    path.push(number)?;
-    Ok(path)
 }
 
 fn copy_comment(comment: &RawComment) -> Result<RawComment, Memory>
@@ -60,7 +44,7 @@ fn copy_key(key: &Option<Key>) -> Result<Option<Key>, Memory>
 /// What is written in an item.
 #[tactic(auto, using(yaml_noted::proofs::Views::views))]
 fn written(alloc: Global, content: &Content) -> Result<Written, Memory>
-    ensures { IfOk result (λ w. shape_of w ≡ spec.shape (content_of content.now)) }
+    ensures { IfOk result (λ w. shape_of w ≡ shape (content_of content.now)) }
 {
     match content {
         Content::Scalar(tree) => Ok(Written::Scalar(tree.copy(alloc)?)),
@@ -80,7 +64,7 @@ fn is_collection(content: &Content) -> bool
 }
 
 fn first_is_flow(items: &NotedItems) -> bool
-    ensures { result ≡ spec.first_is_flow (items_of items.now) }
+    ensures { result ≡ first_is_flow (items_of items.now) }
 {
     match items.as_slice().first() {
         Some(item) => item.flow,
@@ -100,12 +84,12 @@ fn is_flow(content: &Content) -> bool
     }
 }
 
-fn add_loose(comments: &Comments, flats: &mut Flats) -> Result<(), Memory>
-    ensures { OnOk result (flats_of flats.new ≡ flats_of flats.old ++ spec.loose_all (comments_of comments.now)) }
+fn add_loose(comments: &Comments, parts: &mut Parts) -> Result<(), Memory>
+    ensures { OnOk result (parts_of parts.new ≡ parts_of parts.old ++ spec.loose_all (comments_of comments.now)) }
 {
     for comment in comments.as_slice() {
         let comment = copy_comment(comment)?;
-        push(flats, Flat::Loose(comment))?;
+        push(parts, Part::Comment(None, comment))?;
     }
     Ok(())
 }
@@ -114,37 +98,45 @@ fn add_start(
     alloc: Global,
     item: &NotedItem,
     kind: ItemKind,
-    path: &Path,
-    flats: &mut Flats,
+    level: usize,
+    parts: &mut Parts,
 ) -> Result<(), Memory>
-    ensures { OnOk result (flats_of flats.new ≡ flats_of flats.old ++ spec.start (path_of path.now) (item_kind_of kind) (note_of item.now) (content_of item.now.content) ∷ []) }
+    ensures { OnOk result (parts_of parts.new ≡ parts_of parts.old ++ spec.start level (item_kind_of kind) (note_of item.now) (content_of item.now.content) ∷ []) }
 {
     let start = Start {
-        path: copy_path(alloc, path)?,
+        level,
         kind,
         line: item.place.line,
         key: copy_key(&item.key)?,
         written: written(alloc, &item.content)?,
     };
-    push(flats, Flat::Starts(start))
+    push(parts, Part::Starts(start))
+}
+
+fn owner(item: &NotedItem, kind: ItemKind, level: usize) -> Owner
+    ensures { owner_of result ≡ spec.owner level (item_kind_of kind) (content_of item.now.content) }
+{
+    Owner {
+        level,
+        kind,
+        is_collection: is_collection(&item.content),
+    }
 }
 
 fn add_trailing(
-    alloc: Global,
     item: &NotedItem,
     kind: ItemKind,
-    path: &Path,
-    flats: &mut Flats,
+    level: usize,
+    parts: &mut Parts,
 ) -> Result<(), Memory>
-    ensures { OnOk result (flats_of flats.new ≡ flats_of flats.old ++ spec.trailing (path_of path.now) (item_kind_of kind) (is_collection (content_of item.now.content)) (option_map comment_of item.now.trailing)) }
+    ensures { OnOk result (parts_of parts.new ≡ parts_of parts.old ++ spec.trailing (spec.owner level (item_kind_of kind) (content_of item.now.content)) (option_map comment_of item.now.trailing)) }
 {
     match &item.trailing {
         Some(comment) => {
-            let path = copy_path(alloc, path)?;
             let comment = copy_comment(comment)?;
             push(
-                flats,
-                Flat::Trails(path, kind, is_collection(&item.content), comment),
+                parts,
+                Part::Comment(Some(owner(item, kind, level)), comment),
             )
         }
         None => Ok(()),
@@ -158,31 +150,40 @@ fn add_item(
     alloc: Global,
     item: &NotedItem,
     kind: ItemKind,
-    path: &Path,
-    flats: &mut Flats,
+    level: usize,
+    parts: &mut Parts,
 ) -> Result<(), Memory>
-    ensures { OnOk result (flats_of flats.new ≡ flats_of flats.old ++ spec.flat_item (item_kind_of kind) (path_of path.now) (note_of item.now) (content_of item.now.content)) }
+    ensures { OnOk result (parts_of parts.new ≡ parts_of parts.old ++ spec.parts_of_item (item_kind_of kind) level (note_of item.now) (content_of item.now.content)) }
 {
-    add_loose(&item.before, flats)?;
-    add_start(alloc, item, kind, path, flats)?;
+    add_loose(&item.before, parts)?;
+    add_start(alloc, item, kind, level, parts)?;
     if is_flow(&item.content) {
-        add_below(alloc, &item.content, path, flats)?;
-        add_trailing(alloc, item, kind, path, flats)
+        add_below(alloc, &item.content, level, parts)?;
+        add_trailing(item, kind, level, parts)
     } else {
-        add_trailing(alloc, item, kind, path, flats)?;
-        add_below(alloc, &item.content, path, flats)
+        add_trailing(item, kind, level, parts)?;
+        add_below(alloc, &item.content, level, parts)
     }
 }
 
+/// Adds what an item of this level holds.
 #[cycle(flat)]
 #[tactic(auto, using(yaml_noted::proofs::Views::views))]
-fn add_below(alloc: Global, content: &Content, path: &Path, flats: &mut Flats) -> Result<(), Memory>
-    ensures { OnOk result (flats_of flats.new ≡ flats_of flats.old ++ spec.flat_below (path_of path.now) (content_of content.now)) }
+fn add_below(
+    alloc: Global,
+    content: &Content,
+    level: usize,
+    parts: &mut Parts,
+) -> Result<(), Memory>
+    ensures { OnOk result (parts_of parts.new ≡ parts_of parts.old ++ spec.parts_below level (content_of content.now)) }
 {
+    let Some(inner) = level.checked_add(1) else {
+        return Err(Memory);
+    };
     match content {
         Content::Scalar(_) => Ok(()),
-        Content::Map(items) => add_items(alloc, items, ItemKind::Pair, path, flats),
-        Content::List(items) => add_items(alloc, items, ItemKind::Element, path, flats),
+        Content::Map(items) => add_items(alloc, items, ItemKind::Pair, inner, parts),
+        Content::List(items) => add_items(alloc, items, ItemKind::Element, inner, parts),
     }
 }
 
@@ -191,32 +192,24 @@ fn add_items(
     alloc: Global,
     items: &NotedItems,
     kind: ItemKind,
-    collection: &Path,
-    flats: &mut Flats,
+    level: usize,
+    parts: &mut Parts,
 ) -> Result<(), Memory>
-    ensures { OnOk result (flats_of flats.new ≡ flats_of flats.old ++ spec.flat_items (item_kind_of kind) (path_of collection.now) 0 (items_of items.now)) }
+    ensures { OnOk result (parts_of parts.new ≡ parts_of parts.old ++ spec.parts_among (item_kind_of kind) level (items_of items.now)) }
 {
-    for (number, item) in items.as_slice().iter().enumerate() {
-        let path = below(alloc, collection, number)?;
-        add_item(alloc, item, kind, &path, flats)?;
+    for item in items.as_slice() {
+        add_item(alloc, item, kind, level, parts)?;
     }
     Ok(())
 }
 
 /// The items and comments of documents in text order: each item behind the comments before it, an outer one before an inner one, and
 /// the comments behind the last item at the end. The only error is want of memory.
-pub fn flatten(alloc: Global, docs: &NotedDocs) -> Result<Flats, Memory>
-    ensures flat { IfOk result (λ fs. flats_of fs ≡ spec.flat_text (documents_of docs.now)) }
+pub fn flatten(alloc: Global, docs: &NotedDocs) -> Result<Parts, Memory>
+    ensures { IfOk result (λ ps. parts_of ps ≡ spec.parts_in (documents_of docs.now)) }
 {
-    let mut flats: Flats = Items::new(alloc);
-    let documents: Path = Items::new(alloc);
-    add_items(
-        alloc,
-        &docs.items,
-        ItemKind::Document,
-        &documents,
-        &mut flats,
-    )?;
-    add_loose(&docs.after, &mut flats)?;
-    Ok(flats)
+    let mut parts: Parts = Items::new(alloc);
+    add_items(alloc, &docs.items, ItemKind::Document, 0, &mut parts)?;
+    add_loose(&docs.after, &mut parts)?;
+    Ok(parts)
 }

@@ -1,11 +1,12 @@
-//! The items and the comments of noted documents in text order.
+//! The rows of a template's text: its items and what its comments say.
 //!
-//! `flatten` gives exactly the row that the definition lays out (`flat`): each item behind the comments before it, an outer one before an
-//! inner one. What the comments say isn't read here, and no law joins the row to the events of a template's text yet.
+//! `read_events` gives the events of the documents by levels, with the keys of the items and what is written in them, or exactly the first
+//! fault of a comment, whichever reader reads code as the grammar says (`events`).
 #![tactic(auto)]
 
 mod event;
 mod flat;
+mod hear;
 
-pub use event::{Flat, Flats, Path, Start, Written};
-pub use flat::flatten;
+pub use event::{Row, Rows, Start, Written};
+pub use hear::read_events;

@@ -1,0 +1,26 @@
+-- What is due at each turn of hearing.
+use Rattle.std.proofs.Common.{◌≡◌, ℕ, List, [], ◌∷◌, ◌++◌, Bool, Option, None, Err, sym, ap, ◌∙◌, reverse}
+use Rattle.std.proofs.lemmas.List.{reverse-append}
+use Rattle.ytt_base.specs.declared.fault.Stop.{Stop}
+use Rattle.ytt_base.specs.declared.fault.Stop.TheVariants as stop
+use Rattle.star_grammar.specs.CodeReaders.{GivesCode, IsCodeReader}
+use Rattle.star_spec.specs.CodeReading.{CodeReader}
+use Rattle.template_events.specs.declared.event.Part as code_part
+use Rattle.template_events.specs.declared.event.Row as code_row
+use Rattle.template_events.specs.declared.hear.Held as code_held
+use Rattle.template_events.specs.Heard.{Takes}
+use Rattle.template_events.specs.Hearing.{behind, rows_from}
+use Rattle.template_events.specs.View.{held_of, part_of, parts_of, rows_of}
+
+-- what is due of all is due of those that are left, behind the rows so far
+pub record IsHearing (ignore : Bool) (file : ℕ) (all : List code_part.Part) (rows : List code_row.Row) (held : Option code_held.Held) (left : List code_part.Part) : Type 0 where
+  pub due : (r : CodeReader) → IsCodeReader r → behind (rows_of file rows) (rows_from r ignore file (held_of held) (parts_of (reverse left))) ≡ rows_from r ignore file None (parts_of all)
+
+turned_last : (left now : List code_part.Part) (p : code_part.Part) → left ≡ now ++ p ∷ [] → parts_of (reverse left) ≡ part_of p ∷ parts_of (reverse now)
+turned_last left now p e = ap (λ l. parts_of (reverse l)) e ∙ ap parts_of (reverse-append now (p ∷ []))
+
+pub stops : (ignore : Bool) (file : ℕ) (all : List code_part.Part) (rows rows' : List code_row.Row) (held : Option code_held.Held) (left left' : List code_part.Part) (p : code_part.Part) (s : Stop) → IsHearing ignore file all rows held left
+    → left ≡ left' ++ p ∷ [] → Takes ignore file held (part_of p) rows rows' (Err s) → GivesCode (rows_of file) (Err s) (λ r. rows_from r ignore file None (parts_of all))
+stops ignore file all rows rows' held left left' p (stop.Fault f) h e t = λ r reads.
+    sym (h.due r reads) ∙ ap (λ l. behind (rows_of file rows) (rows_from r ignore file (held_of held) l)) (turned_last left left' p e) ∙ t r reads (parts_of (reverse left'))
+stops ignore file all rows rows' held left left' p stop.Memory h e t = λ r reads. tt
