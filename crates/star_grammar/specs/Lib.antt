@@ -1,7 +1,5 @@
 pub mod CodeReaders
-pub mod EachReader
 pub mod Effects
-pub mod Flat
 pub mod Language
 pub mod Machine
 pub mod Parts

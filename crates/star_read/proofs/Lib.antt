@@ -1,7 +1,6 @@
 pub mod Anchored
 pub mod Answering
 pub mod Deciding
-pub mod Flattened
 pub mod Lists
 pub mod OnePart
 pub mod Refusing

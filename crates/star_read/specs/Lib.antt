@@ -1,4 +1,3 @@
 pub mod Answers
-pub mod Flats
 pub mod Pending
 pub mod Turns

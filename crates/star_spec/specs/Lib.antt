@@ -17,7 +17,6 @@ pub mod Numbers
 pub mod Operators
 pub mod Outcomes
 pub mod Program
-pub mod Reading
 pub mod Scopes
 pub mod Store
 pub mod Values

@@ -8,8 +8,6 @@ pub mod Nested
 pub mod NestedWords
 pub mod Nesting
 pub mod Numbers
-pub mod PlacingExamples
-pub mod PlacingPlaced
 pub mod Runs
 pub mod TakeKeeps
 pub mod Theorem

@@ -14,7 +14,6 @@ pub mod Numbered
 pub mod OpenBlocks
 pub mod Passes
 pub mod Placed
-pub mod Placing
 pub mod Run
 pub mod Take
 pub mod Template

@@ -1,4 +1,1 @@
-pub mod Codes
-pub mod Pairs
-pub mod Placing
 pub mod Views

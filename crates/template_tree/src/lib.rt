@@ -1,12 +1,7 @@
-//! Templates: the annotated items of a file.
-//!
-//! `place_flat` gives exactly the definition's template of noted documents, or exactly its first fault (`template`).
+//! Templates in which everything is built so far: the items that the program of today takes, and the plain template that they stand
+//! for (`specs/View`).
 #![tactic(auto)]
 
-mod code;
-mod documents;
-mod place;
 mod tree;
 
-pub use documents::place_flat;
 pub use tree::{TContent, TItem, TItems, TNode, TNote, TNotes, Template};

@@ -8,4 +8,3 @@ mod numbers;
 #[cfg(test)]
 mod scopes;
 #[cfg(test)]
-mod trees;

@@ -4,4 +4,3 @@
 #[cfg(test)]
 mod built;
 #[cfg(test)]
-mod placed;

@@ -5,7 +5,7 @@ use Rattle.ytt_base.specs.declared.fault.FaultKind.TheVariants as kinds
 use Rattle.ytt_outside.specs.Files.{kind_of}
 use Rattle.ytt_outside.specs.Standing.{Standing, nothing, file, folder}
 use Rattle.ytt_outside.specs.declared.files.PathKind.TheVariants as kind
-use Rattle.star_spec.specs.Reading.{Reader}
+use Rattle.star_spec.specs.CodeReading.{CodeReader}
 use Rattle.ytt_spec.specs.Meaning.{Means, file_names, gives_documents, largest_file, last_part, named_in, not_built, path_fault, path_meaning, text_meaning}
 use Rattle.ytt_spec.specs.Words.{Command}
 use Rattle.ytt_main.specs.Asks.{command_of}
@@ -19,7 +19,7 @@ means_refused command tree f (stop.Refused g names) e h = λ r reads. e r reads 
 means_refused command tree f (stop.ReadFailed at) e h = tt
 means_refused command tree f stop.Memory e h = tt
 
-means-no_template : (r : Reader) (path : List ℕ) (steps : ℕ) (s : Standing) → kind.File ≡ kind_of s → gives_documents (last_part path) ≡ false → path_meaning r path steps s ≡ Err not_built
+means-no_template : (r : CodeReader) (path : List ℕ) (steps : ℕ) (s : Standing) → kind.File ≡ kind_of s → gives_documents (last_part path) ≡ false → path_meaning r path steps s ≡ Err not_built
 means-no_template r path steps nothing k h = cc
 means-no_template r path steps (file bytes) k h =
     ap (λ b. cond (not b) (Err not_built) (cond (nat_lt largest_file (length bytes)) (Err (path_fault kinds.FileTooLarge path)) (text_meaning r steps bytes))) h
