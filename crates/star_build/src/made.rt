@@ -112,7 +112,7 @@ fn lambda(alloc: Global, parts: &mut Parts) -> Result<(), Memory>
     let value = parts.pop_boxed(alloc)?;
     let params = parts.pop_params(alloc);
     let line = parts.pop_line();
-    parts.push_expr(alloc, line, Expr::Lambda(line, params, value))
+    parts.push_expr(alloc, line, Expr::Lambda(line, 0, params, value))
 }
 
 fn dot(alloc: Global, parts: &mut Parts) -> Result<(), Memory>

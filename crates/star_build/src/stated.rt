@@ -116,7 +116,7 @@ fn begin_def(alloc: Global, parts: &mut Parts) -> Result<(), Memory>
     let params = parts.pop_params(alloc);
     let name = name_of(alloc, parts.pop_expr(alloc));
     let line = parts.pop_line();
-    add_statement(alloc, parts, Stmt::Def(line, name, params))
+    add_statement(alloc, parts, Stmt::Def(line, 0, None, name, params))
 }
 
 /// The last parts become a statement of the code before them.

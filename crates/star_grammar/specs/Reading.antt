@@ -85,7 +85,7 @@ header_of (stmt.If l e) = header.If e
 header_of (stmt.Elif l e) = header.Elif e
 header_of (stmt.Else l) = header.Else
 header_of (stmt.For l t m) = header.For t m
-header_of (stmt.Def l x ps) = header.Def x ps
+header_of (stmt.Def l k fragment x ps) = header.Def x ps
 header_of s = header.End
 
 -- that of the last statement

@@ -1,5 +1,5 @@
 -- What the end of each alternative makes of the parts that were read, the last one first.
-use Rattle.std.specs.Prelude.{ℕ, List, [], ◌∷◌, ◌++◌, codes}
+use Rattle.std.specs.Prelude.{ℕ, List, [], ◌∷◌, ◌++◌, None, codes}
 use Rattle.star_tree.specs.declared.code.UnOp.{UnOp}
 use Rattle.star_tree.specs.declared.code.UnOp.TheVariants as unary
 use Rattle.star_tree.specs.declared.code.BinOp.{BinOp}
@@ -170,7 +170,7 @@ made_parts made.Dict ps = part.Expr (line_in (second ps)) (dicted (line_in (seco
 made_parts made.Unary ps = part.Expr (line_in (second ps)) (expr.Unary (line_in (second ps)) (unary_of (mark_in (second ps))) (expr_in (top ps))) ∷ past_two ps
 made_parts made.Binary ps = part.Expr (line_in (third ps)) (operation (line_in (second ps)) (mark_in (second ps)) (expr_in (third ps)) (expr_in (top ps))) ∷ past_three ps
 made_parts made.Conditional ps = part.Expr (line_in (fourth ps)) (expr.If (line_in (third ps)) (expr_in (second ps)) (expr_in (fourth ps)) (expr_in (top ps))) ∷ past_four ps
-made_parts made.Lambda ps = part.Expr (line_in (third ps)) (expr.Lambda (line_in (third ps)) (params_in (second ps)) (expr_in (top ps))) ∷ past_three ps
+made_parts made.Lambda ps = part.Expr (line_in (third ps)) (expr.Lambda (line_in (third ps)) 0 (params_in (second ps)) (expr_in (top ps))) ∷ past_three ps
 made_parts made.Dot ps = part.Expr (line_in (third ps)) (expr.Dot (line_in (second ps)) (expr_in (third ps)) (name_of (expr_in (top ps)))) ∷ past_three ps
 made_parts made.Call ps = part.Expr (line_in (third ps)) (expr.Call (line_in (second ps)) (expr_in (third ps)) (exprs_in (top ps))) ∷ past_three ps
 made_parts made.Index ps = indexed ps
@@ -204,7 +204,7 @@ stated_parts stated.Assign ps = with_statement (third ps) (stmt.Assign (line_in 
 stated_parts stated.Augment ps = with_statement (fourth ps) (stmt.Augment (line_in (third ps)) (augmented_of (mark_in (second ps))) (line_in (second ps)) (expr_in (third ps)) (expr_in (top ps))) ∷ past_four ps
 stated_parts stated.Evaluate ps = with_statement (second ps) (stmt.Expr (line_in (top ps)) (expr_in (top ps))) ∷ past_two ps
 stated_parts stated.For ps = with_statement (fourth ps) (stmt.For (line_in (third ps)) (expr_in (second ps)) (expr_in (top ps))) ∷ past_four ps
-stated_parts stated.Def ps = with_statement (fourth ps) (stmt.Def (line_in (third ps)) (name_of (expr_in (second ps))) (params_in (top ps))) ∷ past_four ps
+stated_parts stated.Def ps = with_statement (fourth ps) (stmt.Def (line_in (third ps)) 0 None (name_of (expr_in (second ps))) (params_in (top ps))) ∷ past_four ps
 
 abbrev pub built : Action → List Part → List Part
 built action.Keep ps = ps

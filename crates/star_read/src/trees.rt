@@ -47,7 +47,7 @@ fn header_of(stmt: Stmt) -> Header
         Stmt::Elif(_, test) => Header::Elif(test),
         Stmt::Else(_) => Header::Else,
         Stmt::For(_, target, members) => Header::For(target, members),
-        Stmt::Def(_, name, params) => Header::Def(name, params),
+        Stmt::Def(_, _, _, name, params) => Header::Def(name, params),
         _ => Header::End,
     }
 }

@@ -69,8 +69,8 @@ expr_of-Index file line a i = search (rules, the_lemmas)
 pub expr_of-Dot : (file line : ℕ) (a : Expr) (x : List ℕ) → expr_of file (held.Dot line a x) ≡ plain.attribute (place_at file line) (expr_of file a) x
 expr_of-Dot file line a x = search (rules, the_lemmas)
 
-pub expr_of-Lambda : (file line : ℕ) (ps : List Param) (e : Expr) → expr_of file (held.Lambda line ps e) ≡ plain.lambda (place_at file line) 0 (parameters_of file ps) (expr_of file e)
-expr_of-Lambda file line ps e = search (rules, the_lemmas)
+pub expr_of-Lambda : (file line k : ℕ) (ps : List Param) (e : Expr) → expr_of file (held.Lambda line k ps e) ≡ plain.lambda (place_at file line) k (parameters_of file ps) (expr_of file e)
+expr_of-Lambda file line k ps e = search (rules, the_lemmas)
 
 pub expr_of-ListFor : (file line : ℕ) (e : Expr) (cs : List Clause) → expr_of file (held.ListFor line e cs) ≡ plain.list_comprehension (place_at file line) (expr_of file e) (clauses_of file cs)
 expr_of-ListFor file line e cs = search (rules, the_lemmas)

@@ -71,7 +71,7 @@ fn begin(alloc: Global, stmt: &Stmt, blocks: &mut Blocks) -> Result<(), Memory>
 {
     match stmt {
         Stmt::If(..) | Stmt::For(..) => merge(blocks),
-        Stmt::Def(_, _, params) => end_function(of_parameters(alloc, params)?, blocks),
+        Stmt::Def(_, _, _, _, params) => end_function(of_parameters(alloc, params)?, blocks),
         Stmt::Close(_) => {
             blocks.inner.push(Items::new(alloc))?;
             Ok(())
@@ -98,7 +98,7 @@ fn own_names(alloc: Global, stmt: &Stmt) -> Result<Texts, Memory>
         Stmt::Augment(_, _, _, target, _) => of_target(alloc, target.get()),
         Stmt::Load(_, _, loaded) => of_loaded(alloc, loaded),
         Stmt::For(_, target, _) => of_target(alloc, target.get()),
-        Stmt::Def(_, name, _) => alone(alloc, name),
+        Stmt::Def(_, _, _, name, _) => alone(alloc, name),
         _ => Ok(Items::new(alloc)),
     }
 }

@@ -1,15 +1,15 @@
 // The events of programs.
 ghost use Rattle.std.specs.Prelude.{◌≡◌, ◌∷◌, ◌++◌, [], reverse, IfOk, OnOk};
 ghost use Rattle.star_resolve.specs.declared.event.Event.TheVariants as event;
-ghost use Rattle.star_resolve.specs.Events.{functions_after, instruction_events, loaded_events, parameters_events, program_events};
+ghost use Rattle.star_resolve.specs.Events.{functions_after, instruction_events, loaded_events, parameters_events, part_events, program_events};
 ghost use Rattle.star_resolve.specs.Gathered.{behind, front};
-ghost use Rattle.star_tree.specs.Whole.{instruction_of, loaded_names_of, parameters_of, program_of};
+ghost use Rattle.star_tree.specs.Whole.{instruction_of, loaded_names_of, parameters_of, part_of, program_of};
 ghost use Rattle.ytt_base.specs.Outcomes.{place_at};
 
 use crate::event::{Event, Events, put_name};
-use crate::walk::{put_expr, put_leave, put_params};
+use crate::walk::{put_expr, put_exprs, put_leave, put_params};
 use sqlite_items::Items;
-use star_tree::code::{Loaded, Params, Program, Stmt};
+use star_tree::code::{Loaded, NodeOp, Params, Program, Stmt};
 use std::alloc::Global;
 use ytt_base::text::{Memory, Text, Texts};
 
@@ -62,6 +62,17 @@ fn put_def(
     Ok(())
 }
 
+/// Puts the events of a part of a node behind the others.
+fn put_node(alloc: Global, file: u32, part: &NodeOp, events: &mut Events) -> Result<(), Memory>
+    ensures { OnOk result (events.new ≡ events.old ++ part_events (part_of file part.now)) }
+{
+    match part {
+        NodeOp::Note(_, _, args) => put_exprs(alloc, file, args, events),
+        NodeOp::ValueFrom(_, value) => put_expr(alloc, file, value.get(), events),
+        NodeOp::Start(_, _, _) | NodeOp::Key(_, _) | NodeOp::Value(_, _) | NodeOp::End(_) => Ok(()),
+    }
+}
+
 /// Puts the events of a statement behind the others. The names of the functions that begin from here on
 /// are those of `functions`, the next one last.
 fn put_statement(
@@ -93,11 +104,12 @@ fn put_statement(
             put_expr(alloc, file, members.get(), events)?;
             put_block(events)
         }
-        Stmt::Def(line, name, params) => {
+        Stmt::Def(line, _, _, name, params) => {
             put_name(file, *line, name, events)?;
             put_def(alloc, file, params, next_names(alloc, functions), events)
         }
         Stmt::Close(_) => put_leave(events),
+        Stmt::Node(part) => put_node(alloc, file, part, events),
     }
 }
 

@@ -55,7 +55,7 @@ pub(crate) fn put_expr(
             put_optional(alloc, file, high, events)?;
             put_optional(alloc, file, step, events)
         }
-        Expr::Lambda(_, params, body) => {
+        Expr::Lambda(_, _, params, body) => {
             put_params(alloc, file, params, events)?;
             events.push(Event::Enter(names::of_parameters(alloc, params)?))?;
             put_expr(alloc, file, body.get(), events)?;

@@ -1,6 +1,9 @@
--- The plain data that the code of a file stands for.
+-- The plain data that the code of a file stands for, and its programs.
 use Rattle.std.specs.Prelude.{ℕ, List, [], ◌∷◌, Option, Some, None, map as each}
+use Rattle.std.specs.Option.{option_map}
 use Rattle.ytt_base.specs.Outcomes.{place_at}
+use Rattle.ytt_base.specs.View.{key_of}
+use Rattle.star_tree.specs.View.{holds_of, item_kind_of}
 use Rattle.star_spec.specs.Code as plain
 use Rattle.star_spec.specs.CodeReading as read
 use Rattle.star_spec.specs.Program as program
@@ -14,6 +17,8 @@ use Rattle.star_tree.specs.declared.code.Clause.TheOpen.{Expr-F, Clause-F, Entry
 use Rattle.star_tree.specs.declared.code.Header.{Header}
 use Rattle.star_tree.specs.declared.code.Header.TheVariants as header
 use Rattle.star_tree.specs.declared.code.Loaded.{Loaded}
+use Rattle.star_tree.specs.declared.code.NodeOp.{NodeOp}
+use Rattle.star_tree.specs.declared.code.NodeOp.TheVariants as node_op
 use Rattle.star_tree.specs.declared.code.Stmt.{Stmt}
 use Rattle.star_tree.specs.declared.code.Stmt.TheVariants as stmt
 use Rattle.star_tree.specs.declared.code.Program.{Program}
@@ -95,7 +100,7 @@ abbrev pub optional_from : Option plain.Expr → plain.OptionalExpr
 optional_from None = plain.absent
 optional_from (Some e) = plain.present e
 
--- ---- one level; a lambda has its number once those of its file are counted
+-- ---- one level
 
 abbrev pub expr_step : (file : ℕ) → Expr-F Clause Entry plain.Expr Parameter Piece → plain.Expr
 expr_step file (Expr-F.Int l z) = plain.int (place_at file l) z
@@ -116,7 +121,7 @@ expr_step file (Expr-F.Stars l e) = plain.double_starred (place_at file l) e
 expr_step file (Expr-F.Index l a i) = plain.index (place_at file l) a i
 expr_step file (Expr-F.Slice l a i j k) = plain.slice (place_at file l) a (optional_from i) (optional_from j) (optional_from k)
 expr_step file (Expr-F.Dot l a x) = plain.attribute (place_at file l) a x
-expr_step file (Expr-F.Lambda l ps e) = plain.lambda (place_at file l) 0 (parameters_from ps) e
+expr_step file (Expr-F.Lambda l k ps e) = plain.lambda (place_at file l) k (parameters_from ps) e
 expr_step file (Expr-F.ListFor l e cs) = plain.list_comprehension (place_at file l) e (clauses_from cs)
 expr_step file (Expr-F.DictFor l k v cs) = plain.dict_comprehension (place_at file l) k v (clauses_from cs)
 expr_step file (Expr-F.Template l ps) = plain.text_template (place_at file l) (pieces_from ps)
@@ -156,6 +161,16 @@ abbrev pub loaded_names_of : List Loaded → plain.LoadedNames
 loaded_names_of [] = plain.no_loaded
 loaded_names_of (x ∷ xs) = plain.a_loaded x.bound x.origin (loaded_names_of xs)
 
+-- ---- parts of nodes; code in one stands in a file of this number
+
+abbrev pub part_of : (file : ℕ) → NodeOp → program.NodePart
+part_of file (node_op.Start p kind h) = program.node_start p (item_kind_of kind) (holds_of h)
+part_of file (node_op.Note p x es) = program.node_note p x (exprs_of file es)
+part_of file (node_op.Key p k) = program.node_key p (key_of k)
+part_of file (node_op.Value p k) = program.node_value p (key_of k)
+part_of file (node_op.ValueFrom p e) = program.node_value_from p (expr_of file e)
+part_of file (node_op.End p) = program.node_end p
+
 -- ---- statements
 
 abbrev pub instruction_of : (file : ℕ) → Stmt → program.Instruction
@@ -171,8 +186,9 @@ instruction_of file (stmt.If l e) = program.begin_if (place_at file l) (expr_of 
 instruction_of file (stmt.Elif l e) = program.begin_elif (place_at file l) (expr_of file e)
 instruction_of file (stmt.Else l) = program.begin_else (place_at file l)
 instruction_of file (stmt.For l t e) = program.begin_for (place_at file l) (expr_of file t) (expr_of file e)
-instruction_of file (stmt.Def l x ps) = program.begin_def (place_at file l) 0 None x (parameters_of file ps)
+instruction_of file (stmt.Def l k fragment x ps) = program.begin_def (place_at file l) k (option_map item_kind_of fragment) x (parameters_of file ps)
 instruction_of file (stmt.Close l) = program.close (place_at file l)
+instruction_of file (stmt.Node o) = program.part (part_of file o)
 
 abbrev pub instructions_of : (file : ℕ) → List Stmt → List program.Instruction
 instructions_of file ss = each (instruction_of file) ss

@@ -1,7 +1,11 @@
-// Code whole: expressions with their entries, clauses and parameters, statements, and their programs.
+// Code whole: expressions with their entries, clauses and parameters, statements, parts of nodes, and the
+// programs of all these.
 
+use crate::program::{Holds, ItemKind};
 use sqlite_items::{Boxed, Items};
+use ytt_base::fault::Place;
 use ytt_base::text::Text;
+use ytt_base::tree::Key;
 
 /// An operator before its operand.
 #[derive(Clone, Copy, Debug, PartialEq, Eq)]
@@ -68,7 +72,8 @@ pub enum Expr {
     /// `x[low:high:step]`.
     Slice(u32, Boxed<Expr>, Option<Boxed<Expr>>, Option<Boxed<Expr>>, Option<Boxed<Expr>>),
     Dot(u32, Boxed<Expr>, Text),
-    Lambda(u32, Items<Param>, Boxed<Expr>),
+    /// A lambda, with its number among the functions of its file once these are counted, and 0 before.
+    Lambda(u32, usize, Items<Param>, Boxed<Expr>),
     ListFor(u32, Boxed<Expr>, Items<Clause>),
     DictFor(u32, Boxed<Expr>, Boxed<Expr>, Items<Clause>),
     /// A text with expressions between `(@=` and `@)`.
@@ -129,7 +134,19 @@ pub struct Loaded {
     pub origin: Text,
 }
 
-/// A statement, or the head or the end of a block, with its line.
+/// A part of a node, with its place: its start, a note with its name and arguments, a pair's key, its
+/// value as a written scalar, which is exactly what a key may be, or from an expression, its end.
+#[derive(Drop)]
+pub enum NodeOp {
+    Start(Place, ItemKind, Holds),
+    Note(Place, Text, Args),
+    Key(Place, Key),
+    Value(Place, Key),
+    ValueFrom(Place, Boxed<Expr>),
+    End(Place),
+}
+
+/// A statement, or the head or the end of a block, with its line; or a part of a node.
 #[derive(Drop)]
 pub enum Stmt {
     Expr(u32, Boxed<Expr>),
@@ -149,13 +166,16 @@ pub enum Stmt {
     Else(u32),
     /// The target and the members.
     For(u32, Boxed<Expr>, Boxed<Expr>),
-    Def(u32, Text, Params),
+    /// The number among the functions of the file once these are counted, and 0 before; the kind of the
+    /// items that its block holds, if it is to build a fragment; the name and the parameters.
+    Def(u32, usize, Option<ItemKind>, Text, Params),
     /// The end of a block.
     Close(u32),
+    Node(NodeOp),
 }
 
-/// The code of a file: its number, and its statements with the heads and ends of their blocks, in text
-/// order.
+/// The program of a file: its number, and its statements with the heads and ends of their blocks, and
+/// the parts of its nodes, in text order.
 #[derive(Drop)]
 pub struct Program {
     pub file: u32,

@@ -2,7 +2,7 @@
 // behind `@`.
 
 use sqlite_items::{Boxed, Items};
-use star_tree::code::{BinOp, Clause, Entry, Expr, Header, Loaded, Param, Stmt, UnOp};
+use star_tree::code::{BinOp, Clause, Entry, Expr, Header, Loaded, NodeOp, Param, Stmt, UnOp};
 use std::alloc::{AllocError, Global};
 use ytt_base::text::Memory;
 
@@ -259,7 +259,7 @@ fn put_expr(out: &mut String, expr: &Expr) -> Result<(), AllocError> {
             put_part(out, whole.get())?;
             put_attribute(out, name.as_str())
         }
-        Expr::Lambda(line, params, body) => {
+        Expr::Lambda(line, _, params, body) => {
             put_head(out, "lambda", *line)?;
             put_params(out, params)?;
             out.push_str(" :")?;
@@ -331,6 +331,21 @@ fn put_augment(
     put_last(out, value)
 }
 
+/// A part of a node, without what its scalar is.
+fn put_node(out: &mut String, part: &NodeOp) -> Result<(), AllocError> {
+    match part {
+        NodeOp::Start(place, _, _) => put_word(out, "node", place.line),
+        NodeOp::Key(place, _) => put_word(out, "key", place.line),
+        NodeOp::Value(place, _) => put_word(out, "value", place.line),
+        NodeOp::ValueFrom(place, value) => put_one(out, "value", place.line, value.get()),
+        NodeOp::End(place) => put_word(out, "node-end", place.line),
+        NodeOp::Note(place, name, args) => {
+            put_head(out, name.as_str(), place.line)?;
+            put_exprs(out, args)
+        }
+    }
+}
+
 /// Puts a statement behind the text. The error is want of memory.
 fn put_statement(out: &mut String, statement: &Stmt) -> Result<(), AllocError> {
     match statement {
@@ -348,8 +363,9 @@ fn put_statement(out: &mut String, statement: &Stmt) -> Result<(), AllocError> {
         Stmt::Elif(line, test) => put_one(out, "elif", *line, test.get()),
         Stmt::Else(line) => put_word(out, "else", *line),
         Stmt::For(line, target, members) => put_two(out, "for", *line, target.get(), members.get()),
-        Stmt::Def(line, name, params) => put_def(out, *line, name.as_str(), params),
+        Stmt::Def(line, _, _, name, params) => put_def(out, *line, name.as_str(), params),
         Stmt::Close(line) => put_word(out, "end", *line),
+        Stmt::Node(part) => put_node(out, part),
     }
 }
 

@@ -28,7 +28,7 @@ put_expr-returns-in_ok-put_expr-in-Lambda t c =
     (put_after r after_params c.push.new.self new (event.Enter names ∷ []) _ entered
     (put_after r c.push.new.self c.put_expr-in-Lambda.new.events new _ _ c.in_ok-put_expr-in-Lambda.ensures c.put_leave.ensures)))
     (ap (λ e. expr_events (expr_of file e)) c.in-Lambda.is
-    ∙ ap expr_events (expr_of-Lambda file _ _ _)
+    ∙ ap expr_events (expr_of-Lambda file _ _ _ _)
     ∙ ap (λ e. parameters_events (parameters_of file c.in-Lambda.params) ++ (event.Enter names ∷ (expr_events (expr_of file e) ++ event.Leave ∷ []))) (sym c.get-in-Lambda.ensures))
 
 pub put_expr-returns-in_ok-put_expr-in-ListFor : goal.put_expr-returns-in_ok-put_expr-in-ListFor
