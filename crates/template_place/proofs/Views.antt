@@ -2,6 +2,7 @@
 use Rattle.std.proofs.Common.{◌≡◌, ℕ, List, rules}
 use Rattle.ytt_base.specs.declared.fault.Place.{Place}
 use Rattle.ytt_base.specs.declared.tree.Key.{Key}
+use Rattle.ytt_base.specs.Outcomes.{place_at}
 use Rattle.ytt_base.specs.View.{key_of}
 use Rattle.star_tree.specs.declared.code.Expr.{Expr}
 use Rattle.star_tree.specs.declared.code.Param.{Param}
@@ -22,27 +23,27 @@ use Rattle.template_place.specs.View.{branches_of, code_of, content_of, in_conte
 pub item_of-Node : (file : ℕ) (n : TNode) → item_of file (held.Node n) ≡ node_of file n
 item_of-Node file n = search (rules, the_lemmas)
 
-pub item_of-Code : (file : ℕ) (s : Stmt) → item_of file (held.Code s) ≡ code_of (instruction_of file s)
+pub item_of-Code : (file : ℕ) (s : Stmt) → item_of file (held.Code s) ≡ code_of file (instruction_of file s)
 item_of-Code file s = search (rules, the_lemmas)
 
-pub item_of-If : (file : ℕ) (p : Place) (e : Expr) (is : List TItem) (more : TBranches) → item_of file (held.If p e is more) ≡ if_block p (expr_of file e) (items_of file is) (branches_of file more)
+pub item_of-If : (file : ℕ) (p : Place) (e : Expr) (is : List TItem) (more : TBranches) → item_of file (held.If p e is more) ≡ if_block (place_at file p.line) (expr_of file e) (items_of file is) (branches_of file more)
 item_of-If file p e is more = search (rules, the_lemmas)
 
-pub item_of-For : (file : ℕ) (p : Place) (x e : Expr) (is : List TItem) → item_of file (held.For p x e is) ≡ for_block p (expr_of file x) (expr_of file e) (items_of file is)
+pub item_of-For : (file : ℕ) (p : Place) (x e : Expr) (is : List TItem) → item_of file (held.For p x e is) ≡ for_block (place_at file p.line) (expr_of file x) (expr_of file e) (items_of file is)
 item_of-For file p x e is = search (rules, the_lemmas)
 
 pub item_of-Def : (file : ℕ) (p : Place) (x : List ℕ) (ps : List Param) (k : ItemKind) (is : List TItem)
-    → item_of file (held.Def p x ps k is) ≡ def_block p 0 x (parameters_of file ps) (item_kind_of k) (items_of file is)
+    → item_of file (held.Def p x ps k is) ≡ def_block (place_at file p.line) 0 x (parameters_of file ps) (item_kind_of k) (items_of file is)
 item_of-Def file p x ps k is = search (rules, the_lemmas)
 
 pub branches_of-Nothing : (file : ℕ) → branches_of file branches.Nothing ≡ no_branch
 branches_of-Nothing file = search (rules, the_lemmas)
 
-pub branches_of-Else : (file : ℕ) (p : Place) (is : List TItem) → branches_of file (branches.Else p is) ≡ else_branch p (items_of file is)
+pub branches_of-Else : (file : ℕ) (p : Place) (is : List TItem) → branches_of file (branches.Else p is) ≡ else_branch (place_at file p.line) (items_of file is)
 branches_of-Else file p is = search (rules, the_lemmas)
 
 pub branches_of-Elif : (file : ℕ) (p : Place) (e : Expr) (is : List TItem) (more : TBranches)
-    → branches_of file (branches.Elif p e is more) ≡ elif_branch p (expr_of file e) (items_of file is) (branches_of file more)
+    → branches_of file (branches.Elif p e is more) ≡ elif_branch (place_at file p.line) (expr_of file e) (items_of file is) (branches_of file more)
 branches_of-Elif file p e is more = search (rules, the_lemmas)
 
 pub node_of-node : (file : ℕ) (n : TNode) → node_of file n ≡ node n.place (item_kind_of n.kind) (notes_of file n.notes) (in_key n.key) (in_content file n.value (content_of file n.content))

@@ -36,11 +36,11 @@ in_content file None written = written
 in_content file (Some e) written = value_from (expr_of file e)
 
 -- a statement; the head or the end of a block is none, and does nothing
-abbrev pub code_of : Instruction → plain.Item
-code_of (statement s) = code s
-code_of i = code (pass (place_at 0 0))
+abbrev pub code_of : (file : ℕ) → Instruction → plain.Item
+code_of file (statement s) = code s
+code_of file i = code (pass (place_at file 0))
 
--- ---- one level, where each item, each content and what follows a branch is seen already
+-- ---- one level, where each item, each content and what follows a branch is seen already; a block stands in the file of its code
 
 abbrev pub content_step : TContent-F plain.Branches plain.Content plain.Item plain.Item → plain.Content
 content_step (TContent-F.Scalar k) = written_value (key_of k)
@@ -49,15 +49,15 @@ content_step (TContent-F.List is) = elements (in_items is)
 
 abbrev pub item_step : (file : ℕ) → TItem-F plain.Branches plain.Content plain.Item plain.Item → plain.Item
 item_step file (TItem-F.Node n) = n
-item_step file (TItem-F.Code s) = code_of (instruction_of file s)
-item_step file (TItem-F.If p e is more) = if_block p (expr_of file e) (in_items is) more
-item_step file (TItem-F.For p x e is) = for_block p (expr_of file x) (expr_of file e) (in_items is)
-item_step file (TItem-F.Def p x ps k is) = def_block p 0 x (parameters_of file ps) (item_kind_of k) (in_items is)
+item_step file (TItem-F.Code s) = code_of file (instruction_of file s)
+item_step file (TItem-F.If p e is more) = if_block (place_at file p.line) (expr_of file e) (in_items is) more
+item_step file (TItem-F.For p x e is) = for_block (place_at file p.line) (expr_of file x) (expr_of file e) (in_items is)
+item_step file (TItem-F.Def p x ps k is) = def_block (place_at file p.line) 0 x (parameters_of file ps) (item_kind_of k) (in_items is)
 
 abbrev pub branches_step : (file : ℕ) → TBranches-F plain.Branches plain.Content plain.Item plain.Item → plain.Branches
 branches_step file TBranches-F.Nothing = no_branch
-branches_step file (TBranches-F.Else p is) = else_branch p (in_items is)
-branches_step file (TBranches-F.Elif p e is more) = elif_branch p (expr_of file e) (in_items is) more
+branches_step file (TBranches-F.Else p is) = else_branch (place_at file p.line) (in_items is)
+branches_step file (TBranches-F.Elif p e is more) = elif_branch (place_at file p.line) (expr_of file e) (in_items is) more
 
 abbrev pub node_step : (file : ℕ) → TNode-F plain.Branches plain.Content plain.Item plain.Item → plain.Item
 node_step file n = node n.place (item_kind_of n.kind) (notes_of file n.notes) (in_key n.key) (in_content file n.value n.content)
