@@ -1,3 +1,4 @@
 pub mod Emitting
 pub mod Items
+pub mod Resolving
 pub mod Turns
