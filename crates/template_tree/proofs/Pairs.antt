@@ -12,6 +12,8 @@ use Rattle.yaml_noted.specs.declared.noted.RawComment.{RawComment}
 use Rattle.star_spec.specs.Program.{document_item, pair_item}
 use Rattle.star_spec.specs.Reading.{Reader}
 use Rattle.star_tree.specs.declared.expr.Expr.{Expr}
+use Rattle.star_tree.specs.declared.program.ItemKind.TheVariants as item_kind
+use Rattle.star_tree.specs.View.{item_kind_of}
 use Rattle.template_spec.specs.Placed.{PlacedContent, PlacedItem, PlacedItems}
 use Rattle.template_spec.specs.Placing.{content_beside, map_in, own_place, placed_document, placed_pair, placed_pairs, scalar_in}
 use Rattle.template_spec.specs.Template.{Content, Items, no_key, no_notes, node, pairs, written_key, written_value}
@@ -20,8 +22,8 @@ use Rattle.template_tree.specs.declared.tree.TContent as content
 use Rattle.template_tree.specs.declared.tree.TItem as item
 use Rattle.template_tree.specs.declared.tree.TItem.{TItem}
 use Rattle.template_tree.specs.declared.tree.TNode.{TNode}
-use Rattle.template_tree.specs.Parts.{content_with, document_of, pair_of, pairs_of}
-use Rattle.template_tree.specs.View.{content_of, in_content, in_key, notes_of}
+use Rattle.template_tree.specs.Parts.{content_with}
+use Rattle.template_tree.specs.View.{content_of, in_content, in_key, item_of, items_of, notes_of}
 use Rattle.template_tree.proofs.Views.{content_of-Map, content_of-Scalar, item_of-Node, node_of-node}
 
 pub placed_as : (r : Reader) (file : ℕ) (i : NotedItem) (place : Place) (s k : Key) (value : Option Expr) → own_place file (note_of i) ≡ Ok place → place.file ≡ file
@@ -30,19 +32,19 @@ pub placed_as : (r : Reader) (file : ℕ) (i : NotedItem) (place : Place) (s k :
 placed_as r file i place s k value here same holds beside key =
     rw (here, ← holds, beside (written_value (key_of s)), key, same) refl
 
-pub pair_of-Node : (file : ℕ) (n : TNode) → pair_of file (item.Node n) ≡ node n.place pair_item (notes_of file n.notes) (in_key n.key) (in_content file n.value (content_of file n.content))
-pair_of-Node file n = item_of-Node file n pair_item ∙ node_of-node file n pair_item
+pub item_is : (file : ℕ) (n : TNode) → item_of file (item.Node n) ≡ node n.place (item_kind_of n.kind) (notes_of file n.notes) (in_key n.key) (in_content file n.value (content_of file n.content))
+item_is file n = item_of-Node file n ∙ node_of-node file n
 
-pub pair_is : (file : ℕ) (n : TNode) (place : Place) (k : Key) (value : Option Expr) (s : Key) → n.place ≡ place → n.key ≡ Some k → n.notes ≡ [] → n.value ≡ value → n.content ≡ content.Scalar s
-    → pair_of file (item.Node n) ≡ node place pair_item no_notes (written_key (key_of k)) (in_content file value (written_value (key_of s)))
-pair_is file n place k value s here key bare says holds = rw (pair_of-Node file n, here, key, bare, says, holds, content_of-Scalar file s) refl
+pub pair_is : (file : ℕ) (n : TNode) (place : Place) (k : Key) (value : Option Expr) (s : Key) → n.place ≡ place → n.kind ≡ item_kind.Pair → n.key ≡ Some k → n.notes ≡ [] → n.value ≡ value → n.content ≡ content.Scalar s
+    → item_of file (item.Node n) ≡ node place pair_item no_notes (written_key (key_of k)) (in_content file value (written_value (key_of s)))
+pair_is file n place k value s here kind key bare says holds = rw (item_is file n, here, kind, key, bare, says, holds, content_of-Scalar file s) refl
 
 value_placed : (file : ℕ) (value : Option Expr) (s : Scalar) (w : Ways) → PlacedContent w (in_content file value (written_value s))
 value_placed file None s w = tt
 value_placed file (Some e) s w = tt
 
-pub pair_placed : (file : ℕ) (n : TNode) (k : Key) (s : Scalar) (w : Ways) → n.key ≡ Some k → content_of file n.content ≡ written_value s → PlacedItem w pair_item (pair_of file (item.Node n))
-pair_placed file n k s w key e = rw (pair_of-Node file n, key, e) (refl, tt, value_placed file n.value s w)
+pub pair_placed : (file : ℕ) (n : TNode) (k : Key) (s : Scalar) (w : Ways) → n.kind ≡ item_kind.Pair → n.key ≡ Some k → content_of file n.content ≡ written_value s → PlacedItem w pair_item (item_of file (item.Node n))
+pair_placed file n k s w kind key e = rw (item_is file n, kind, key, e) (refl, tt, value_placed file n.value s w)
 
 -- ---- documents
 
@@ -60,13 +62,10 @@ pub document_as : (r : Reader) (file : ℕ) (i : NotedItem) (place : Place) (is 
 document_as r file i place is out here key trailing holds below =
     rw (here, no_key_there i.key key, no_comment_there i.trailing trailing, ← holds, below) refl
 
-document_of-Node : (file : ℕ) (n : TNode) → document_of file (item.Node n) ≡ node n.place document_item (notes_of file n.notes) (in_key n.key) (in_content file n.value (content_of file n.content))
-document_of-Node file n = item_of-Node file n document_item ∙ node_of-node file n document_item
+pub document_is : (file : ℕ) (n : TNode) (place : Place) (is : List TItem) → n.place ≡ place → n.kind ≡ item_kind.Document → n.key ≡ None → n.notes ≡ [] → n.value ≡ None → n.content ≡ content.Map is
+    → item_of file (item.Node n) ≡ node place document_item no_notes no_key (pairs (items_of file is))
+document_is file n place is here kind key bare says holds = rw (item_is file n, here, kind, key, bare, says, holds, content_of-Map file is) refl
 
-pub document_is : (file : ℕ) (n : TNode) (place : Place) (is : List TItem) → n.place ≡ place → n.key ≡ None → n.notes ≡ [] → n.value ≡ None → n.content ≡ content.Map is
-    → document_of file (item.Node n) ≡ node place document_item no_notes no_key (pairs (pairs_of file is))
-document_is file n place is here key bare says holds = rw (document_of-Node file n, here, key, bare, says, holds, content_of-Map file is) refl
-
-pub document_placed : (file : ℕ) (n : TNode) (is : List TItem) (w : Ways) → n.key ≡ None → n.value ≡ None → n.content ≡ content.Map is → ((v : Ways) → PlacedItems v pair_item (pairs_of file is))
-    → PlacedItem w document_item (document_of file (item.Node n))
-document_placed file n is w key says holds h = rw (document_of-Node file n, key, says, holds, content_of-Map file is) (refl, tt, h (in_a_node w))
+pub document_placed : (file : ℕ) (n : TNode) (is : List TItem) (w : Ways) → n.kind ≡ item_kind.Document → n.key ≡ None → n.value ≡ None → n.content ≡ content.Map is → ((v : Ways) → PlacedItems v pair_item (items_of file is))
+    → PlacedItem w document_item (item_of file (item.Node n))
+document_placed file n is w kind key says holds h = rw (item_is file n, kind, key, says, holds, content_of-Map file is) (refl, tt, h (in_a_node w))

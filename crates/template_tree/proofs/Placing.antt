@@ -18,7 +18,7 @@ use Rattle.template_spec.specs.Placing.{before_items, placed_each}
 use Rattle.template_spec.specs.Template.{Item, Items, no_items, an_item}
 use Rattle.template_spec.specs.WellNested.{Ways}
 use Rattle.template_tree.specs.declared.tree.TItem.{TItem}
-use Rattle.template_tree.specs.View.{item_of, items_as}
+use Rattle.template_tree.specs.View.{item_of, items_of}
 
 -- the items behind those of another list
 abbrev pub joined : Items → Items → Items
@@ -34,8 +34,8 @@ Places = Reader → Note → noted.Content → Outcome Item
 
 -- these items are placed, and with them in front, what those that are left give, from the last one back, is what all give
 pub record IsPlacing (place : Places) (kind : ItemKind) (file : ℕ) (all : List NotedItem) (done : List TItem) (left : List NotedItem) : Type 0 where
-  pub gives : (r : Reader) → IsReader r → (placed_each (place r) (held.items_of (reverse left)) >>= joins (items_as kind file done)) ≡ placed_each (place r) (held.items_of all)
-  pub placed : (w : Ways) → PlacedItems w kind (items_as kind file done)
+  pub gives : (r : Reader) → IsReader r → (placed_each (place r) (held.items_of (reverse left)) >>= joins (items_of file done)) ≡ placed_each (place r) (held.items_of all)
+  pub placed : (w : Ways) → PlacedItems w kind (items_of file done)
 
 -- ---- items one behind another
 
@@ -43,11 +43,11 @@ joined-no_items : (is : Items) → joined is no_items ≡ is
 joined-no_items no_items = refl
 joined-no_items (an_item i is) = ap (an_item i) (joined-no_items is)
 
-joined-snoc : (kind : ItemKind) (file : ℕ) (is : List TItem) (i : TItem) (js : Items) → joined (items_as kind file (is ++ i ∷ [])) js ≡ joined (items_as kind file is) (an_item (item_of file i kind) js)
+joined-snoc : (kind : ItemKind) (file : ℕ) (is : List TItem) (i : TItem) (js : Items) → joined (items_of file (is ++ i ∷ [])) js ≡ joined (items_of file is) (an_item (item_of file i) js)
 joined-snoc kind file [] i js = refl
-joined-snoc kind file (h ∷ is) i js = ap (an_item (item_of file h kind)) (joined-snoc kind file is i js)
+joined-snoc kind file (h ∷ is) i js = ap (an_item (item_of file h)) (joined-snoc kind file is i js)
 
-placed-snoc : (w : Ways) (kind : ItemKind) (file : ℕ) (is : List TItem) (i : TItem) → PlacedItems w kind (items_as kind file is) → PlacedItem w kind (item_of file i kind) → PlacedItems w kind (items_as kind file (is ++ i ∷ []))
+placed-snoc : (w : Ways) (kind : ItemKind) (file : ℕ) (is : List TItem) (i : TItem) → PlacedItems w kind (items_of file is) → PlacedItem w kind (item_of file i) → PlacedItems w kind (items_of file (is ++ i ∷ []))
 placed-snoc w kind file [] i h g = (g, tt)
 placed-snoc w kind file (k ∷ is) i h g = (h.0, placed-snoc w kind file is i h.1 g)
 
@@ -57,7 +57,7 @@ nothing-joins : (o : Outcome Items) → (o >>= joins no_items) ≡ o
 nothing-joins (Ok is) = ap Ok refl
 nothing-joins (Err f) = refl
 
-before-joins : (kind : ItemKind) (file : ℕ) (is : List TItem) (i : TItem) (o : Outcome Items) → (o >>= before_items (item_of file i kind) >>= joins (items_as kind file is)) ≡ (o >>= joins (items_as kind file (is ++ i ∷ [])))
+before-joins : (kind : ItemKind) (file : ℕ) (is : List TItem) (i : TItem) (o : Outcome Items) → (o >>= before_items (item_of file i) >>= joins (items_of file is)) ≡ (o >>= joins (items_of file (is ++ i ∷ [])))
 before-joins kind file is i (Ok js) = ap Ok (sym (joined-snoc kind file is i js))
 before-joins kind file is i (Err f) = refl
 
@@ -71,26 +71,26 @@ pub start : (place : Places) (kind : ItemKind) (file : ℕ) (all left : List Not
 start place kind file all left e = record { gives = λ r reads. rw (e, reverse-reverse) (nothing-joins (placed_each (place r) (held.items_of all))); placed = λ w. tt }
 
 pub refused : (place : Places) (kind : ItemKind) (file : ℕ) (all : List NotedItem) (done : List TItem) (left rest : List NotedItem) (i : NotedItem) (s : Stop) → IsPlacing place kind file all done left
-    → left ≡ rest ++ i ∷ [] → ((r : Reader) → IsReader r → Gives (λ t. item_of file t kind) (Err s) (place r (note_of i) (held.content_of i.content)))
-    → (r : Reader) → IsReader r → Gives (items_as kind file) (Err s) (placed_each (place r) (held.items_of all))
+    → left ≡ rest ++ i ∷ [] → ((r : Reader) → IsReader r → Gives (item_of file) (Err s) (place r (note_of i) (held.content_of i.content)))
+    → (r : Reader) → IsReader r → Gives (items_of file) (Err s) (placed_each (place r) (held.items_of all))
 refused place kind file all done left rest i (stop.Fault f) p e h r reads = sym (p.gives r reads) ∙ rw (next left rest i e, h r reads) refl
 refused place kind file all done left rest i stop.Memory p e h r reads = tt
 
 pub taken : (place : Places) (kind : ItemKind) (file : ℕ) (all : List NotedItem) (done : List TItem) (left rest : List NotedItem) (i : NotedItem) (t : TItem) (more : List TItem) → IsPlacing place kind file all done left
-    → left ≡ rest ++ i ∷ [] → ((r : Reader) → IsReader r → place r (note_of i) (held.content_of i.content) ≡ Ok (item_of file t kind)) → ((w : Ways) → PlacedItem w kind (item_of file t kind))
+    → left ≡ rest ++ i ∷ [] → ((r : Reader) → IsReader r → place r (note_of i) (held.content_of i.content) ≡ Ok (item_of file t)) → ((w : Ways) → PlacedItem w kind (item_of file t))
     → more ≡ done ++ t ∷ [] → IsPlacing place kind file all more rest
 taken place kind file all done left rest i t more p e h g m = rw m record {
   gives = λ r reads.
-      let whole : (placed_each (place r) (held.items_of (reverse rest)) >>= before_items (item_of file t kind) >>= joins (items_as kind file done)) ≡ placed_each (place r) (held.items_of all)
+      let whole : (placed_each (place r) (held.items_of (reverse rest)) >>= before_items (item_of file t) >>= joins (items_of file done)) ≡ placed_each (place r) (held.items_of all)
       = rw (next left rest i e, h r reads) at (p.gives r reads) in
       sym (before-joins kind file done t _) ∙ whole;
   placed = λ w. placed-snoc w kind file done t (p.placed w) (g w);
 }
 
 pub ended : (place : Places) (kind : ItemKind) (file : ℕ) (all : List NotedItem) (done : List TItem) (left : List NotedItem) → IsPlacing place kind file all done left → left ≡ []
-    → (r : Reader) → IsReader r → placed_each (place r) (held.items_of all) ≡ Ok (items_as kind file done)
+    → (r : Reader) → IsReader r → placed_each (place r) (held.items_of all) ≡ Ok (items_of file done)
 ended place kind file all done left p e r reads =
-    let whole : (placed_each (place r) noted.no_items >>= joins (items_as kind file done)) ≡ placed_each (place r) (held.items_of all) = rw e at (p.gives r reads) in
-    sym whole ∙ ap Ok (joined-no_items (items_as kind file done))
+    let whole : (placed_each (place r) noted.no_items >>= joins (items_of file done)) ≡ placed_each (place r) (held.items_of all) = rw e at (p.gives r reads) in
+    sym whole ∙ ap Ok (joined-no_items (items_of file done))
 
 pub ruleset placing = (start, refused, taken, ended)

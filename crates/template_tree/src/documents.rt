@@ -8,13 +8,13 @@ ghost use Rattle.star_grammar.specs.EachReader.{GivesRead};
 ghost use Rattle.template_spec.specs.Placed.{Placed, PlacedItem, PlacedItems};
 ghost use Rattle.template_spec.specs.Placing.{map_in, placed, placed_document, placed_documents};
 ghost use Rattle.template_spec.specs.WellNested.{Ways};
-ghost use Rattle.template_tree.specs.Parts.{document_of};
-ghost use Rattle.template_tree.specs.View.{items_of, template_of};
+ghost use Rattle.template_tree.specs.View.{item_of, items_of, template_of};
 
 use crate::code::not_built;
 use crate::place::{place_of, place_pairs, push_item, turned};
 use crate::tree::{TContent, TItem, TItems, TNode, Template};
 use sqlite_items::Items;
+use star_tree::ItemKind;
 use std::alloc::Global;
 use yaml_noted::{Content, NotedDocs, NotedItem, NotedItems};
 use ytt_base::fault::{Place, Stop};
@@ -33,8 +33,8 @@ fn map_in(content: Content) -> Option<NotedItems>
 /// The document of an item. One that is no map, and one with a key or a comment beside it, is
 /// NotBuilt at its line.
 fn place_document(alloc: Global, item: NotedItem, file: u32) -> Result<TItem, Stop>
-    ensures template { GivesRead (document_of file) result (λ r. placed_document r file (note_of item) (held.content_of item.content)) }
-    ensures placed { IfOk result (λ i. (w : Ways) → PlacedItem w document_item (document_of file i)) }
+    ensures template { GivesRead (item_of file) result (λ r. placed_document r file (note_of item) (held.content_of item.content)) }
+    ensures placed { IfOk result (λ i. (w : Ways) → PlacedItem w document_item (item_of file i)) }
 {
     let place = place_of(alloc, &item, file)?;
     if item.key.is_some() || item.trailing.is_some() {
@@ -46,6 +46,7 @@ fn place_document(alloc: Global, item: NotedItem, file: u32) -> Result<TItem, St
     let pairs = place_pairs(alloc, items, file)?;
     Ok(TItem::Node(TNode {
         place,
+        kind: ItemKind::Document,
         key: None,
         notes: Items::new(alloc),
         value: None,

@@ -11,12 +11,13 @@ ghost use Rattle.template_spec.specs.Placed.{PlacedItem, PlacedItems};
 ghost use Rattle.template_spec.specs.Placing.{content_beside, own_place, placed_pair, placed_pairs, scalar_in};
 ghost use Rattle.template_spec.specs.Template as plain;
 ghost use Rattle.template_spec.specs.WellNested.{Ways};
-ghost use Rattle.template_tree.specs.Parts.{content_with, pair_of, pairs_of, same_place};
+ghost use Rattle.template_tree.specs.Parts.{content_with, same_place};
+ghost use Rattle.template_tree.specs.View.{item_of, items_of};
 
 use crate::code::{not_built, read_value};
 use crate::tree::{TContent, TItem, TItems, TNode};
 use sqlite_items::Items;
-use star_tree::Expr;
+use star_tree::{Expr, ItemKind};
 use std::alloc::Global;
 use yaml_noted::{Content, NotedItem, NotedItems, RawComment};
 use ytt_base::fault::{Place, Stop};
@@ -101,8 +102,8 @@ fn read_trailing(
 /// The pair of an item. One that is no scalar under a key is NotBuilt at its line, and so is one with
 /// a comment beside it that is no code of an expression.
 fn place_pair(alloc: Global, item: NotedItem, file: u32) -> Result<TItem, Stop>
-    ensures template { GivesRead (pair_of file) result (λ r. placed_pair r file (note_of item) (held.content_of item.content)) }
-    ensures placed { IfOk result (λ i. (w : Ways) → PlacedItem w pair_item (pair_of file i)) }
+    ensures template { GivesRead (item_of file) result (λ r. placed_pair r file (note_of item) (held.content_of item.content)) }
+    ensures placed { IfOk result (λ i. (w : Ways) → PlacedItem w pair_item (item_of file i)) }
 {
     let place = place_of(alloc, &item, file)?;
     let NotedItem {
@@ -120,6 +121,7 @@ fn place_pair(alloc: Global, item: NotedItem, file: u32) -> Result<TItem, Stop>
     };
     Ok(TItem::Node(TNode {
         place,
+        kind: ItemKind::Pair,
         key: Some(key),
         notes: Items::new(alloc),
         value,
@@ -129,8 +131,8 @@ fn place_pair(alloc: Global, item: NotedItem, file: u32) -> Result<TItem, Stop>
 
 /// The pairs of the items of a map, or the first refusal.
 pub fn place_pairs(alloc: Global, items: NotedItems, file: u32) -> Result<TItems, Stop>
-    ensures template { GivesRead (pairs_of file) result (λ r. placed_pairs r file (held.items_of items)) }
-    ensures placed { IfOk result (λ is. (w : Ways) → PlacedItems w pair_item (pairs_of file is)) }
+    ensures template { GivesRead (items_of file) result (λ r. placed_pairs r file (held.items_of items)) }
+    ensures placed { IfOk result (λ is. (w : Ways) → PlacedItems w pair_item (items_of file is)) }
 {
     let mut left = turned(alloc, items)?;
     let mut pairs: TItems = Items::new(alloc);

@@ -6,7 +6,7 @@ use Rattle.template_tree.proofs.place.place_pair.Goals as goal
 pub returns-clause-template : goal.returns-clause-template
 returns-clause-template c =
     λ r reads. placed_as r c.args.file c.args.item _ _ _ _ c.in_ok-place.ensures.place c.in_ok-place.ensures.file c.in-Some.ensures (λ written. c.in_ok-value.ensures written r reads) c.in-Some-key.is
-    ∙ sym (ap Ok (pair_is _ _ _ _ _ _ refl refl c.new.ensures refl refl))
+    ∙ sym (ap Ok (pair_is _ _ _ _ _ _ refl refl refl c.new.ensures refl refl))
 
 pub returns-clause-placed : goal.returns-clause-placed
-returns-clause-placed c = λ w. pair_placed _ _ _ _ w refl (content_of-Scalar _ _)
+returns-clause-placed c = λ w. pair_placed _ _ _ _ w refl refl (content_of-Scalar _ _)
