@@ -1,9 +1,10 @@
 //! Syntax trees of Starlark code, and programs.
 //!
-//! `Expr::copy` and `copy_args` give an equal value; `specs/View` leads to the plain data that definitions speak of.
+//! `Expr::copy`, `copy_args` and the calls of `copies` give an equal value; `specs/View` and `specs/Whole` lead to the plain data that definitions speak of.
 #![tactic(auto)]
 
 pub mod code;
+pub mod copies;
 mod expr;
 mod program;
 

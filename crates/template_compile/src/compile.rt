@@ -1,15 +1,15 @@
 // Items as instructions.
 ghost use Rattle.std.specs.Prelude.{◌≡◌, IfOk, OnOk};
-ghost use Rattle.star_tree.specs.View.{item_kind_of, program_of};
+ghost use Rattle.star_tree.specs.View.{program_of};
 ghost use Rattle.template_compile.specs.Emits.{Emits};
 ghost use Rattle.template_spec.specs.Compiled.{compiled, content_code, item_code, items_code};
 ghost use Rattle.template_spec.specs.Placed.{AllowedItems, Placed};
 ghost use Rattle.template_spec.specs.WellNested.{WellNested};
-ghost use Rattle.template_tree.specs.View.{content_of, in_content, items_as, node_of, template_of};
+ghost use Rattle.template_tree.specs.View.{content_of, in_content, items_of, node_of, template_of};
 
 use crate::parts::{holds, put, put_key, put_notes};
 use sqlite_items::Items;
-use star_tree::{Instrs, ItemKind, NodeOp, Program};
+use star_tree::{Instrs, NodeOp, Program};
 use std::alloc::Global;
 use template_tree::{TContent, TItem, TItems, TNode, Template};
 use ytt_base::fault::Place;
@@ -29,7 +29,6 @@ pub fn compile_flat(alloc: Global, template: &Template) -> Result<Program, Memor
     put_items(
         alloc,
         template.file,
-        ItemKind::Document,
         &template.items,
         &mut code,
     )?;
@@ -43,15 +42,14 @@ pub fn compile_flat(alloc: Global, template: &Template) -> Result<Program, Memor
 fn put_items(
     alloc: Global,
     file: u32,
-    kind: ItemKind,
     items: &TItems,
     code: &mut Instrs,
 ) -> Result<(), Memory>
-    ensures { OnOk result (Emits file code.old code.new (items_code (items_as (item_kind_of kind) file items.now))) }
+    ensures { OnOk result (Emits file code.old code.new (items_code (items_of file items.now))) }
 {
     for item in items.as_slice() {
         match item {
-            TItem::Node(node) => put_node(alloc, file, kind, node, code)?,
+            TItem::Node(node) => put_node(alloc, file, node, code)?,
         }
     }
     Ok(())
@@ -61,13 +59,12 @@ fn put_items(
 fn put_node(
     alloc: Global,
     file: u32,
-    kind: ItemKind,
     node: &TNode,
     code: &mut Instrs,
 ) -> Result<(), Memory>
-    ensures { OnOk result (Emits file code.old code.new (item_code (node_of file node.now (item_kind_of kind)))) }
+    ensures { OnOk result (Emits file code.old code.new (item_code (node_of file node.now))) }
 {
-    put(code, NodeOp::Start(node.place, kind, holds(node)))?;
+    put(code, NodeOp::Start(node.place, node.kind, holds(node)))?;
     put_notes(alloc, file, &node.notes, code)?;
     put_key(node.place, &node.key, code)?;
     put_content(alloc, file, node, code)?;
@@ -97,7 +94,7 @@ fn put_written(
 {
     match content {
         TContent::Scalar(scalar) => put(code, NodeOp::Value(place, scalar.copy()?)),
-        TContent::Map(pairs) => put_items(alloc, file, ItemKind::Pair, pairs, code),
-        TContent::List(elements) => put_items(alloc, file, ItemKind::Element, elements, code),
+        TContent::Map(pairs) => put_items(alloc, file, pairs, code),
+        TContent::List(elements) => put_items(alloc, file, elements, code),
     }
 }

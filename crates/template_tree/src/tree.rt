@@ -1,7 +1,7 @@
 // The items of a template.
 
 use sqlite_items::Items;
-use star_tree::{Args, Expr};
+use star_tree::{Args, Expr, ItemKind};
 use ytt_base::fault::Place;
 use ytt_base::text::Text;
 use ytt_base::tree::Key;
@@ -34,6 +34,7 @@ pub type TItems = Items<TItem>;
 pub struct TNode {
     /// Its file, and the line on which it begins.
     pub place: Place,
+    pub kind: ItemKind,
     /// The key of a pair. Documents and elements have none.
     pub key: Option<Key>,
     pub notes: TNotes,

@@ -2,7 +2,7 @@
 
 use sqlite_items::Items;
 use star_eval::{FlatResult, run_flat};
-use star_tree::{Expr, Instr, Instrs, NodeOp, Program};
+use star_tree::{Expr, Instr, Instrs, ItemKind, NodeOp, Program};
 use std::alloc::Global;
 use std::test::Fail;
 use template_compile::compile_flat;
@@ -13,9 +13,10 @@ use ytt_base::fault::{Place, Stop};
 use ytt_base::text::Text;
 use ytt_base::tree::Key;
 
-fn node(alloc: Global, line: u32, content: TContent) -> TNode {
+fn node(alloc: Global, line: u32, kind: ItemKind, content: TContent) -> TNode {
     TNode {
         place: Place { file: 2, line },
+        kind,
         key: None,
         notes: Items::new(alloc),
         value: None,
@@ -23,8 +24,16 @@ fn node(alloc: Global, line: u32, content: TContent) -> TNode {
     }
 }
 
+fn document(alloc: Global, line: u32, content: TContent) -> TNode {
+    node(alloc, line, ItemKind::Document, content)
+}
+
+fn element(alloc: Global, line: u32, content: TContent) -> TNode {
+    node(alloc, line, ItemKind::Element, content)
+}
+
 fn pair(alloc: Global, line: u32, key: Key, content: TContent) -> TNode {
-    let mut node = node(alloc, line, content);
+    let mut node = node(alloc, line, ItemKind::Pair, content);
     node.key = Some(key);
     node
 }
@@ -57,7 +66,7 @@ fn twice(alloc: Global, key: &str, overrides: bool) -> Result<TNode, Fail> {
             line: 3,
         })?;
     }
-    Ok(node(alloc, 1, TContent::Map(items(alloc, first, second)?)))
+    Ok(document(alloc, 1, TContent::Map(items(alloc, first, second)?)))
 }
 
 fn template(alloc: Global, first: TNode, second: TNode) -> Result<Template, Fail> {
@@ -91,16 +100,16 @@ fn run(alloc: Global, template: &Template) -> Result<String, Fail> {
 #[test]
 fn templates_made_by_hand_are_run(rt: HostRuntime) -> Result<(), Fail> {
     let alloc = rt.alloc();
-    let elements = items(alloc, node(alloc, 3, number(1)), node(alloc, 4, null()))?;
+    let elements = items(alloc, element(alloc, 3, number(1)), element(alloc, 4, null()))?;
     let list = pair(alloc, 2, Key::Int(5), TContent::List(elements));
     let empty = pair(alloc, 5, Key::Null, TContent::Map(Items::new(alloc)));
-    let nested = node(alloc, 1, TContent::Map(items(alloc, list, empty)?));
-    let given = run(alloc, &template(alloc, nested, node(alloc, 6, null()))?)?;
+    let nested = document(alloc, 1, TContent::Map(items(alloc, list, empty)?));
+    let given = run(alloc, &template(alloc, nested, document(alloc, 6, null()))?)?;
     assert_eq!(rt; given.as_str(), "5:\n- 1\n- null\nnull: {}\n94 steps");
-    let refused = template(alloc, twice(alloc, "a", false)?, node(alloc, 6, null()))?;
+    let refused = template(alloc, twice(alloc, "a", false)?, document(alloc, 6, null()))?;
     let given = run(alloc, &refused)?;
     assert_eq!(rt; given.as_str(), "error: KeyTwice at b.yml:3: a");
-    let replaced = template(alloc, node(alloc, 6, null()), twice(alloc, "a", true)?)?;
+    let replaced = template(alloc, document(alloc, 6, null()), twice(alloc, "a", true)?)?;
     let given = run(alloc, &replaced)?;
     assert_eq!(rt; given.as_str(), "a: 2\n95 steps");
     Ok(())

@@ -5,7 +5,7 @@ use Rattle.ytt_base.specs.View.{key_of}
 use Rattle.star_tree.specs.View.{expr_of, item_kind_of}
 use Rattle.template_spec.specs.Compiled.{content_code, item_code, items_code, key_code, notes_code}
 use Rattle.template_tree.specs.declared.tree.TItem.{the_lemmas}
-use Rattle.template_tree.specs.View.{content_of, in_content, in_key, item_of, items_as, notes_of}
+use Rattle.template_tree.specs.View.{content_of, in_content, in_key, item_of, items_of, notes_of}
 use Rattle.template_tree.proofs.Views.{node_of-node, content_of-Scalar, content_of-Map, content_of-List}
 use Rattle.template_compile.proofs.Emitting.{emits_next, emits_same, emits_then, on_ok_same}
 use Rattle.template_compile.proofs.Items.{code_here}
@@ -48,17 +48,16 @@ put_node-returns t c =
     (emits_then file c.put.new.code c.put_notes.new.code c.put-2.new.code _ _ c.in_ok-put_notes.ensures
     (emits_then file c.put_notes.new.code c.put_key.new.code c.put-2.new.code _ _ (c.in_ok-put_key.ensures file)
     (emits_then file c.put_key.new.code c.put_content.new.code c.put-2.new.code _ _ c.in_ok-put_content.ensures (c.in_ok-put-2.ensures file)))))
-    (ap item_code (node_of-node file n (item_kind_of c.args.kind))
-    ∙ (λ i is. part (node_start n.place (item_kind_of c.args.kind) (sym (c.holds.ensures file) i)) ∷ notes_code (notes_of file n.notes) (key_code n.place (in_key n.key) (content_code n.place written (part (node_end n.place) ∷ is)))))
+    (ap item_code (node_of-node file n)
+    ∙ (λ i is. part (node_start n.place (item_kind_of n.kind) (sym (c.holds.ensures file) i)) ∷ notes_code (notes_of file n.notes) (key_code n.place (in_key n.key) (content_code n.place written (part (node_end n.place) ∷ is)))))
 
 pub put_items-loop-item-preserved : goal.put_items-loop-item-preserved
 put_items-loop-item-preserved t c =
     let file = c.args.file in
-    let kind = item_kind_of c.args.kind in
     let i = c.item-item.result in
     let lt = rw c.as_slice-item-items.ensures at c.loop-item-test.true in
     let here = rw c.as_slice-item-items.ensures at c.item-item.is in
     emits_next file c.args.code.now c.loop-item.code c.put_node.new.code c.args.items.now c.loop-item.item-index i
-    (λ is js. items_code (items_as kind file is) js) (items_code (items_as kind file c.args.items.now)) (item_code (item_of file i kind))
+    (λ is js. items_code (items_of file is) js) (items_code (items_of file c.args.items.now)) (item_code (item_of file i))
     lt here (λ is js. refl) c.loop-item.invariant
-    (emits_same file c.loop-item.code c.put_node.new.code _ _ c.in_ok-put_node.ensures (code_here file kind i _ (search (rules, the_lemmas))))
+    (emits_same file c.loop-item.code c.put_node.new.code _ _ c.in_ok-put_node.ensures (code_here file i _ (search (rules, the_lemmas))))

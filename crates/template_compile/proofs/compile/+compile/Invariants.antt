@@ -1,11 +1,11 @@
 use Rattle.std.proofs.Common.{◌≡◌, List, ◌++◌, drop}
 use Rattle.star_spec.specs.Program.{Instruction}
-use Rattle.star_tree.specs.View.{instructions_of, item_kind_of}
+use Rattle.star_tree.specs.View.{instructions_of}
 use Rattle.template_spec.specs.Compiled.{items_code}
-use Rattle.template_tree.specs.View.{items_as}
+use Rattle.template_tree.specs.View.{items_of}
 use Rattle.template_compile.proofs.compile.+compile.Given as goal
 
 abbrev pub invariant-put_items-loop-item : goal.invariant-put_items-loop-item
 invariant-put_items-loop-item l =
-    (is : List Instruction) → instructions_of l.file l.code ++ items_code (items_as (item_kind_of l.kind) l.file (drop l.item-index l.items)) is
-    ≡ instructions_of l.file l.initial.code ++ items_code (items_as (item_kind_of l.kind) l.file l.items) is
+    (is : List Instruction) → instructions_of l.file l.code ++ items_code (items_of l.file (drop l.item-index l.items)) is
+    ≡ instructions_of l.file l.initial.code ++ items_code (items_of l.file l.items) is

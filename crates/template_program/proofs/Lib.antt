@@ -1,0 +1,4 @@
+pub mod Emitting
+pub mod Items
+pub mod Resolving
+pub mod Turns
