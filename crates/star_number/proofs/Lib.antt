@@ -1,2 +1,4 @@
+pub mod AllowedNames
+pub mod Nested
 pub mod Rows
 pub mod Slices

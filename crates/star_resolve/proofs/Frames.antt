@@ -9,11 +9,13 @@ use Rattle.star_spec.specs.Code.{Name}
 use Rattle.star_spec.specs.Keys.{further, or_else}
 use Rattle.star_spec.specs.Names.{box_of, with_box, with_boxes}
 use Rattle.star_spec.specs.Outcomes.{State, Ending, done, bad, then_do, give, on_store}
-use Rattle.star_spec.specs.Scopes.{Around, Use, binds, home_by, outward}
+use Rattle.star_spec.specs.Scopes.{Around, Use, Home, local, global, builtin, unknown, binds, home_by, home_of, outward}
 use Rattle.star_spec.specs.Store.{object, with_object}
 use Rattle.star_spec.specs.Values.{Env, of_box}
-use Rattle.star_resolve.specs.Environments.{Parts, box_at_home, part_at}
-use Rattle.star_resolve.specs.Frames.{CallFrames, Frame, FrameOf, Frames, NamesAreVariables, NewFrames, added, box_in, boxed, counted, frame_at, unset_boxes, variable_box, with_unset}
+use Rattle.star_resolve.specs.Environments.{Parts, box_at_home, has_box, joined, part_at}
+use Rattle.star_resolve.specs.declared.levels.Variable.{Variable}
+use Rattle.star_resolve.specs.declared.levels.Variable.TheVariants as variable
+use Rattle.star_resolve.specs.Frames.{CallFrames, Frame, FrameOf, Frames, NamesAreVariables, NewFrames, OwnNamesHaveBoxes, is_own, added, box_in, boxed, counted, frame_at, unset_boxes, variable_box, with_unset}
 use Rattle.star_resolve.specs.Variables.{each_once, number_in, scope_at, variable_at, with_each, with_name}
 use Rattle.star_resolve.proofs.Boxes.{all_names_bound, binds_either, given_boxes, given_names, more_boxes, names_have_their_boxes, pushed}
 use Rattle.star_resolve.proofs.Found.{any_more, bytes_eq-sym, position_is}
@@ -75,6 +77,23 @@ pub names_are_variables : NamesAreVariables
 names_are_variables globals builtins u parts file frames own h f =
     let boxes = names_have_their_boxes globals builtins u parts file (their_boxes u.around parts frames h) f.known in
     (boxes.0 ∙ box_by_home globals builtins u parts file frames own (outward u.name u.around) (binds u.name globals) (binds u.name builtins) (local_boxes u.name u.around parts frames h) f refl, boxes.1)
+
+-- it has a box where it has a variable of the program
+own_has_box : (globals builtins : List Name) (u : Use) (h : Home) (v : Variable) → variable_at h globals builtins u ≡ Some v → IsTrue (is_own v) → has_box h ≡ true
+own_has_box globals builtins u (local n) v e i = refl
+own_has_box globals builtins u global v e i = refl
+own_has_box globals builtins u builtin v e i = let same : variable.Builtin (number_in builtins u.name) ≡ v = cc in ap is_own same ∙ i
+own_has_box globals builtins u unknown v e i = cc
+
+the_box : (o : Option ℕ) → is_some o ≡ true → (r : ℕ) × (o ≡ Some r)
+the_box None h = absurd (cc)
+the_box (Some r) h = (r, refl)
+
+pub own_names_have_boxes : OwnNamesHaveBoxes
+own_names_have_boxes globals builtins u parts file frames own v h f e i =
+    let same = names_are_variables globals builtins u parts file frames own h f in
+    let found = the_box (box_of u.name (joined parts file)) (same.1 ∙ own_has_box globals builtins u (home_of globals builtins u) v e i) in
+    (found.0, found.1, ap (variable_box frames own) (sym e) ∙ sym same.0 ∙ found.1)
 
 -- ---- boxes by names
 

@@ -1,6 +1,6 @@
 -- The boxes of variables, by their numbers, against the environments in which code is evaluated, which have a box for each
 -- name: so that what is said of names holds of their variables.
-use Rattle.std.specs.Prelude.{◌≡◌, ℕ, zero, suc, List, [], ◌∷◌, ◌++◌, length, slice_get, Option, Some, None, is_some, bytes_eq, position, if◌then◌else◌, map as each, IsTrue}
+use Rattle.std.specs.Prelude.{◌≡◌, ℕ, zero, suc, Bool, true, false, List, [], ◌∷◌, ◌++◌, length, slice_get, Option, Some, None, is_some, bytes_eq, position, if◌then◌else◌, map as each, IsTrue}
 use Rattle.std.specs.List.{list_any}
 use Rattle.star_spec.specs.Allowed.{AllowedParameters, all_left, are_distinct, parameter_names}
 use Rattle.star_spec.specs.Binding.{Given, all_bound, boxes_of}
@@ -47,11 +47,23 @@ variable_box frames globals (Some (variable.Global k)) = slice_get globals k
 variable_box frames globals (Some (variable.Builtin k)) = None
 variable_box frames globals None = None
 
+-- a variable of the program, and none of the language
+abbrev pub is_own : Variable → Bool
+is_own (variable.Local n k) = true
+is_own (variable.Global k) = true
+is_own (variable.Builtin k) = false
+
 -- The box of a name is the box of its variable. It has one exactly where a scope binds it.
 abbrev pub NamesAreVariables : Type 0
 NamesAreVariables =
     (globals builtins : List Name) (u : Use) (parts : List Env) (file : Env) (frames : List Frame) (own : Frame) → Frames u.around parts frames → FrameOf globals file own →
     (box_of u.name (joined parts file) ≡ variable_box frames own (variable_of globals builtins u)) × (is_some (box_of u.name (joined parts file)) ≡ has_box (home_of globals builtins u))
+
+-- So a name whose variable is the program's has a box, and is never unknown when it is read or written.
+abbrev pub OwnNamesHaveBoxes : Type 0
+OwnNamesHaveBoxes =
+    (globals builtins : List Name) (u : Use) (parts : List Env) (file : Env) (frames : List Frame) (own : Frame) (v : Variable) → Frames u.around parts frames → FrameOf globals file own →
+    variable_of globals builtins u ≡ Some v → IsTrue (is_own v) → (r : ℕ) × (box_of u.name (joined parts file) ≡ Some r) × (variable_box frames own (Some v) ≡ Some r)
 
 -- ---- new scopes
 

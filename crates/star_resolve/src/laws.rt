@@ -1,6 +1,6 @@
 // That the scopes of names, and their variables, agree with the environments in which code is evaluated.
 ghost use Rattle.star_resolve.specs.Environments.{CallScopes, NamesHaveTheirBoxes, NewScopes};
-ghost use Rattle.star_resolve.specs.Frames.{CallFrames, NamesAreVariables, NewFrames};
+ghost use Rattle.star_resolve.specs.Frames.{CallFrames, NamesAreVariables, NewFrames, OwnNamesHaveBoxes};
 
 /// In an environment that has the boxes of what the scopes around a name bind, the name has the box that
 /// its scope has for it, or none where no scope binds it.
@@ -20,10 +20,11 @@ pub fn call_scopes<H>()
 {}
 
 /// Where each scope around a place has the boxes of its variables, the box of a name there is the box of
-/// its variable. A name has one exactly where a scope binds it, so no name that `resolve` finds a variable
-/// of the program for is unknown when it is read or assigned to.
+/// its variable. A name has one exactly where a scope binds it, so none that has a variable of the program
+/// is unknown when it is read or written.
 pub fn names_are_variables()
-    ensures { NamesAreVariables }
+    ensures boxes { NamesAreVariables }
+    ensures own { OwnNamesHaveBoxes }
 {}
 
 /// A file and a comprehension get a new box for each of their variables, in the order of their numbers,

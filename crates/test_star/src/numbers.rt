@@ -10,10 +10,7 @@ use ytt_base::text::{Memory, Text};
 /// `lambda: 1`
 fn lambda(alloc: Global) -> Result<Boxed<Expr>, Memory> {
     let body = Boxed::new(alloc, Expr::Int(1, 1))?;
-    Ok(Boxed::new(
-        alloc,
-        Expr::Lambda(1, 0, Items::new(alloc), body),
-    )?)
+    Ok(Boxed::new(alloc, Expr::Lambda(1, 0, Items::new(alloc), body))?)
 }
 
 /// `lambda: 1`, and `def f(x=lambda: 1):` with an empty block.
