@@ -105,7 +105,7 @@ fn build(
 ) -> Result<Trees, Stop>
     ensures { GivesCode trees_of result (λ r. and_then (built steps) (template_passed r ignore_unknown 1 (documents_of documents))) }
 {
-    let template = pass_template(alloc, documents, ignore_unknown)?;
+    let template = pass_template(alloc, &documents, ignore_unknown)?;
     let program = compile_flat(alloc, &template)?;
     let ran = run_flat(alloc, &program, steps)?;
     Ok(ran.documents)

@@ -17,13 +17,13 @@ use ytt_base::fault::Stop;
 /// names, and what isn't built yet.
 pub fn pass_template(
     alloc: Global,
-    documents: NotedDocs,
+    documents: &NotedDocs,
     ignore_unknown: bool,
 ) -> Result<Template, Stop>
-    ensures template { GivesCode template_of result (λ r. template_passed r ignore_unknown 1 (documents_of documents)) }
+    ensures template { GivesCode template_of result (λ r. template_passed r ignore_unknown 1 (documents_of documents.now)) }
     ensures stands { IfOk result (λ t. WordsStand free (template_of t)) }
 {
     let whole = place(alloc, documents, 1, ignore_unknown)?;
     bound(alloc, &whole)?;
-    narrow(alloc, whole)
+    narrow(alloc, &whole)
 }
