@@ -13,5 +13,5 @@ mod reader;
 mod words;
 
 pub use comment::Comment;
-pub use laws::{a_code_reader_exists, code_readers_agree};
+pub use laws::{a_code_reader_exists, code_readers_agree, depths_tell};
 pub use reader::{is_open, read_comment};
