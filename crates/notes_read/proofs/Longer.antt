@@ -38,7 +38,7 @@ code_or_not : (b z : Bool) (o : Option ℕ) → z ≡ some_open o → (b && z) �
 code_or_not true z o e = e
 code_or_not false z o e = refl
 
-tells : (r : CodeReader) → IsCodeReader r → (place : Place) (text : List ℕ) → (is_code text && r.is_open place (without_end (code_in text))) ≡ some_open (depth_of text)
+pub tells : (r : CodeReader) → IsCodeReader r → (place : Place) (text : List ℕ) → (is_code text && r.is_open place (without_end (code_in text))) ≡ some_open (depth_of text)
 tells r reads place text =
     let code : List ℕ = without_end (code_in text) in
     code_or_not (is_code text) (r.is_open place code) (depth_behind 0 code) (reads.is_open place code ∙ open_in (tokens_at place code) ∙ ap some_open (counts place 0 code))
@@ -127,7 +127,7 @@ by_code false false o o' n end e f h = cc
 by_code true false o o' n end e f h = cc
 by_code false true o o' n end e f h = cc
 
-goes_on : (text code : List ℕ) (n : ℕ) → depth_of text ≡ Some n → depth_of (text ++ 10 ∷ code) ≡ depth_behind n code
+pub goes_on : (text code : List ℕ) (n : ℕ) → depth_of text ≡ Some n → depth_of (text ++ 10 ∷ code) ≡ depth_behind n code
 goes_on text code n h =
     let shorter : List ℕ = without_end (code_in text) in
     by_code (is_code text) (is_code (text ++ 10 ∷ code)) (depth_behind 0 shorter) (depth_behind 0 (without_end (code_in (text ++ 10 ∷ code)))) n (depth_behind n code) (begins_same text code (codes "#@ ") mark_in_line)
