@@ -1,4 +1,5 @@
 pub mod Gives
+pub mod Longer
 pub mod Readers
 pub mod Reading
 pub mod Refusing

@@ -1,14 +1,14 @@
 // Reading comments.
-ghost use Rattle.std.specs.Prelude.{◌≡◌, ◌&&◌, ℕ, drop, Ok, IfOk};
+ghost use Rattle.std.specs.Prelude.{◌≡◌, ℕ, drop, Ok, IfOk};
+ghost use Rattle.notes_read.specs.Depths as depths;
 ghost use Rattle.notes_read.specs.View.{said_of};
 ghost use Rattle.star_grammar.specs.CodeReaders as brackets;
-ghost use Rattle.star_grammar.specs.CodeReaders.{GivesCode, IsCodeReader, leaves_open, tokens_at};
+ghost use Rattle.star_grammar.specs.CodeReaders.{GivesCode};
 ghost use Rattle.star_grammar.specs.Tokens as lexed;
-ghost use Rattle.star_spec.specs.CodeReading.{CodeReader};
+ghost use Rattle.star_lines.specs.Depths as lines;
 ghost use Rattle.star_tree.specs.Whole.{header_of};
 ghost use Rattle.template_spec.specs.Comments as spec;
 ghost use Rattle.yaml_noted.specs.View.{comment_of};
-ghost use Rattle.yaml_spec.specs.Noted as noted;
 ghost use Rattle.ytt_base.specs.Outcomes.{Gives, place_at};
 
 use crate::code::{read_expr, read_header, read_simple};
@@ -151,44 +151,51 @@ fn depth_behind(depth: u32, token: &TokenKind) -> u32
     }
 }
 
-/// How many brackets are open behind tokens.
-fn open_brackets(tokens: &[Token]) -> u32
-    ensures { result ≡ brackets.brackets 0 tokens.now }
+/// How many brackets are open behind tokens, where so many are open before them.
+fn open_brackets(tokens: &[Token], before: u32) -> u32
+    ensures { result ≡ brackets.brackets before tokens.now }
 {
-    let mut depth: u32 = 0;
+    let mut depth = before;
     for token in tokens {
         depth = depth_behind(depth, &token.kind);
     }
     depth
 }
 
-/// Whether brackets are open at the end of a text of code.
-fn leaves_open(alloc: Global, text: &Text, at: Place) -> Result<bool, Memory>
-    ensures { IfOk result (λ b. b ≡ leaves_open (tokens_at at text.now)) }
+/// How many brackets are open behind a text of code, or `None` where a piece of it is no token.
+#[tactic(auto, using(crate::proofs::Longer::depths))]
+fn depth_behind_text(alloc: Global, text: &Text, before: u32) -> Result<Option<u32>, Memory>
+    ensures { IfOk result (λ d. d ≡ lines.depth_behind before text.now) }
 {
-    match tokens(alloc, text, at.file, at.line) {
-        Ok(found) => Ok(open_brackets(found.tokens.as_slice()) > 0),
-        Err(Stop::Fault(_)) => Ok(false),
+    match tokens(alloc, text, 1, 1) {
+        Ok(found) => Ok(Some(open_brackets(found.tokens.as_slice(), before))),
+        Err(Stop::Fault(_)) => Ok(None),
         Err(Stop::Memory) => Err(Memory),
     }
 }
 
-/// Whether a comment is code with brackets open at its end, so that it goes on with the code on the line below.
+/// How many brackets are open behind a line of code, where so many are open before it, or `None` where a piece of it is no token. The
+/// only error is want of memory.
+pub fn depth_behind_code(alloc: Global, code: &str, before: u32) -> Result<Option<u32>, Memory>
+    ensures depth { IfOk result (λ d. d ≡ lines.depth_behind before code.now) }
+{
+    let text = Text::of(alloc, code)?;
+    depth_behind_text(alloc, &text, before)
+}
+
+/// How many brackets are open at the end of a comment's code, or `None` for a comment that is no code and where a piece of it is no
+/// token.
 ///
-/// The `/end` of a head counts for nothing, and code with a piece that is no token leaves nothing open. The only error is want of
-/// memory.
-pub fn is_open(alloc: Global, comment: &RawComment, file: u32) -> Result<bool, Memory>
-    ensures open { (r : CodeReader) → IsCodeReader r → IfOk result (λ b. b ≡ (noted.is_code comment.now.text && r.is_open (place_at file comment.now.line) (spec.without_end (noted.code_in comment.now.text)))) }
+/// Where some are open, the comment goes on with the code on the line below (`depths_tell`). The `/end` of a head counts for nothing. The
+/// only error is want of memory.
+pub fn depth_of(alloc: Global, comment: &RawComment) -> Result<Option<u32>, Memory>
+    ensures depth { IfOk result (λ d. d ≡ depths.depth_of comment.now.text) }
 {
     match behind(comment.text.as_str(), "#@ ") {
-        None => Ok(false),
+        None => Ok(None),
         Some(code) => {
             let text = without_end(alloc, code)?;
-            let at = Place {
-                file,
-                line: comment.line,
-            };
-            leaves_open(alloc, &text, at)
+            depth_behind_text(alloc, &text, 0)
         }
     }
 }

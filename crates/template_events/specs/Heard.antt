@@ -1,14 +1,14 @@
 -- What a call returned, beside rows and events.
-use Rattle.std.specs.Prelude.{◌≡◌, ℕ, Bool, true, false, List, ◌∷◌, Option, Result, Ok, Err, IfOk, MatchOption}
+use Rattle.std.specs.Prelude.{◌≡◌, ℕ, Bool, true, false, List, ◌∷◌, Option, Result, Ok, Err, Some, None, MatchOption}
 use Rattle.std.specs.Borrow.{Bor}
 use Rattle.ytt_base.specs.declared.fault.Stop.{Stop}
 use Rattle.ytt_base.specs.declared.fault.Stop.TheVariants as stop
-use Rattle.ytt_base.specs.declared.text.Memory.{Memory}
 use Rattle.ytt_base.specs.Outcomes.{Outcome}
 use Rattle.yaml_spec.specs.Noted.{Documents, code_in}
 use Rattle.star_grammar.specs.CodeReaders.{IsCodeReader}
 use Rattle.star_spec.specs.CodeReading.{CodeReader}
 use Rattle.template_spec.specs.Events.{Event, events}
+use Rattle.notes_read.specs.Depths.{depth_of}
 use Rattle.template_pass.specs.Rows.{AreRows, Row}
 use Rattle.template_events.specs.Levels.{Part}
 use Rattle.template_events.specs.Hearing.{behind, rows_from}
@@ -39,5 +39,13 @@ Takes ignore file held part old new result =
     Goes (behind (rows_of file old) (rows_from r ignore file (held_of held) (part ∷ rest))) result (λ h. behind (rows_of file new) (rows_from r ignore file (held_of h) rest))
 
 -- What continues a comment, if it does: the code of this text.
-abbrev pub Continues : (goes_on : Bool) → (text : List ℕ) → Result (Option (Bor (List ℕ))) Memory → Type 0
-Continues goes_on text result = IfOk result (λ found. MatchOption found (goes_on ≡ false) (λ code. (goes_on ≡ true) × (code.now ≡ code_in text)))
+abbrev pub Continues : (goes_on : Bool) → (text : List ℕ) → Option (Bor (List ℕ)) → Type 0
+Continues goes_on text found = MatchOption found (goes_on ≡ false) (λ code. (goes_on ≡ true) × (code.now ≡ code_in text))
+
+-- How many brackets are open at the end of what is held is known.
+abbrev pub IsKnown : state.Held → Type 0
+IsKnown h = h.depth ≡ depth_of h.comment.text
+
+abbrev pub AreKnown : Option state.Held → Type 0
+AreKnown None = Unit {0}
+AreKnown (Some h) = IsKnown h

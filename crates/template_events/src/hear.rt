@@ -1,21 +1,24 @@
 // What comments say, each together with those that continue it.
-ghost use Rattle.std.specs.Prelude.{◌≡◌, ◌==◌, ◌++◌, [], ◌∷◌, ℕ, suc, true, false, IfOk, OnOk, MatchOption, None, option_map, reverse};
+ghost use Rattle.std.specs.Prelude.{◌≡◌, ◌==◌, ◌&&◌, List, ◌++◌, [], ◌∷◌, ℕ, suc, true, false, IfOk, OnOk, MatchOption, None, option_map, reverse};
+ghost use Rattle.notes_read.specs.Depths as depths;
 ghost use Rattle.notes_read.specs.View.{said_of};
 ghost use Rattle.star_grammar.specs.CodeReaders.{GivesCode, IsCodeReader};
 ghost use Rattle.star_spec.specs.CodeReading.{CodeReader};
 ghost use Rattle.template_events.specs.declared.event.Part.TheVariants as part;
 ghost use Rattle.template_events.specs.Hearing as spec;
-ghost use Rattle.template_events.specs.Heard.{AreHeard, Continues, Takes};
+ghost use Rattle.template_events.specs.Heard.{AreHeard, AreKnown, Continues, IsKnown, Takes};
 ghost use Rattle.template_events.specs.Levels as level;
 ghost use Rattle.template_events.specs.View as view;
 ghost use Rattle.template_events.specs.View.{held_by, held_of, owner_of, part_of, parts_of, rows_of};
+ghost use Rattle.template_spec.specs.Comments.{without_end};
 ghost use Rattle.template_spec.specs.Events.{continues_it};
 ghost use Rattle.yaml_noted.specs.View.{comment_of, documents_of};
 ghost use Rattle.yaml_spec.specs.Noted.{code_in, is_code};
+ghost use Rattle.ytt_base.specs.Outcomes.{place_at};
 
 use crate::event::{Owner, Part, Parts, Row, Rows, Start};
 use crate::flat::flatten;
-use notes_read::{Comment, is_open, read_comment};
+use notes_read::{Comment, depth_behind_code, depth_of, read_comment};
 use sqlite_items::Items;
 use std::alloc::Global;
 use yaml_noted::{NotedDocs, RawComment};
@@ -30,6 +33,8 @@ pub struct Held {
     pub comment: RawComment,
     /// The line of its last part.
     pub last: u32,
+    /// How many brackets are open at its end, if it is code.
+    pub depth: Option<u32>,
 }
 
 /// The parts in the opposite order.
@@ -69,41 +74,45 @@ fn is_below(line: u32, above: u32) -> bool
     }
 }
 
-/// The code with which a comment of no item continues this one, or `None` where it doesn't.
-fn continuation<'a>(
-    alloc: Global,
-    held: &Held,
-    below: &'a RawComment,
-    file: u32,
-) -> Result<Option<&'a str>, Memory>
-    ensures { (r : CodeReader) → IsCodeReader r → Continues (continues_it r file (comment_of held.now.comment) held.now.last (comment_of below.now)) below.now.text result }
+fn some_open(depth: Option<u32>) -> bool
+    ensures { result ≡ depths.some_open depth }
 {
-    if !below.own_line || !is_below(below.line, held.last) {
-        return Ok(None);
-    }
-    let Some(code) = code_in(below.text.as_str()) else {
-        return Ok(None);
-    };
-    if is_open(alloc, &held.comment, file)? {
-        Ok(Some(code))
-    } else {
-        Ok(None)
+    match depth {
+        Some(n) => n > 0,
+        None => false,
     }
 }
 
+/// Whether a comment is code that may go on.
+fn may_go_on(held: &Held) -> bool
+    requires { IsKnown held.now }
+    ensures { (r : CodeReader) → IsCodeReader r → (file : ℕ) → result ≡ (is_code held.now.comment.text && r.is_open (place_at file held.now.comment.line) (without_end (code_in held.now.comment.text))) }
+{
+    some_open(held.depth)
+}
+
+/// The code with which a comment of no item continues this one, or `None` where it doesn't.
+fn continuation<'a>(held: &Held, below: &'a RawComment) -> Option<&'a str>
+    requires { IsKnown held.now }
+    ensures { (r : CodeReader) → IsCodeReader r → (file : ℕ) → Continues (continues_it r file (comment_of held.now.comment) held.now.last (comment_of below.now)) below.now.text result }
+{
+    if !below.own_line || !is_below(below.line, held.last) {
+        return None;
+    }
+    let Some(code) = code_in(below.text.as_str()) else {
+        return None;
+    };
+    if may_go_on(held) { Some(code) } else { None }
+}
+
 /// The code with which a comment continues what is held. The comment of an item continues none.
-fn going_on<'a>(
-    alloc: Global,
-    held: &Option<Held>,
-    owner: Option<Owner>,
-    below: &'a RawComment,
-    file: u32,
-) -> Result<Option<&'a str>, Memory>
-    ensures { (r : CodeReader) → IsCodeReader r → Continues (spec.goes_on r file (held_of held.now) (option_map owner_of owner) (comment_of below.now)) below.now.text result }
+fn going_on<'a>(held: &Option<Held>, owner: Option<Owner>, below: &'a RawComment) -> Option<&'a str>
+    requires { AreKnown held.now }
+    ensures { (r : CodeReader) → IsCodeReader r → (file : ℕ) → Continues (spec.goes_on r file (held_of held.now) (option_map owner_of owner) (comment_of below.now)) below.now.text result }
 {
     match (held, owner) {
-        (Some(held), None) => continuation(alloc, held, below, file),
-        _ => Ok(None),
+        (Some(held), None) => continuation(held, below),
+        _ => None,
     }
 }
 
@@ -117,29 +126,65 @@ fn joined(alloc: Global, text: &str, below: &str) -> Result<Text, Memory>
     Ok(Text::of_string(string))
 }
 
+/// The brackets that are open behind a comment that went on with this code, where so many were open before.
+fn depth_behind(
+    alloc: Global,
+    before: Option<u32>,
+    code: &str,
+    longer: &RawComment,
+) -> Result<Option<u32>, Memory>
+    ensures { (text : List ℕ) → before ≡ depths.depth_of text → longer.now.text ≡ text ++ 10 ∷ code.now → IfOk result (λ d. d ≡ depths.depth_of longer.now.text) }
+{
+    match before {
+        Some(n) => depth_behind_code(alloc, code, n),
+        None => depth_of(alloc, longer),
+    }
+}
+
 /// What is held with more code, up to this line.
 fn grown_by(alloc: Global, held: Held, code: &str, line: u32) -> Result<Held, Memory>
-    ensures { IfOk result (λ h. held_by h ≡ spec.grown_by (held_by held) code.now line) }
+    requires { IsKnown held }
+    ensures grown { IfOk result (λ h. held_by h ≡ spec.grown_by (held_by held) code.now line) }
+    ensures known { IfOk result (λ h. IsKnown h) }
 {
-    let text = joined(alloc, held.comment.text.as_str(), code)?;
+    let comment = RawComment {
+        line: held.comment.line,
+        own_line: held.comment.own_line,
+        text: joined(alloc, held.comment.text.as_str(), code)?,
+    };
+    let depth = depth_behind(alloc, held.depth, code, &comment)?;
     Ok(Held {
         owner: held.owner,
-        comment: RawComment {
-            line: held.comment.line,
-            own_line: held.comment.own_line,
-            text,
-        },
+        comment,
         last: line,
+        depth,
     })
 }
 
 fn grown(alloc: Global, held: Option<Held>, code: &str, line: u32) -> Result<Option<Held>, Memory>
-    ensures { IfOk result (λ h. held_of h ≡ spec.grown (held_of held) code.now line) }
+    requires { AreKnown held }
+    ensures grown { IfOk result (λ h. held_of h ≡ spec.grown (held_of held) code.now line) }
+    ensures known { IfOk result (λ h. AreKnown h) }
 {
     match held {
         Some(held) => Ok(Some(grown_by(alloc, held, code, line)?)),
         None => Ok(None),
     }
+}
+
+/// A comment that is held from now on.
+fn hold(alloc: Global, owner: Option<Owner>, comment: RawComment) -> Result<Held, Memory>
+    ensures held { IfOk result (λ h. held_by h ≡ spec.held_from (option_map owner_of owner) (comment_of comment)) }
+    ensures known { IfOk result (λ h. IsKnown h) }
+{
+    let depth = depth_of(alloc, &comment)?;
+    let last = comment.line;
+    Ok(Held {
+        owner,
+        comment,
+        last,
+        depth,
+    })
 }
 
 fn row_of(owner: Option<Owner>, line: u32, said: Comment) -> Row
@@ -209,18 +254,15 @@ fn take_comment(
     file: u32,
     ignore_unknown: bool,
 ) -> Result<Option<Held>, Stop>
-    ensures { Takes ignore_unknown file held (level.comment (option_map owner_of owner) (comment_of comment)) rows.old rows.new result }
+    requires { AreKnown held }
+    ensures takes { Takes ignore_unknown file held (level.comment (option_map owner_of owner) (comment_of comment)) rows.old rows.new result }
+    ensures known { IfOk result (λ h. AreKnown h) }
 {
-    if let Some(code) = going_on(alloc, &held, owner, &comment, file)? {
+    if let Some(code) = going_on(&held, owner, &comment) {
         return Ok(grown(alloc, held, code, comment.line)?);
     }
     let_go(alloc, held, rows, file, ignore_unknown)?;
-    let last = comment.line;
-    Ok(Some(Held {
-        owner,
-        comment,
-        last,
-    }))
+    Ok(Some(hold(alloc, owner, comment)?))
 }
 
 /// Takes an item: what is held ends before it.
@@ -232,7 +274,9 @@ fn take_start(
     file: u32,
     ignore_unknown: bool,
 ) -> Result<Option<Held>, Stop>
-    ensures { Takes ignore_unknown file held (part_of (part.Starts start)) rows.old rows.new result }
+    requires { AreKnown held }
+    ensures takes { Takes ignore_unknown file held (part_of (part.Starts start)) rows.old rows.new result }
+    ensures known { IfOk result (λ h. AreKnown h) }
 {
     let_go(alloc, held, rows, file, ignore_unknown)?;
     push(rows, Row::Begins(start))?;
@@ -248,7 +292,9 @@ fn take(
     file: u32,
     ignore_unknown: bool,
 ) -> Result<Option<Held>, Stop>
-    ensures { Takes ignore_unknown file held (part_of part) rows.old rows.new result }
+    requires { AreKnown held }
+    ensures takes { Takes ignore_unknown file held (part_of part) rows.old rows.new result }
+    ensures known { IfOk result (λ h. AreKnown h) }
 {
     match part {
         Part::Starts(start) => take_start(alloc, start, held, rows, file, ignore_unknown),
