@@ -26,12 +26,7 @@ pub fn compile_flat(alloc: Global, template: &Template) -> Result<Program, Memor
     ensures well_nested { IfOk result (λ p. Placed (template_of template.now) → AllowedItems (template_of template.now) → WellNested (program_of p)) }
 {
     let mut code = Items::new(alloc);
-    put_items(
-        alloc,
-        template.file,
-        &template.items,
-        &mut code,
-    )?;
+    put_items(alloc, template.file, &template.items, &mut code)?;
     Ok(Program {
         file: template.file,
         code,
@@ -39,12 +34,7 @@ pub fn compile_flat(alloc: Global, template: &Template) -> Result<Program, Memor
 }
 
 #[cycle(compile)]
-fn put_items(
-    alloc: Global,
-    file: u32,
-    items: &TItems,
-    code: &mut Instrs,
-) -> Result<(), Memory>
+fn put_items(alloc: Global, file: u32, items: &TItems, code: &mut Instrs) -> Result<(), Memory>
     ensures { OnOk result (Emits file code.old code.new (items_code (items_of file items.now))) }
 {
     for item in items.as_slice() {
@@ -56,12 +46,7 @@ fn put_items(
 }
 
 #[cycle(compile)]
-fn put_node(
-    alloc: Global,
-    file: u32,
-    node: &TNode,
-    code: &mut Instrs,
-) -> Result<(), Memory>
+fn put_node(alloc: Global, file: u32, node: &TNode, code: &mut Instrs) -> Result<(), Memory>
     ensures { OnOk result (Emits file code.old code.new (item_code (node_of file node.now))) }
 {
     put(code, NodeOp::Start(node.place, node.kind, holds(node)))?;

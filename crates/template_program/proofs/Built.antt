@@ -5,7 +5,7 @@ use Rattle.ytt_base.specs.declared.fault.Place.{Place}
 use Rattle.star_spec.specs.Code.{Expr, unary, binary, UnaryOperator, BinaryOperator}
 use Rattle.template_program.specs.Kept.{applied, built_binary, built_unary, combined, earlier, if_built, joined_items}
 use Rattle.template_spec.specs.Template.{Item, Items, an_item, no_items}
-use Rattle.template_spec.specs.Unbuilt.{first_place, first_unbuilt, is_built_binary, is_built_unary, unbuilt_item, unbuilt_items, unless_built}
+use Rattle.template_spec.specs.Unbuilt.{first_place, is_built_binary, is_built_unary, unbuilt_item, unbuilt_items, unless_built}
 
 -- ---- the first one
 

@@ -57,11 +57,7 @@ pub(crate) fn put_notes(
 }
 
 /// Puts the key of a pair behind the instructions, where the node has one.
-pub(crate) fn put_key(
-    place: Place,
-    key: &Option<Key>,
-    code: &mut Items<Stmt>,
-) -> Result<(), Memory>
+pub(crate) fn put_key(place: Place, key: &Option<Key>, code: &mut Items<Stmt>) -> Result<(), Memory>
     ensures { (file : ℕ) → OnOk result (Emits file code.old code.new (key_code place (in_key key.now))) }
 {
     match key {
@@ -98,11 +94,7 @@ fn simple(alloc: Global, stmt: &Stmt) -> Result<Stmt, Memory>
 }
 
 /// Puts a simple statement behind the instructions.
-pub(crate) fn put_simple(
-    alloc: Global,
-    stmt: &Stmt,
-    code: &mut Items<Stmt>,
-) -> Result<(), Memory>
+pub(crate) fn put_simple(alloc: Global, stmt: &Stmt, code: &mut Items<Stmt>) -> Result<(), Memory>
     ensures { (file : ℕ) → OnOk result (Emits file code.old code.new (item_code (code_of file (instruction_of file stmt.now)))) }
 {
     put(code, simple(alloc, stmt)?)

@@ -7,7 +7,9 @@ ghost use Rattle.template_spec.specs.Compiled.{branches_code, compiled, content_
 ghost use Rattle.ytt_base.specs.Outcomes.{place_at};
 
 use crate::holds::{fragment, holds};
-use crate::parts::{put, put_def, put_elif, put_for, put_if, put_key, put_notes, put_part, put_simple};
+use crate::parts::{
+    put, put_def, put_elif, put_for, put_if, put_key, put_notes, put_part, put_simple,
+};
 use sqlite_items::Items;
 use star_tree::code::{NodeOp, Program, Stmt};
 use star_tree::copies::copy_boxed;
@@ -32,12 +34,7 @@ pub fn compile(alloc: Global, template: &Template) -> Result<Program, Memory>
 }
 
 #[cycle(compile)]
-fn put_items(
-    alloc: Global,
-    file: u32,
-    items: &TItems,
-    code: &mut Items<Stmt>,
-) -> Result<(), Memory>
+fn put_items(alloc: Global, file: u32, items: &TItems, code: &mut Items<Stmt>) -> Result<(), Memory>
     ensures { OnOk result (Emits file code.old code.new (items_code (items_of file items.now))) }
 {
     for item in items.as_slice() {
@@ -113,7 +110,10 @@ fn put_content(alloc: Global, file: u32, node: &TNode, code: &mut Items<Stmt>) -
     ensures { OnOk result (Emits file code.old code.new (content_code node.now.place (in_content file node.now.value (content_of file node.now.content)))) }
 {
     match &node.value {
-        Some(expr) => put_part(code, NodeOp::ValueFrom(node.place, copy_boxed(alloc, expr)?)),
+        Some(expr) => put_part(
+            code,
+            NodeOp::ValueFrom(node.place, copy_boxed(alloc, expr)?),
+        ),
         None => put_written(alloc, file, node.place, &node.content, code),
     }
 }

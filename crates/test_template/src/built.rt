@@ -100,7 +100,11 @@ fn run(alloc: Global, template: &Template) -> Result<String, Fail> {
 #[test]
 fn templates_made_by_hand_are_run(rt: HostRuntime) -> Result<(), Fail> {
     let alloc = rt.alloc();
-    let elements = items(alloc, element(alloc, 3, number(1)), element(alloc, 4, null()))?;
+    let elements = items(
+        alloc,
+        element(alloc, 3, number(1)),
+        element(alloc, 4, null()),
+    )?;
     let list = pair(alloc, 2, Key::Int(5), TContent::List(elements));
     let empty = pair(alloc, 5, Key::Null, TContent::Map(Items::new(alloc)));
     let nested = document(alloc, 1, TContent::Map(items(alloc, list, empty)?));

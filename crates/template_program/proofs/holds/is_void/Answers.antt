@@ -1,4 +1,4 @@
-use Rattle.std.proofs.Common.{Bool, ◌&&◌, not, true, false, ap, sym, ◌∙◌}
+use Rattle.std.proofs.Common.{◌&&◌, not, ap, sym, ◌∙◌}
 use Rattle.template_spec.specs.Template.{has_nodes}
 use Rattle.template_place.specs.View.{items_of}
 use Rattle.template_program.proofs.holds.is_void.Goals as goal

@@ -1,7 +1,7 @@
-use Rattle.std.proofs.Common.{◌∷◌, List, Option, ap, sym, ◌∙◌, refl}
+use Rattle.std.proofs.Common.{◌∷◌, Option, ap, sym, ◌∙◌, refl}
 use Rattle.ytt_base.specs.Outcomes.{place_at}
 use Rattle.ytt_base.specs.View.{key_of}
-use Rattle.star_spec.specs.Program.{Instruction, part, node_start, node_value, node_value_from, node_end, begin_def, close}
+use Rattle.star_spec.specs.Program.{part, node_start, node_value, node_value_from, node_end, begin_def, close}
 use Rattle.star_tree.specs.View.{item_kind_of}
 use Rattle.star_tree.specs.Whole.{expr_of, parameters_of}
 use Rattle.star_tree.specs.declared.code.Expr.{Expr}
@@ -10,7 +10,7 @@ use Rattle.template_place.specs.declared.tree.TBranches.{TBranches}
 use Rattle.template_place.specs.declared.tree.TItem.{TItem}
 use Rattle.template_place.specs.View.{branches_of, content_of, in_content, in_key, item_of, items_of, notes_of}
 use Rattle.template_place.proofs.Views.{branches_of-Elif, branches_of-Else, branches_of-Nothing, content_of-List, content_of-Map, content_of-Scalar, item_of-Code, item_of-Def, item_of-For, item_of-If, item_of-Node, node_of-node}
-use Rattle.template_program.proofs.Emitting.{emits_after, emits_done, emits_next, emits_same, on_ok_same}
+use Rattle.template_program.proofs.Emitting.{emits_after, emits_done, emits_next, on_ok_same}
 use Rattle.template_program.proofs.program.+compile.Goals as goal
 
 pub put_branches-returns-in-Nothing : goal.put_branches-returns-in-Nothing

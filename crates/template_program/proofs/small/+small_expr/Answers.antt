@@ -1,4 +1,3 @@
-use Rattle.std.proofs.Common.{ap, sym, ◌∙◌}
 use Rattle.star_tree.specs.View as small
 use Rattle.template_program.proofs.Narrowed.{behind_And, behind_Or, behind_If, behind_Call, behind_Index, behind_Slice, behind_Dot, binary_small, ok_same, unary_small}
 use Rattle.template_program.proofs.small.+small_expr.Goals as goal

@@ -1,4 +1,4 @@
-use Rattle.std.proofs.Common.{ap, sym, ◌∙◌}
+use Rattle.std.proofs.Common.{ap, ◌∙◌}
 use Rattle.star_tree.specs.View.{item_kind_of}
 use Rattle.template_place.specs.View.{in_key}
 use Rattle.template_spec.specs.Template.{node}

@@ -1,4 +1,3 @@
-use Rattle.std.proofs.Common.{ap, sym, ◌∙◌}
 use Rattle.template_tree.specs.View as tree
 use Rattle.template_program.proofs.Built.{not_there, there}
 use Rattle.template_program.proofs.small.small_template.Goals as goal

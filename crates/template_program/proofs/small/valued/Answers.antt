@@ -1,4 +1,4 @@
-use Rattle.std.proofs.Common.{Some, ap, sym, ◌∙◌}
+use Rattle.std.proofs.Common.{Some, ap, ◌∙◌}
 use Rattle.star_spec.specs.Code as plain
 use Rattle.star_tree.specs.View as small
 use Rattle.star_tree.specs.View.{item_kind_of}

@@ -1,4 +1,4 @@
-use Rattle.std.proofs.Common.{ap, sym, ◌∙◌}
+use Rattle.std.proofs.Common.{ap, ◌∙◌}
 use Rattle.ytt_base.specs.Outcomes.{place_at}
 use Rattle.template_spec.specs.Unbuilt.{unless_built}
 use Rattle.template_program.specs.Kept.{earlier}

@@ -1,4 +1,4 @@
-use Rattle.std.proofs.Common.{◌++◌, Option, List, refl, ap, sym, ◌∙◌}
+use Rattle.std.proofs.Common.{List, refl, ap, ◌∙◌}
 use Rattle.template_place.specs.View.{item_of, items_of}
 use Rattle.template_place.specs.declared.tree.TItem.{TItem}
 use Rattle.template_program.specs.Kept.{earlier}
