@@ -6,6 +6,7 @@ pub mod EventPuts
 pub mod Faults
 pub mod Inside
 pub mod ItemBegins
+pub mod KindsPlaced
 pub mod OrderlyEvents
 pub mod Paths
 pub mod Settled

@@ -4,7 +4,7 @@
 //! they give this is the contract of functions that do nothing.
 #![tactic(auto)]
 
-ghost use Rattle.template_pass.specs.Laws.{FaultIsByLevels, TemplateIsByLevels};
+ghost use Rattle.template_pass.specs.Laws.{FaultIsByLevels, PlacedIsKinded, TemplateIsByLevels};
 
 /// The first fault of placing is the one that the pass over the rows of the text finds, with a stack of levels.
 pub fn fault_is_by_levels()
@@ -14,4 +14,9 @@ pub fn fault_is_by_levels()
 /// Where nothing is wrong, the template is the one that the passes over the rows of the text build, with a slot for each level.
 pub fn template_is_by_levels()
     ensures { TemplateIsByLevels }
+{}
+
+/// What placing gives of documents with keys on pairs alone has nodes of the kinds of their collections, and keys on pairs alone.
+pub fn placed_is_kinded()
+    ensures { PlacedIsKinded }
 {}
