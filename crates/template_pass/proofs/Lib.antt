@@ -1,6 +1,7 @@
 pub mod Alike
 pub mod Built
 pub mod ByPath
+pub mod Checked
 pub mod Counted
 pub mod EventPuts
 pub mod Faults

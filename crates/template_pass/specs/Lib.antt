@@ -6,3 +6,4 @@ pub mod Levels
 pub mod Orderly
 pub mod Rows
 pub mod Standing
+pub mod Uncrossed
