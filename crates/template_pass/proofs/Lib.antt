@@ -9,11 +9,13 @@ pub mod Inside
 pub mod ItemBegins
 pub mod KindsPlaced
 pub mod OrderlyEvents
+pub mod OwnBlocks
 pub mod Paths
 pub mod Settled
 pub mod SlotsByPath
 pub mod Slots
 pub mod Standing
+pub mod StillPlaced
 pub mod TextItems
 pub mod Trees
 pub mod Unclosed
