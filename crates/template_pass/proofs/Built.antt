@@ -122,6 +122,11 @@ module _ (r : CodeReader) (ignore : Bool) (file : ℕ) (ds : Documents) (es : Li
       (slots_by_path file [] [] all (puts_ordered [] [] [] [] 0 [] es ss (λ c. refl) stand (events_beside r ignore file ds es h) orderly) latest_none [] (in_itself []))
       ∙ slot_parts file es all (begun_in es ss) wove document_item [] ds.items (text_items r ignore file ds es ss h items)
 
+  -- what is put into the list of documents is what stands in it
+  pub parts_by_path : (slot_of file [] (path_puts [] [] es ss)).parts ≡ parts file es document_item [] 0 ds.items
+  unfolding all
+  parts_by_path = slot_parts file es all (begun_in es ss) wove document_item [] ds.items (text_items r ignore file ds es ss h items)
+
   template_built : template_by_levels file (rows_of es ss) ≡ template_of file es ds.items
   unfolding template_by_levels
   template_built = ap (λ (ps : List Part). whole (nest file document_item ps)) parts_built

@@ -170,7 +170,7 @@ module _ (holders : List ℕ) where
     good_put fs [] i (inside is more outer) h g = tt
     good_put fs (x ∷ gs) i (inside is more outer) h g = ((h, all_good (x ∷ gs) is g.0), g.1, g.2)
 
-    abbrev AllStand : List Frame → List Instruction → Type 0
+    abbrev pub AllStand : List Frame → List Instruction → Type 0
     AllStand fs [] = Unit {0}
     AllStand fs (statement s ∷ is) = IsTrue (stands (ways_within w fs) s) × AllStand fs is
     AllStand fs (i ∷ is) = AllStand fs is

@@ -19,4 +19,5 @@ pub mod StillPlaced
 pub mod TextItems
 pub mod Trees
 pub mod Unclosed
+pub mod WordsPlaced
 pub mod Woven

@@ -214,6 +214,15 @@ begun_elsewhere q past next k (b ∷ bs) i n h = all_elsewhere q past next k b b
 
 -- ---- what the blocks of a collection let stand
 
+module _ (holders : List ℕ) where
+  abbrev pub NotHolder : Option Block → Type 0
+  NotHolder None = Unit {0}
+  NotHolder (Some b) = is_holder holders b.before ≡ false
+
+  abbrev pub AllHold : List ℕ → Type 0
+  AllHold [] = Unit {0}
+  AllHold (n ∷ ns) = IsTrue (is_holder holders n) × AllHold ns
+
 module _ (holders : List ℕ) (w : Ways) (c : Path) where
   -- an own block as it is seen in its collection
   own_here : (b : Block) (fs : List Frame) → b.collection ≡ c → is_some b.one ≡ false → frame_if (bytes_eq b.collection c && not (is_some b.one)) b fs ≡ frame_of b ∷ fs
@@ -248,22 +257,18 @@ module _ (holders : List ℕ) (w : Ways) (c : Path) where
   either_way true b fs P h k = h
   either_way false b fs P h k = k
 
-  abbrev NotHolder : Option Block → Type 0
-  NotHolder None = Unit {0}
-  NotHolder (Some b) = is_holder holders b.before ≡ false
-
   abbrev Returns : List Frame → Type 0
   Returns fs = IsTrue (ways_within holders w fs).may_return
 
   abbrev Breaks : List Frame → Type 0
   Breaks fs = IsTrue (ways_within holders w fs).may_break
 
-  pub may_return : (bs : List Block) → BegunElsewhere c bs → IsTrue (is_collection_of c (innermost_def bs)) → NotHolder (innermost_def bs) → Returns (own c bs)
+  pub may_return : (bs : List Block) → BegunElsewhere c bs → IsTrue (is_collection_of c (innermost_def bs)) → NotHolder holders (innermost_def bs) → Returns (own c bs)
   may_return [] e h n = cc h
   may_return (b ∷ bs) e h n = by (is_def b.header) refl h n (may_return bs e.1)
     where
-      by : (t : Bool) → is_def b.header ≡ t → IsTrue (is_collection_of c (if t then Some b else innermost_def bs)) → NotHolder (if t then Some b else innermost_def bs) →
-          (IsTrue (is_collection_of c (innermost_def bs)) → NotHolder (innermost_def bs) → Returns (own c bs)) → Returns (own c (b ∷ bs))
+      by : (t : Bool) → is_def b.header ≡ t → IsTrue (is_collection_of c (if t then Some b else innermost_def bs)) → NotHolder holders (if t then Some b else innermost_def bs) →
+          (IsTrue (is_collection_of c (innermost_def bs)) → NotHolder holders (innermost_def bs) → Returns (own c bs)) → Returns (own c (b ∷ bs))
       by true d i m up =
           let s : b.collection ≡ c = same_path b.collection c i in
           subst Returns (sym (own_here b (own c bs) s (e.0 s))) (def_returns b.header b.before (ways_within holders w (own c bs)) d m)
@@ -284,9 +289,6 @@ module _ (holders : List ℕ) (w : Ways) (c : Path) where
           either_way (bytes_eq b.collection c && not (is_some b.one)) b (own c bs) Breaks (breaks_still b.header b.before (ways_within holders w (own c bs)) d (up i)) (up i)
 
   -- where an item begins, the innermost function of its collection holds it
-  abbrev AllHold : List ℕ → Type 0
-  AllHold [] = Unit {0}
-  AllHold (n ∷ ns) = IsTrue (is_holder holders n) × AllHold ns
 
   held_by : (h : Header) (n : ℕ) (P : Type 0) → (is_def h ≡ true → IsTrue (is_holder holders n)) → (is_def h ≡ false → P) → HeldBy holders h n P
   held_by (if_header e) n P f g = g refl
@@ -296,7 +298,7 @@ module _ (holders : List ℕ) (w : Ways) (c : Path) where
   held_by (def_header x ps) n P f g = f refl
   held_by end_header n P f g = g refl
 
-  pub holding : (q : Path) (m : ℕ) (bs : List Block) → Around q m bs → m ≤ length c → In q c → BegunElsewhere c bs → AllHold (holder_in c (innermost_def bs)) → Holding holders (own c bs)
+  pub holding : (q : Path) (m : ℕ) (bs : List Block) → Around q m bs → m ≤ length c → In q c → BegunElsewhere c bs → AllHold holders (holder_in c (innermost_def bs)) → Holding holders (own c bs)
   holding q m [] a l i z h = tt
   holding q m (b ∷ bs) a l i z h = by (is_def b.header) (bytes_eq b.collection c) refl refl h (λ k. holding q (length b.collection) bs a.2 (omega (arith, a.1, l)) i z.1 k)
     where
@@ -310,9 +312,9 @@ module _ (holders : List ℕ) (w : Ways) (c : Path) where
           by_cases (inl f) = f
           by_cases (inr f) = absurd (let x : b.collection ≡ c = same_by_length q b.collection c (lain q b.collection a.0) i (omega (arith, f, k)) in let y : bytes_eq b.collection c ≡ true = path_same b.collection c x in cc (e, y))
 
-      by : (t u : Bool) → is_def b.header ≡ t → bytes_eq b.collection c ≡ u → AllHold (holder_in c (if t then Some b else innermost_def bs)) → (AllHold (holder_in c (innermost_def bs)) → Holding holders (own c bs)) → Holding holders (own c (b ∷ bs))
+      by : (t u : Bool) → is_def b.header ≡ t → bytes_eq b.collection c ≡ u → AllHold holders (holder_in c (if t then Some b else innermost_def bs)) → (AllHold holders (holder_in c (innermost_def bs)) → Holding holders (own c bs)) → Holding holders (own c (b ∷ bs))
       by true true d e h up =
-          let x : AllHold (b.before ∷ []) = subst (λ (u : Bool). AllHold (if u then b.before ∷ [] else [])) e h in
+          let x : AllHold holders (b.before ∷ []) = subst (λ (u : Bool). AllHold holders (if u then b.before ∷ [] else [])) e h in
           let s : b.collection ≡ c = same_path b.collection c e in
           subst (Holding holders) (sym (own_here b (own c bs) s (z.0 s))) (held_by b.header b.before (Holding holders (own c bs)) (λ _. x.0) (λ f. cc (d, f)))
       by true false d e h up =
