@@ -1,4 +1,5 @@
 pub mod Alike
+pub mod AllPlaced
 pub mod Built
 pub mod ByPath
 pub mod Checked
@@ -7,6 +8,7 @@ pub mod EventPuts
 pub mod Faults
 pub mod Inside
 pub mod ItemBegins
+pub mod ItemsHeard
 pub mod KindsPlaced
 pub mod OrderlyEvents
 pub mod OwnBlocks

@@ -4,7 +4,7 @@
 //! they give this is the contract of functions that do nothing.
 #![tactic(auto)]
 
-ghost use Rattle.template_pass.specs.Laws.{FaultIsByLevels, PlacedIsKinded, TemplateIsByLevels};
+ghost use Rattle.template_pass.specs.Laws.{FaultIsByLevels, PlacedIsKinded, TemplateIsByLevels, UncrossedIsPlaced};
 
 /// The first fault of placing is the one that the pass over the rows of the text finds, with a stack of levels.
 pub fn fault_is_by_levels()
@@ -19,4 +19,10 @@ pub fn template_is_by_levels()
 /// What placing gives of documents with keys on pairs alone has nodes of the kinds of their collections, and keys on pairs alone.
 pub fn placed_is_kinded()
     ensures { PlacedIsKinded }
+{}
+
+/// What placing gives is placed, where each `return` belongs to its function's own collection, and each `load` to one in no item
+/// of a block. So its program is well nested.
+pub fn uncrossed_is_placed()
+    ensures { UncrossedIsPlaced }
 {}
