@@ -1,26 +1,23 @@
--- What placing gives is placed, where no statement is where its block's item hides that.
-use Rattle.std.proofs.Common.{◌≡◌, ℕ, Bool, true, false, ◌||◌, ◌==◌, if◌then◌else◌, List, [], ◌∷◌, ◌++◌, Option, Some, None, Ok, inl, refl, sym, ◌∙◌, ap, subst, eq-eqb}
+-- What placing gives is placed, where each `return` and each `load` is clear of items of blocks.
+use Rattle.std.proofs.Common.{◌≡◌, ℕ, Bool, true, false, ◌||◌, ◌==◌, if◌then◌else◌, List, [], ◌∷◌, ◌++◌, Option, Some, None, Ok, inl, refl, ap, subst, eq-eqb}
 use Rattle.std.specs.Bool.{IsTrue}
-use Rattle.std.specs.List.{list_any}
 use Rattle.ytt_base.specs.declared.fault.Fault.{Fault}
 use Rattle.ytt_base.specs.declared.fault.FaultKind.TheVariants as kind
 use Rattle.ytt_base.specs.Outcomes.{Outcome, ◌>>=◌, fault_at}
 use Rattle.yaml_spec.specs.Noted.{Documents}
-use Rattle.yaml_held.specs.Keyed.{KeyedDocuments}
 use Rattle.star_spec.specs.CodeReading.{CodeReader}
 use Rattle.star_spec.specs.Program.{ItemKind, document_item, pair_item, element_item}
 use Rattle.template_spec.specs.Events.{Event, events}
-use Rattle.template_spec.specs.Misplaced.{and_sound, earliest, event_fault, holder_at, left_open, note_faults, placing_fault, return_faults, Returned, returned_at, reversed, Sound, sound_from}
-use Rattle.template_spec.specs.Nesting.{Part, nest, parts, placed_or, placed_whole, template_of, whole}
+use Rattle.template_spec.specs.Misplaced.{and_sound, earliest, holder_at, left_open, note_faults, placing_fault, return_faults, Returned, returned_at, reversed, Sound, sound_from}
+use Rattle.template_spec.specs.Nesting.{Part, parts, placed_or, placed_whole, template_of}
 use Rattle.template_spec.specs.OpenBlocks.{first_of, open_blocks}
-use Rattle.template_spec.specs.Placed.{Placed, PlacedBranches, PlacedContent, PlacedItem, PlacedItems}
+use Rattle.template_spec.specs.Placed.{PlacedBranches, PlacedContent, PlacedItem, PlacedItems}
 use Rattle.template_spec.specs.Template.{Item, node, code, if_block, for_block, def_block, Items, no_items, an_item, Branches, no_branch, else_branch, elif_branch, Content, written_value, value_from, pairs, elements, fragment_kind}
 use Rattle.template_spec.specs.WellNested.{in_a_branch, in_a_file, in_a_function, in_a_loop, in_a_node, Ways}
 use Rattle.template_pass.specs.Flat.{flat_text}
-use Rattle.template_pass.specs.Kinded.{Kinded, KindedBranches, KindedContent, KindedItem, KindedItems, StandingBranches, StandingContent, StandingItem, StandingItems}
+use Rattle.template_pass.specs.Kinded.{KindedBranches, KindedContent, KindedItem, KindedItems, StandingBranches, StandingContent, StandingItem, StandingItems}
 use Rattle.template_pass.specs.Laws.{UncrossedIsPlaced}
-use Rattle.template_pass.specs.Orderly.{Orderly}
-use Rattle.template_pass.specs.Rows.{flat_started, Start}
+use Rattle.template_pass.specs.Rows.{flat_started}
 use Rattle.template_pass.specs.Uncrossed.{Uncrossed}
 use Rattle.template_pass.proofs.Built.{front_none, nothing_stops, NoneWrong, parts_by_path}
 use Rattle.template_pass.proofs.Checked.{Checked, checked_stands, is_holder}

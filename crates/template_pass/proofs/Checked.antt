@@ -7,9 +7,9 @@ use Rattle.ytt_base.specs.Outcomes.{place_at}
 use Rattle.star_spec.specs.Code.{Expr, Statement, load, return, break, continue}
 use Rattle.star_spec.specs.CodeReading.{Header, if_header, for_header, def_header}
 use Rattle.star_spec.specs.Program.{ItemKind, Instruction, statement}
-use Rattle.template_spec.specs.Comments.{Said, statements, opens, elif, otherwise, closes}
-use Rattle.template_spec.specs.Nesting.{Nested, broken, at_top, inside, Part, a_node, a_mark, around_one, block_of, last_branch, nest, nest_said, next_branch, open_block, put, put_block, put_statements, whole}
-use Rattle.template_spec.specs.Template.{Item, node, code, if_block, for_block, def_block, Items, no_items, an_item, Branches, no_branch, else_branch, elif_branch, Content, written_value, value_from, pairs, elements, is_node, has_nodes, branches_have_nodes, fragment_kind}
+use Rattle.template_spec.specs.Comments.{statements, opens, elif, otherwise, closes}
+use Rattle.template_spec.specs.Nesting.{Nested, broken, at_top, inside, Part, a_node, a_mark, around_one, block_of, last_branch, nest, next_branch, open_block, put, put_block, put_statements, whole}
+use Rattle.template_spec.specs.Template.{Item, node, code, if_block, for_block, def_block, Items, no_items, an_item, Branches, no_branch, else_branch, elif_branch, Content, written_value, value_from, pairs, elements, is_node, has_nodes, branches_have_nodes}
 use Rattle.template_spec.specs.WellNested.{Ways, in_a_node, in_a_branch, in_a_loop, in_a_function, stands}
 use Rattle.template_pass.specs.Kinded.{StandingItem, StandingItems, StandingBranches, StandingContent}
 
@@ -181,11 +181,11 @@ module _ (holders : List ℕ) where
     good_statements fs (i ∷ is) n h g = good_statements fs is n h g
 
     -- a function's body, by whether it holds items
-    body_stands : (fs : List Frame) (n : ℕ) (kind : ItemKind) (is : Items) (held has : Bool) → (has ≡ true → IsTrue held) → StandingItems (in_a_def (not held)) is →
+    body_stands : (kind : ItemKind) (is : Items) (held has : Bool) → (has ≡ true → IsTrue held) → StandingItems (in_a_def (not held)) is →
         StandingItems (in_a_function (if has then Some kind else None)) is
-    body_stands fs n kind is held true h g = let e : held ≡ true = h refl in subst (λ (b : Bool). StandingItems (in_a_def (not b)) is) e g
-    body_stands fs n kind is true false h g = items_more (in_a_def false) (in_a_def true) is ((λ x. refl), (λ x. x), λ x. x) g
-    body_stands fs n kind is false false h g = g
+    body_stands kind is held true h g = let e : held ≡ true = h refl in subst (λ (b : Bool). StandingItems (in_a_def (not b)) is) e g
+    body_stands kind is true false h g = items_more (in_a_def false) (in_a_def true) is ((λ x. refl), (λ x. x), λ x. x) g
+    body_stands kind is false false h g = g
 
     module _ (kind : ItemKind) (p : Place) where
       abbrev framed : Header → Bool → ℕ → Frame
@@ -197,12 +197,13 @@ module _ (holders : List ℕ) where
       GoodBlock fs (Some i) = Good fs i
 
       good_block : (fs : List Frame) (h : Header) (z : Bool) (n : ℕ) (is : Items) (more : Branches) → GoodItems (framed h z n ∷ fs) is → GoodBranches (framed h z n ∷ fs) more → GoodBlock fs (block_of kind p h is more)
-      good_block fs (if_header e) z n is more a b =
-          ((good_stands (framed (if_header e) z n ∷ fs) is a, branches_stand (framed (if_header e) z n ∷ fs) more b),
-          λ f. either_holds (has_nodes is) (branches_have_nodes more) (Holding fs) (nodes_held (framed (if_header e) z n ∷ fs) is a) (branches_held (framed (if_header e) z n ∷ fs) more b) f)
+      good_block fs (if_header e) z n is more a b = (
+        (good_stands (framed (if_header e) z n ∷ fs) is a, branches_stand (framed (if_header e) z n ∷ fs) more b),
+        λ f. either_holds (has_nodes is) (branches_have_nodes more) (Holding fs) (nodes_held (framed (if_header e) z n ∷ fs) is a) (branches_held (framed (if_header e) z n ∷ fs) more b) f,
+      )
       good_block fs (for_header x e) z n is no_branch a b = (good_stands (framed (for_header x e) z n ∷ fs) is a, nodes_held (framed (for_header x e) z n ∷ fs) is a)
       good_block fs (def_header x ps) z n is no_branch a b =
-          (body_stands fs n kind is (is_holder n) (has_nodes is) (nodes_held (framed (def_header x ps) z n ∷ fs) is a) (good_stands (framed (def_header x ps) z n ∷ fs) is a), λ f. cc f)
+          (body_stands kind is (is_holder n) (has_nodes is) (nodes_held (framed (def_header x ps) z n ∷ fs) is a) (good_stands (framed (def_header x ps) z n ∷ fs) is a), λ f. cc f)
       good_block fs h z n is more a b = tt
 
       good_put_block : (fs gs : List Frame) (o : Option Item) (n : Nested) → GoodBlock fs o → GoodNested gs gs n → GoodNested fs gs (put_block o n)

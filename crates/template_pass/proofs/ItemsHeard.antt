@@ -1,5 +1,5 @@
 -- The items that begin among the events of documents, with their kinds and lines, are those of the documents; so each text has rows.
-use Rattle.std.proofs.Common.{◌≡◌, ℕ, suc, Bool, true, false, List, [], ◌∷◌, ◌++◌, drop, map as each, Option, Some, None, Ok, refl, sym, ◌∙◌, ap, append-nil, if◌then◌else◌}
+use Rattle.std.proofs.Common.{◌≡◌, ℕ, suc, Bool, true, false, List, [], ◌∷◌, ◌++◌, map as each, Option, Some, None, Ok, refl, sym, ◌∙◌, ap, append-nil, if◌then◌else◌}
 use Rattle.std.specs.Result.{IfOk}
 use Rattle.std.proofs.lemmas.Result.{IfOk-at_ok}
 use Rattle.ytt_base.specs.Outcomes.{place_at}

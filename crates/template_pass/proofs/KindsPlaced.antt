@@ -17,9 +17,9 @@ use Rattle.star_spec.specs.Program.{ItemKind, document_item, element_item, pair_
 use Rattle.template_spec.specs.Comments.{Said, statements, opens, elif, otherwise, closes}
 use Rattle.template_spec.specs.Events.{Event, Path, events}
 use Rattle.template_spec.specs.Misplaced.{placing_fault}
-use Rattle.template_spec.specs.Nesting.{Mark, Nested, broken, at_top, inside, Part, a_node, a_mark, around_one, block_of, content, key_part, last_branch, marks, marks_at, nest, nest_said, next_branch, node_at, open_block, parts, placed_or, placed_whole, put, put_block, put_statements, template_of, value_beside, value_or, whole}
+use Rattle.template_spec.specs.Nesting.{Mark, Nested, broken, at_top, inside, Part, a_node, a_mark, around_one, block_of, content, key_part, last_branch, marks, marks_at, nest, nest_said, next_branch, open_block, parts, placed_or, placed_whole, put, put_block, put_statements, template_of, value_beside, value_or, whole}
 use Rattle.template_spec.specs.Placed.{KeyFits}
-use Rattle.template_spec.specs.Template.{Item, node, code, if_block, for_block, def_block, Items, no_items, an_item, Branches, no_branch, Content}
+use Rattle.template_spec.specs.Template.{Item, code, if_block, for_block, def_block, Items, no_items, an_item, Branches, no_branch, Content}
 use Rattle.template_pass.specs.Kinded.{KindedItem, KindedItems, KindedBranches, KindedContent, Kinded}
 
 -- ---- what is read from the end of a collection

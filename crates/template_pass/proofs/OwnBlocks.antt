@@ -1,20 +1,18 @@
 -- The open blocks of one collection, and what holds of open blocks as long as nothing is wrong.
-use Rattle.std.proofs.Common.{◌≡◌, ℕ, suc, ◌<◌, ◌≤◌, Bool, true, false, not, ◌&&◌, ◌==◌, if◌then◌else◌, is_some, List, [], ◌∷◌, length, drop, map as each, bytes_eq, Option, Some, None, ◌⊎◌, inl, inr, refl, sym, ◌∙◌, ap, subst, arith}
+use Rattle.std.proofs.Common.{◌≡◌, ℕ, suc, ◌<◌, ◌≤◌, Bool, true, false, not, ◌&&◌, if◌then◌else◌, is_some, List, [], ◌∷◌, length, bytes_eq, Option, Some, None, ◌⊎◌, inl, inr, refl, sym, ◌∙◌, ap, subst, arith}
 use Rattle.std.specs.Bool.{IsTrue}
 use Rattle.std.proofs.lemmas.Bool.{cases_lt}
-use Rattle.ytt_base.specs.declared.fault.Fault.{Fault}
 use Rattle.star_spec.specs.CodeReading.{Header, if_header, elif_header, else_header, for_header, def_header, end_header}
-use Rattle.template_spec.specs.Comments.{Said}
 use Rattle.template_spec.specs.Events.{Path, Event}
-use Rattle.template_spec.specs.Misplaced.{is_def, is_for, innermost_def, innermost_loop, is_collection_of, no_block, is_waiting, may_wait, stays_within, waiting_or_said, said_fault, holder_in}
-use Rattle.template_spec.specs.OpenBlocks.{collection_of, lies_in, Block, belongs, is_over, left_at, open_blocks}
+use Rattle.template_spec.specs.Misplaced.{is_def, is_for, innermost_def, innermost_loop, is_collection_of, is_waiting, stays_within, holder_in}
+use Rattle.template_spec.specs.OpenBlocks.{collection_of, lies_in, Block, belongs, is_over}
 use Rattle.template_spec.specs.WellNested.{Ways}
 use Rattle.template_pass.specs.Standing.{Around, Numbered, Coming}
 use Rattle.template_pass.proofs.Checked.{Frame, kept, AllStay, is_holder, header_ways, ways_within, HeldBy, Holding}
 use Rattle.template_pass.proofs.Inside.{same_path, path_same}
 use Rattle.template_pass.proofs.ItemBegins.{advance, collection_in, is_new, NoneOver}
 use Rattle.template_pass.proofs.Paths.{In, in_through, in_length, lies, lain, same_by_length}
-use Rattle.template_pass.proofs.Unclosed.{has_one, flagged, OfOne, Ones, with_else}
+use Rattle.template_pass.proofs.Unclosed.{flagged, OfOne, Ones, with_else}
 
 -- ---- those of one collection
 

@@ -1,20 +1,19 @@
 -- What holds of the blocks that are open, event by event, as long as nothing is wrong.
-use Rattle.std.proofs.Common.{◌≡◌, ℕ, zero, Bool, true, false, not, ◌&&◌, if◌then◌else◌, is_some, List, [], ◌∷◌, length, drop, map as each, Option, Some, None, refl, sym, ap, subst}
+use Rattle.std.proofs.Common.{◌≡◌, ℕ, zero, Bool, true, false, not, ◌&&◌, if◌then◌else◌, is_some, List, [], ◌∷◌, drop, Option, Some, None, refl, sym, subst}
 use Rattle.std.specs.Bool.{IsTrue}
 use Rattle.ytt_base.specs.declared.fault.Fault.{Fault}
 use Rattle.ytt_base.specs.declared.fault.FaultKind.TheVariants as kind
-use Rattle.star_spec.specs.CodeReading.{Header}
 use Rattle.star_spec.specs.Program.{ItemKind}
-use Rattle.template_spec.specs.Comments.{Said, opens, otherwise, closes}
-use Rattle.template_spec.specs.Events.{Path, Event, begins, beside, says}
+use Rattle.template_spec.specs.Comments.{Said, otherwise, closes}
+use Rattle.template_spec.specs.Events.{Path, Event, begins, says}
 use Rattle.template_spec.specs.Misplaced.{is_waiting, may_wait, stays_within, waiting_or_said, said_fault, fault_on}
-use Rattle.template_spec.specs.OpenBlocks.{collection_of, Block, belongs, is_over, left_at, unclosed, open_blocks}
-use Rattle.template_pass.specs.Standing.{Around, Began, Numbered, Coming, Standing}
+use Rattle.template_spec.specs.OpenBlocks.{collection_of, Block, belongs, is_over, unclosed, open_blocks}
+use Rattle.template_pass.specs.Standing.{Numbered, Coming, Standing}
 use Rattle.template_pass.specs.Levels.{Open}
-use Rattle.template_pass.proofs.ItemBegins.{advance, began_each, blocks_behind, numbered_still, NoneOver, left_none_over, ones_left}
-use Rattle.template_pass.proofs.OwnBlocks.{BegunElsewhere, begun_elsewhere, HeadStill, NoneWaits, none_behind_head, none_waits, OneIn, OnesIn, WaitIn, Waits, wait_in}
+use Rattle.template_pass.proofs.ItemBegins.{advance, began_each, blocks_behind, numbered_still, left_none_over, ones_left}
+use Rattle.template_pass.proofs.OwnBlocks.{BegunElsewhere, begun_elsewhere, HeadStill, NoneWaits, none_waits, OneIn, OnesIn, WaitIn, Waits, wait_in}
 use Rattle.template_pass.proofs.Standing.{else_stays, end_stays}
-use Rattle.template_pass.proofs.Unclosed.{behind_else, behind_end, has_one, flagged, OfOne, Ones, ones_began, with_else}
+use Rattle.template_pass.proofs.Unclosed.{behind_else, behind_end, flagged, ones_began, with_else}
 
 pub record Fine (next : Option Path) (bs : List Block) : Type 0 where
   pub waits : Waits next bs

@@ -1,4 +1,4 @@
--- Where placing finds nothing wrong and no statement is where its block's item hides that, each statement stands where it may.
+-- Where placing finds nothing wrong, and each `return` and `load` is clear of items of blocks, each statement stands where it may.
 use Rattle.std.proofs.Common.{◌≡◌, ℕ, suc, ◌<◌, ◌≤◌, Bool, true, false, not, ◌&&◌, ◌||◌, if◌then◌else◌, is_some, List, [], ◌∷◌, length, drop, bytes_eq, Option, Some, None, ◌⊎◌, inl, inr, refl, sym, ◌∙◌, ap, subst, arith}
 use Rattle.std.specs.Bool.{IsTrue}
 use Rattle.std.proofs.lemmas.Bool.{cases_lt}
@@ -8,7 +8,7 @@ use Rattle.star_spec.specs.CodeReading.{Header}
 use Rattle.star_spec.specs.Program.{ItemKind, pair_item, element_item, Instruction, statement}
 use Rattle.template_spec.specs.Comments.{Said, ignored, a_note, a_value, statements, opens, elif, otherwise, closes}
 use Rattle.template_spec.specs.Events.{Path, Event, begins, beside, says}
-use Rattle.template_spec.specs.Misplaced.{innermost_def, is_collection_of, no_block, is_waiting, may_wait, stays_within, statement_fault, statements_fault, Returned, returned_in, returned_at, holder_at, event_fault}
+use Rattle.template_spec.specs.Misplaced.{innermost_def, no_block, may_wait, stays_within, statement_fault, statements_fault, Returned, returned_in, returned_at, holder_at}
 use Rattle.template_spec.specs.OpenBlocks.{collection_of, lies_in, Block, belongs, next_item, open_blocks, first_of}
 use Rattle.template_spec.specs.Nesting.{Part, a_node, a_mark, innermost, value_or}
 use Rattle.template_spec.specs.Template.{Item, Content}
@@ -20,7 +20,7 @@ use Rattle.template_pass.specs.Levels.{Open, behind}
 use Rattle.template_pass.specs.Orderly.{Orderly}
 use Rattle.template_pass.specs.Rows as row
 use Rattle.template_pass.specs.Rows.{Start}
-use Rattle.template_pass.specs.Standing.{Around, Coming, level_at, last_behind, row_of, Standing}
+use Rattle.template_pass.specs.Standing.{Around, Coming, level_at, row_of, Standing}
 use Rattle.template_pass.specs.Uncrossed.{is_in_block, StatementsClear, Uncrossed}
 use Rattle.template_pass.proofs.Built.{NoneWrong, marks_stand}
 use Rattle.template_pass.proofs.ByPath.{PathPut, item_put, changed_if, slot_of, Ordered}
@@ -32,9 +32,9 @@ use Rattle.template_pass.proofs.ItemBegins.{advance}
 use Rattle.template_pass.proofs.OwnBlocks.{AllHold, BegunElsewhere, frame_if, holding, may_break, may_return, none_behind_head, NoneWaits, NotHolder, OneIn, OnesIn, other_stay, own, own_advance, own_else, own_shorter, own_stay, wait_in}
 use Rattle.template_pass.proofs.Paths.{In, in_by_length, in_collection, in_itself, in_through, lain, lies}
 use Rattle.template_pass.proofs.SlotsByPath.{slot_gone}
-use Rattle.template_pass.proofs.Standing.{belongs_within, coming_next, end_stays, none_true, orderly_behind, standing_step}
+use Rattle.template_pass.proofs.Standing.{belongs_within, coming_next, end_stays, none_true, standing_step}
 use Rattle.template_pass.proofs.StillPlaced.{behind_begins, behind_closes, behind_otherwise, Fine, fine_begins, fine_else, fine_end, fine_opens, head_still, none_begun, then_said}
-use Rattle.template_pass.proofs.Unclosed.{HeadStays, with_else}
+use Rattle.template_pass.proofs.Unclosed.{HeadStays}
 use Rattle.template_pass.proofs.Woven.{beside_parts}
 
 -- ---- statements
@@ -100,11 +100,11 @@ module _ (holders : List ℕ) (w : Ways) where
   either_part true l s t fs h k = h refl
   either_part false l s t fs h k = k refl
 
-  opened_part : (b : Bool) (l : ℕ) (h : Header) (z : Bool) (n : ℕ) (x : Block) (t : Slot) (fs : List Frame) → x.header ≡ h → x.for_one ≡ z → (z ≡ false → AllStay fs) →
+  opened_part : (b : Bool) (l : ℕ) (h : Header) (z : Bool) (x : Block) (t : Slot) (fs : List Frame) → x.header ≡ h → x.for_one ≡ z → (z ≡ false → AllStay fs) →
       Checked holders w (frame_if (b && true) x fs) t.parts → Checked holders w fs (changed_if b (with_part (a_mark l (opens h z))) t).parts
-  opened_part true l h true n x t fs e f a k = (x.before, subst (λ (g : Frame). Checked holders w (g ∷ fs) t.parts) (λ i. record { header = e i; for_one = f i; before = x.before }) k)
-  opened_part true l h false n x t fs e f a k = (a refl, x.before, subst (λ (g : Frame). Checked holders w (g ∷ fs) t.parts) (λ i. record { header = e i; for_one = f i; before = x.before }) k)
-  opened_part false l h z n x t fs e f a k = k
+  opened_part true l h true x t fs e f a k = (x.before, subst (λ (g : Frame). Checked holders w (g ∷ fs) t.parts) (λ i. record { header = e i; for_one = f i; before = x.before }) k)
+  opened_part true l h false x t fs e f a k = (a refl, x.before, subst (λ (g : Frame). Checked holders w (g ∷ fs) t.parts) (λ i. record { header = e i; for_one = f i; before = x.before }) k)
+  opened_part false l h z x t fs e f a k = k
 
   closed_first : (t u : Bool) (b : Block) (fs : List Frame) (l : ℕ) (s : Slot) → u ≡ false → AllStay (frame_if (t && not u) b fs) → Checked holders w fs s.parts →
       Checked holders w (frame_if (t && not u) b fs) (changed_if t (with_part (a_mark l closes)) s).parts
@@ -177,9 +177,6 @@ module _ (file : ℕ) (holders : List ℕ) where
   -- ---- an item begins
 
   module _ (q p : Path) (k : ItemKind) (l : ℕ) (past es : List Event) (bs : List Open) (h : Here q past (begins p k l ∷ es) bs) where
-    blocks : List Block
-    blocks = open_blocks past (Some p)
-
     stays : IsTrue (stays_within (open_blocks past (Some p)) p)
     stays = none_true (stays_within (open_blocks past (Some p)) p) _ h.sound.0
 
@@ -274,9 +271,6 @@ module _ (file : ℕ) (holders : List ℕ) where
           subst (λ (t : Bool). Checked holders w (own c (open_blocks past (Some p))) (changed_if t (with_part (a_node made)) (slot_of file c qs)).parts)
           (sym (path_other (collection_of p) c n)) (by (cases_lt (length (collection_of p)) (length c)) base)
         where
-          fs : List Frame
-          fs = own c (open_blocks past (Some p))
-
           ordered : Ordered p (begins p k l ∷ past) qs
           ordered =
               puts_ordered p (begins p k l ∷ past) (begins p k l ∷ past) (behind bs (level_at (next_item es)) (length past) (row_of (begins p k l))) (length (begins p k l ∷ past)) [] es (drop 1 ss) (λ c. refl)
@@ -307,9 +301,6 @@ module _ (file : ℕ) (holders : List ℕ) where
 
   -- ---- something is said beside an item
 
-  abbrev latest_same : (q : Path) (past : List Event) (e : Event) → Type 0
-  latest_same q past e = Latest q past → Latest q (e ∷ past)
-
   latest_beside : (q p : Path) (k : ItemKind) (b : Bool) (l : ℕ) (s : Said) (past : List Event) → Latest q past → Latest q (beside p k b l s ∷ past)
   unfolding Latest
   latest_beside q p k b l s past h = h
@@ -333,9 +324,6 @@ module _ (file : ℕ) (holders : List ℕ) where
   -- ---- something is said between items
 
   module _ (q : Path) (past es : List Event) (l : ℕ) (bs : List Open) where
-    abbrev next : Option Path
-    next = next_item es
-
     none_waiting : (s : Said) → Here q past (says l s ∷ es) bs → may_wait s ≡ false → NoneWaits (open_blocks past (next_item es))
     none_waiting s h m =
         none_behind_head (next_item es) (open_blocks past (next_item es)) h.fine.waits (head_still file (open_blocks past (next_item es)) (next_item es) l s m h.sound.0)
@@ -392,10 +380,10 @@ module _ (file : ℕ) (holders : List ℕ) where
           (λ t. (own_stay c (open_blocks past (next_item es)) (none_waiting (statements is) h refl), stand_here is w c h base (same_path (belongs (open_blocks past (next_item es)) (next_item es)) c t), up w c i base))
           (λ t. up w c i base)
       at_said (opens x true) h up w c i base =
-          opened_part holders w (bytes_eq (belongs (open_blocks past (next_item es)) (next_item es)) c) l x true 0 (opened x true) (slot_of file c qs) (own c (open_blocks past (next_item es))) refl refl
+          opened_part holders w (bytes_eq (belongs (open_blocks past (next_item es)) (next_item es)) c) l x true (opened x true) (slot_of file c qs) (own c (open_blocks past (next_item es))) refl refl
           (λ e. cc e) (up w c i base)
       at_said (opens x false) h up w c i base =
-          opened_part holders w (bytes_eq (belongs (open_blocks past (next_item es)) (next_item es)) c) l x false 0 (opened x false) (slot_of file c qs) (own c (open_blocks past (next_item es))) refl refl
+          opened_part holders w (bytes_eq (belongs (open_blocks past (next_item es)) (next_item es)) c) l x false (opened x false) (slot_of file c qs) (own c (open_blocks past (next_item es))) refl refl
           (λ e. own_stay c (open_blocks past (next_item es)) (none_waiting (opens x false) h refl)) (up w c i base)
       at_said (elif e) h up w c i base =
           either_part holders w (bytes_eq (innermost (open_blocks past (next_item es))) c) l (elif e) (slot_of file c qs) (own c (open_blocks past (next_item es)))

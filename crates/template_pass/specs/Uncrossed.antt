@@ -1,5 +1,5 @@
 -- Texts in which no `return` and no `load` stands in an item of a block of which it is meant to be outside.
-use Rattle.std.specs.Prelude.{Bool, true, false, not, ◌&&◌, ◌||◌, List, [], ◌∷◌, Some, IsTrue}
+use Rattle.std.specs.Prelude.{Bool, false, not, ◌&&◌, ◌||◌, List, [], ◌∷◌, Some, IsTrue}
 use Rattle.star_spec.specs.Code.{Statement, load, return}
 use Rattle.star_spec.specs.Program.{Instruction, statement}
 use Rattle.template_spec.specs.Comments.{statements}

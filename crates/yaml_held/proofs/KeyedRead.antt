@@ -1,15 +1,14 @@
 -- What is read of a text has keys in maps, and nowhere else.
-use Rattle.std.proofs.Common.{ℕ, zero, suc, Bool, true, false, not, ◌&&◌, ◌||◌, ◌==◌, List, [], ◌∷◌, ◌++◌, length, drop, Option, Some, None, Ok, refl, if◌then◌else◌}
+use Rattle.std.proofs.Common.{ℕ, zero, suc, Bool, true, false, not, ◌&&◌, ◌||◌, ◌==◌, List, [], ◌∷◌, ◌++◌, length, refl, if◌then◌else◌}
 use Rattle.std.specs.Prelude.{◌≡◌, is_some, nat_lt}
 use Rattle.std.specs.Result.{IfOk}
-use Rattle.ytt_base.specs.declared.fault.FaultKind.TheVariants as kind
 use Rattle.ytt_base.specs.declared.fault.Place.{Place}
 use Rattle.ytt_base.specs.Outcomes.{Outcome}
 use Rattle.ytt_base.specs.Trees.{max_depth}
 use Rattle.ytt_laws.proofs.Yielded.{yielded_behind, yielded_either, yielded_if, yielded_option, yielded_test, yielded_then}
 use Rattle.yaml_spec.specs.Bytes.{percent, hash, bar, greater, comma, left_bracket, left_brace, right_bracket, right_brace, first, is_empty, skip_white}
 use Rattle.yaml_spec.specs.Lines.{Line, Lines}
-use Rattle.yaml_spec.specs.Noted.{Comment, Note, Content, noted_scalar, noted_list, noted_map, Items, no_items, item, Documents, is_note}
+use Rattle.yaml_spec.specs.Noted.{Comment, Note, Content, noted_list, noted_map, Items, is_note}
 use Rattle.yaml_spec.specs.Quotes.{Cursor, after, Quote, starts_quote}
 use Rattle.yaml_spec.specs.Blocks.{header_rest, Block}
 use Rattle.yaml_spec.specs.Plain.{plain_lines, typed}
