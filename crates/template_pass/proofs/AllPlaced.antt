@@ -16,7 +16,8 @@ use Rattle.template_spec.specs.Template.{Item, node, code, if_block, for_block, 
 use Rattle.template_spec.specs.WellNested.{in_a_branch, in_a_file, in_a_function, in_a_loop, in_a_node, Ways}
 use Rattle.template_pass.specs.Flat.{flat_text}
 use Rattle.template_pass.specs.Kinded.{KindedBranches, KindedContent, KindedItem, KindedItems, StandingBranches, StandingContent, StandingItem, StandingItems}
-use Rattle.template_pass.specs.Laws.{UncrossedIsPlaced}
+use Rattle.template_pass.specs.Laws.{EndedIsPlaced, UncrossedIsPlaced}
+use Rattle.template_pass.specs.Orderly.{Orderly}
 use Rattle.template_pass.specs.Rows.{flat_started}
 use Rattle.template_pass.specs.Uncrossed.{Uncrossed}
 use Rattle.template_pass.proofs.Built.{front_none, nothing_stops, NoneWrong, parts_by_path}
@@ -24,6 +25,7 @@ use Rattle.template_pass.proofs.Checked.{Checked, checked_stands, is_holder}
 use Rattle.template_pass.proofs.Counted.{latest_none}
 use Rattle.template_pass.proofs.ItemsHeard.{text_rows}
 use Rattle.template_pass.proofs.KindsPlaced.{kinded_whole_file}
+use Rattle.template_pass.proofs.LoadsClear.{There, uncrossed}
 use Rattle.template_pass.proofs.OrderlyEvents.{events_orderly}
 use Rattle.template_pass.proofs.OwnBlocks.{AllHold}
 use Rattle.template_pass.proofs.Paths.{in_itself}
@@ -153,3 +155,16 @@ all_placed r ignore file ds es t k e c h =
     let g : (placing_fault file es ≡ None) × (template_of file es ds.items ≡ t) = given (placing_fault file es) (template_of file es ds.items) t (placed_given r ignore file ds es t e h) in
     items_placed in_a_file document_item t (kinded_whole_file r ignore file ds t k h)
     (subst (StandingItems in_a_file) g.1 (template_stands r ignore file ds es e c g.0))
+
+pub ended_placed : EndedIsPlaced
+ended_placed r ignore file ds es t k e a n h =
+    let g : (placing_fault file es ≡ None) × (template_of file es ds.items ≡ t) = given (placing_fault file es) (template_of file es ds.items) t (placed_given r ignore file ds es t e h) in
+    let o : Orderly [] [] es = events_orderly r ignore file ds es e in
+    let first : There file [] [] es [] = record {
+      standing = standing_first es o;
+      orderly = o;
+      sound = nothing_stops file es g.0;
+      fine = record { waits = tt; ones = tt };
+      shut = λ c i f. cc f;
+    } in
+    all_placed r ignore file ds es t k e (uncrossed file [] [] es [] first a n) h

@@ -10,6 +10,7 @@ pub mod Inside
 pub mod ItemBegins
 pub mod ItemsHeard
 pub mod KindsPlaced
+pub mod LoadsClear
 pub mod OrderlyEvents
 pub mod OwnBlocks
 pub mod Paths

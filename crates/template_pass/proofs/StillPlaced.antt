@@ -1,19 +1,20 @@
 -- What holds of the blocks that are open, event by event, as long as nothing is wrong.
-use Rattle.std.proofs.Common.{◌≡◌, ℕ, zero, Bool, true, false, not, ◌&&◌, if◌then◌else◌, is_some, List, [], ◌∷◌, drop, Option, Some, None, refl, sym, subst}
+use Rattle.std.proofs.Common.{length, ◌≡◌, ℕ, zero, Bool, true, false, not, ◌&&◌, if◌then◌else◌, is_some, List, [], ◌∷◌, drop, Option, Some, None, refl, sym, subst}
 use Rattle.std.specs.Bool.{IsTrue}
 use Rattle.ytt_base.specs.declared.fault.Fault.{Fault}
 use Rattle.ytt_base.specs.declared.fault.FaultKind.TheVariants as kind
 use Rattle.star_spec.specs.Program.{ItemKind}
-use Rattle.template_spec.specs.Comments.{Said, otherwise, closes}
+use Rattle.star_spec.specs.CodeReading.{Header}
+use Rattle.template_spec.specs.Comments.{Said, otherwise, closes, ignored, a_note, a_value, statements, opens, elif}
 use Rattle.template_spec.specs.Events.{Path, Event, begins, says}
 use Rattle.template_spec.specs.Misplaced.{is_waiting, may_wait, stays_within, waiting_or_said, said_fault, fault_on}
-use Rattle.template_spec.specs.OpenBlocks.{collection_of, Block, belongs, is_over, unclosed, open_blocks}
+use Rattle.template_spec.specs.OpenBlocks.{next_item, collection_of, Block, belongs, is_over, unclosed, open_blocks}
 use Rattle.template_pass.specs.Standing.{Numbered, Coming, Standing}
 use Rattle.template_pass.specs.Levels.{Open}
 use Rattle.template_pass.proofs.ItemBegins.{advance, began_each, blocks_behind, numbered_still, left_none_over, ones_left}
-use Rattle.template_pass.proofs.OwnBlocks.{BegunElsewhere, begun_elsewhere, HeadStill, NoneWaits, none_waits, OneIn, OnesIn, WaitIn, Waits, wait_in}
+use Rattle.template_pass.proofs.OwnBlocks.{BegunElsewhere, begun_elsewhere, HeadStill, NoneWaits, none_waits, OneIn, OnesIn, WaitIn, Waits, wait_in, none_behind_head}
 use Rattle.template_pass.proofs.Standing.{else_stays, end_stays}
-use Rattle.template_pass.proofs.Unclosed.{behind_else, behind_end, flagged, ones_began, with_else}
+use Rattle.template_pass.proofs.Unclosed.{Ones, behind_else, behind_end, flagged, ones_began, with_else}
 
 pub record Fine (next : Option Path) (bs : List Block) : Type 0 where
   pub waits : Waits next bs
@@ -21,10 +22,13 @@ pub record Fine (next : Option Path) (bs : List Block) : Type 0 where
 
 -- ---- no block of the collection has its item
 
+pub ones_open : (q : Path) (past : List Event) (next : Option Path) (bs : List Open) → Standing q past next bs → Ones (Numbered past) (open_blocks past next)
+ones_open q past next bs s = ones_left (Numbered past) next (unclosed next false zero false past) (ones_began (Numbered past) next false zero false past tt s.numbered)
+
 pub none_begun : (q : Path) (past : List Event) (next : Option Path) (bs : List Open) → Standing q past next bs → OnesIn (open_blocks past next) → BegunElsewhere (belongs (open_blocks past next) next) (open_blocks past next)
 none_begun q past next bs s i =
     begun_elsewhere q past next s.coming (open_blocks past next) i
-    (ones_left (Numbered past) next (unclosed next false zero false past) (ones_began (Numbered past) next false zero false past tt s.numbered))
+    (ones_open q past next bs s)
     (left_none_over next (unclosed next false zero false past))
 
 -- ---- what may not stand in front of an item that is waited for
@@ -127,3 +131,23 @@ behind_closes file past next l h = behind_end next next false zero false past (e
 pub behind_otherwise : (file : ℕ) (past : List Event) (next : Option Path) (l : ℕ) → waiting_or_said file (open_blocks past next) next l otherwise ≡ None →
     open_blocks (says l otherwise ∷ past) next ≡ with_else (open_blocks past next)
 behind_otherwise file past next l h = behind_else next next false zero false past (else_stays file (open_blocks past next) next l h)
+
+-- ---- something is said between items
+
+module _ (file : ℕ) (past es : List Event) (l : ℕ) where
+  pub none_wait : (s : Said) → Fine (next_item es) (open_blocks past (next_item es)) → waiting_or_said file (open_blocks past (next_item es)) (next_item es) l s ≡ None → may_wait s ≡ false → NoneWaits (open_blocks past (next_item es))
+  none_wait s f h m = none_behind_head (next_item es) (open_blocks past (next_item es)) f.waits (head_still file (open_blocks past (next_item es)) (next_item es) l s m h)
+
+  abbrev opened : Header → Bool → Block
+  opened x z = record { collection = belongs (open_blocks past (next_item es)) (next_item es); header = x; for_one = z; line = l; one = None; has_else = false; before = length past }
+
+  pub fine_said : (s : Said) → Fine (next_item es) (open_blocks past (next_item es)) → waiting_or_said file (open_blocks past (next_item es)) (next_item es) l s ≡ None → Fine (next_item es) (open_blocks (says l s ∷ past) (next_item es))
+  fine_said (opens x true) f h = fine_opens (next_item es) (opened x true) (open_blocks past (next_item es)) f refl refl (λ e. cc e)
+  fine_said (opens x false) f h = fine_opens (next_item es) (opened x false) (open_blocks past (next_item es)) f refl refl (λ e. none_wait (opens x false) f h refl)
+  fine_said otherwise f h = subst (Fine (next_item es)) (sym (behind_otherwise file past (next_item es) l h)) (fine_else (next_item es) (open_blocks past (next_item es)) f (none_wait otherwise f h refl))
+  fine_said closes f h = subst (Fine (next_item es)) (sym (behind_closes file past (next_item es) l h)) (fine_end (next_item es) (open_blocks past (next_item es)) f (none_wait closes f h refl))
+  fine_said ignored f h = f
+  fine_said (a_note x vs) f h = f
+  fine_said (a_value e) f h = f
+  fine_said (statements is) f h = f
+  fine_said (elif e) f h = f

@@ -29,17 +29,17 @@ use Rattle.template_pass.proofs.Counted.{Latest, gone_item, latest_item}
 use Rattle.template_pass.proofs.EventPuts.{BesideStands, first_start, marked, path_puts, place_of, puts_ordered}
 use Rattle.template_pass.proofs.Inside.{path_cases, path_other, path_same, same_path}
 use Rattle.template_pass.proofs.ItemBegins.{advance}
-use Rattle.template_pass.proofs.OwnBlocks.{AllHold, BegunElsewhere, frame_if, holding, may_break, may_return, none_behind_head, NoneWaits, NotHolder, OneIn, OnesIn, other_stay, own, own_advance, own_else, own_shorter, own_stay, wait_in}
+use Rattle.template_pass.proofs.OwnBlocks.{AllHold, BegunElsewhere, frame_if, holding, may_break, may_return, NoneWaits, NotHolder, OneIn, OnesIn, other_stay, own, own_advance, own_else, own_shorter, own_stay, wait_in}
 use Rattle.template_pass.proofs.Paths.{In, in_by_length, in_collection, in_itself, in_through, lain, lies}
 use Rattle.template_pass.proofs.SlotsByPath.{slot_gone}
 use Rattle.template_pass.proofs.Standing.{belongs_within, coming_next, end_stays, none_true, standing_step}
-use Rattle.template_pass.proofs.StillPlaced.{behind_begins, behind_closes, behind_otherwise, Fine, fine_begins, fine_else, fine_end, fine_opens, head_still, none_begun, then_said}
+use Rattle.template_pass.proofs.StillPlaced.{behind_begins, behind_closes, behind_otherwise, Fine, fine_begins, fine_said, none_begun, none_wait, then_said}
 use Rattle.template_pass.proofs.Unclosed.{HeadStays}
 use Rattle.template_pass.proofs.Woven.{beside_parts}
 
 -- ---- statements
 
-both_none : {A : Type 0} (a b : Option A) → first_of a b ≡ None → (a ≡ None) × (b ≡ None)
+pub both_none : {A : Type 0} (a b : Option A) → first_of a b ≡ None → (a ≡ None) × (b ≡ None)
 both_none None b e = (refl, e)
 both_none (Some x) b e = cc e
 
@@ -136,11 +136,11 @@ belongs_begun : (bs : List Block) (p : Path) → IsTrue (stays_within bs p) → 
 belongs_begun [] p h = refl
 belongs_begun (b ∷ bs) p h = ap (λ (t : Bool). if t then collection_of p else b.collection) h
 
-or_left : (a b : Bool) → IsTrue a → IsTrue (a || b)
+pub or_left : (a b : Bool) → IsTrue a → IsTrue (a || b)
 or_left true b h = refl
 or_left false b h = cc h
 
-or_right : (a b : Bool) → IsTrue b → IsTrue (a || b)
+pub or_right : (a b : Bool) → IsTrue b → IsTrue (a || b)
 or_right true b h = refl
 or_right false b h = h
 
@@ -325,24 +325,10 @@ module _ (file : ℕ) (holders : List ℕ) where
 
   module _ (q : Path) (past es : List Event) (l : ℕ) (bs : List Open) where
     none_waiting : (s : Said) → Here q past (says l s ∷ es) bs → may_wait s ≡ false → NoneWaits (open_blocks past (next_item es))
-    none_waiting s h m =
-        none_behind_head (next_item es) (open_blocks past (next_item es)) h.fine.waits (head_still file (open_blocks past (next_item es)) (next_item es) l s m h.sound.0)
+    none_waiting s h m = none_wait file past es l s h.fine h.sound.0 m
 
     abbrev opened : Header → Bool → Block
     opened x z = record { collection = belongs (open_blocks past (next_item es)) (next_item es); header = x; for_one = z; line = l; one = None; has_else = false; before = length past }
-
-    fine_said : (s : Said) → Here q past (says l s ∷ es) bs → Fine (next_item es) (open_blocks (says l s ∷ past) (next_item es))
-    fine_said (opens x true) h = fine_opens (next_item es) (opened x true) (open_blocks past (next_item es)) h.fine refl refl (λ e. cc e)
-    fine_said (opens x false) h = fine_opens (next_item es) (opened x false) (open_blocks past (next_item es)) h.fine refl refl (λ e. none_waiting (opens x false) h refl)
-    fine_said otherwise h =
-        subst (Fine (next_item es)) (sym (behind_otherwise file past (next_item es) l h.sound.0)) (fine_else (next_item es) (open_blocks past (next_item es)) h.fine (none_waiting otherwise h refl))
-    fine_said closes h =
-        subst (Fine (next_item es)) (sym (behind_closes file past (next_item es) l h.sound.0)) (fine_end (next_item es) (open_blocks past (next_item es)) h.fine (none_waiting closes h refl))
-    fine_said ignored h = h.fine
-    fine_said (a_note x vs) h = h.fine
-    fine_said (a_value e) h = h.fine
-    fine_said (statements is) h = h.fine
-    fine_said (elif e) h = h.fine
 
     clear_said : (s : Said) → Uncrossed past (says l s ∷ es) → Uncrossed (says l s ∷ past) es
     clear_said (statements is) h = h.1
@@ -361,7 +347,7 @@ module _ (file : ℕ) (holders : List ℕ) where
       orderly = h.orderly;
       besides = h.besides;
       sound = h.sound.1;
-      fine = fine_said s h;
+      fine = fine_said file past es l s h.fine h.sound.0;
       clear = clear_said s h.clear;
       known = h.known.2;
     }

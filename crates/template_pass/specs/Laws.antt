@@ -12,7 +12,7 @@ use Rattle.template_pass.specs.Building.{template_by_levels}
 use Rattle.template_pass.specs.Kinded.{Kinded}
 use Rattle.template_pass.specs.Levels.{fault_by_levels}
 use Rattle.template_pass.specs.Rows.{AreRows, Row}
-use Rattle.template_pass.specs.Uncrossed.{Uncrossed}
+use Rattle.template_pass.specs.Uncrossed.{AllReturnsClear, EndsClear, Uncrossed}
 
 -- the first fault of placing is the one that the pass by levels finds
 abbrev pub FaultIsByLevels : Type 0
@@ -36,3 +36,9 @@ abbrev pub UncrossedIsPlaced : Type 0
 UncrossedIsPlaced =
     (r : CodeReader) (ignore : Bool) (file : ℕ) (ds : Documents) (es : List Event) (t : Items) →
     KeyedDocuments ds → events r ignore file ds ≡ Ok es → Uncrossed [] es → placed_whole r ignore file ds ≡ Ok t → Placed t
+
+-- so it is where each `return` belongs to its function's own collection, and each `end` stands in no item of its block
+abbrev pub EndedIsPlaced : Type 0
+EndedIsPlaced =
+    (r : CodeReader) (ignore : Bool) (file : ℕ) (ds : Documents) (es : List Event) (t : Items) →
+    KeyedDocuments ds → events r ignore file ds ≡ Ok es → AllReturnsClear [] es → EndsClear [] es → placed_whole r ignore file ds ≡ Ok t → Placed t

@@ -1,10 +1,11 @@
 -- Texts in which no `return` and no `load` stands in an item of a block of which it is meant to be outside.
-use Rattle.std.specs.Prelude.{Bool, false, not, ◌&&◌, ◌||◌, List, [], ◌∷◌, Some, IsTrue}
+use Rattle.std.specs.Prelude.{Bool, false, not, ◌&&◌, ◌||◌, List, [], ◌∷◌, bytes_eq, Some, IsTrue}
 use Rattle.star_spec.specs.Code.{Statement, load, return}
 use Rattle.star_spec.specs.Program.{Instruction, statement}
-use Rattle.template_spec.specs.Comments.{statements}
+use Rattle.template_spec.specs.Comments.{closes, statements}
 use Rattle.template_spec.specs.Events.{Path, Event, begins, beside, says}
 use Rattle.template_spec.specs.Misplaced.{innermost_def, is_collection_of, no_block}
+use Rattle.template_spec.specs.Nesting.{innermost}
 use Rattle.template_spec.specs.OpenBlocks.{Block, lies_in, belongs, next_item, open_blocks}
 
 -- the collection is in an item that began in a block
@@ -30,3 +31,24 @@ Uncrossed past [] = Unit {0}
 Uncrossed past (says l (statements is) ∷ es) =
     StatementsClear past (open_blocks past (next_item es)) (belongs (open_blocks past (next_item es)) (next_item es)) is × Uncrossed (says l (statements is) ∷ past) es
 Uncrossed past (e ∷ es) = Uncrossed (e ∷ past) es
+
+-- ---- ends
+
+-- each `end` stands where a statement would belong to the collection of the `end`'s block, so in no item of that block
+abbrev pub EndsClear : (past : List Event) → List Event → Type 0
+EndsClear past [] = Unit {0}
+EndsClear past (says l closes ∷ es) =
+    IsTrue (bytes_eq (belongs (open_blocks past (next_item es)) (next_item es)) (innermost (open_blocks past (next_item es)))) × EndsClear (says l closes ∷ past) es
+EndsClear past (e ∷ es) = EndsClear (e ∷ past) es
+
+-- each `return` belongs to its function's own collection
+abbrev pub ReturnsClear : List Block → Path → List Instruction → Type 0
+ReturnsClear bs c [] = Unit {0}
+ReturnsClear bs c (statement (return p e) ∷ is) = IsTrue (is_collection_of c (innermost_def bs)) × ReturnsClear bs c is
+ReturnsClear bs c (i ∷ is) = ReturnsClear bs c is
+
+abbrev pub AllReturnsClear : (past : List Event) → List Event → Type 0
+AllReturnsClear past [] = Unit {0}
+AllReturnsClear past (says l (statements is) ∷ es) =
+    ReturnsClear (open_blocks past (next_item es)) (belongs (open_blocks past (next_item es)) (next_item es)) is × AllReturnsClear (says l (statements is) ∷ past) es
+AllReturnsClear past (e ∷ es) = AllReturnsClear (e ∷ past) es
