@@ -1,5 +1,5 @@
--- What placing gives is placed, where each `return` and each `load` is clear of items of blocks.
-use Rattle.std.proofs.Common.{◌≡◌, ℕ, Bool, true, false, ◌||◌, ◌==◌, if◌then◌else◌, List, [], ◌∷◌, ◌++◌, Option, Some, None, Ok, inl, refl, ap, subst, eq-eqb}
+-- What placing gives is placed.
+use Rattle.std.proofs.Common.{◌≡◌, ℕ, Bool, true, false, ◌||◌, ◌==◌, if◌then◌else◌, List, [], ◌∷◌, ◌++◌, Option, Some, None, Ok, Err, inl, refl, ap, subst, eq-eqb}
 use Rattle.std.specs.Bool.{IsTrue}
 use Rattle.ytt_base.specs.declared.fault.Fault.{Fault}
 use Rattle.ytt_base.specs.declared.fault.FaultKind.TheVariants as kind
@@ -16,16 +16,16 @@ use Rattle.template_spec.specs.Template.{Item, node, code, if_block, for_block, 
 use Rattle.template_spec.specs.WellNested.{in_a_branch, in_a_file, in_a_function, in_a_loop, in_a_node, Ways}
 use Rattle.template_pass.specs.Flat.{flat_text}
 use Rattle.template_pass.specs.Kinded.{KindedBranches, KindedContent, KindedItem, KindedItems, StandingBranches, StandingContent, StandingItem, StandingItems}
-use Rattle.template_pass.specs.Laws.{EndedIsPlaced, UncrossedIsPlaced}
+use Rattle.template_pass.specs.Laws.{PlacedIsPlaced}
 use Rattle.template_pass.specs.Orderly.{Orderly}
 use Rattle.template_pass.specs.Rows.{flat_started}
-use Rattle.template_pass.specs.Uncrossed.{Uncrossed}
+use Rattle.template_pass.proofs.Uncrossed.{Uncrossed}
 use Rattle.template_pass.proofs.Built.{front_none, nothing_stops, NoneWrong, parts_by_path}
 use Rattle.template_pass.proofs.Checked.{Checked, checked_stands, is_holder}
 use Rattle.template_pass.proofs.Counted.{latest_none}
 use Rattle.template_pass.proofs.ItemsHeard.{text_rows}
 use Rattle.template_pass.proofs.KindsPlaced.{kinded_whole_file}
-use Rattle.template_pass.proofs.LoadsClear.{There, uncrossed}
+use Rattle.template_pass.proofs.LoadsClear.{ends_clear, returns_clear, There, uncrossed}
 use Rattle.template_pass.proofs.OrderlyEvents.{events_orderly}
 use Rattle.template_pass.proofs.OwnBlocks.{AllHold}
 use Rattle.template_pass.proofs.Paths.{in_itself}
@@ -150,21 +150,28 @@ placed_given : (r : CodeReader) (ignore : Bool) (file : ℕ) (ds : Documents) (e
 unfolding placed_whole
 placed_given r ignore file ds es t e h = subst (λ (o : Outcome (List Event)). (o >>= (λ es. placed_or (placing_fault file es) (template_of file es ds.items))) ≡ Ok t) e h
 
-pub all_placed : UncrossedIsPlaced
-all_placed r ignore file ds es t k e c h =
-    let g : (placing_fault file es ≡ None) × (template_of file es ds.items ≡ t) = given (placing_fault file es) (template_of file es ds.items) t (placed_given r ignore file ds es t e h) in
-    items_placed in_a_file document_item t (kinded_whole_file r ignore file ds t k h)
-    (subst (StandingItems in_a_file) g.1 (template_stands r ignore file ds es e c g.0))
+-- ---- where nothing is wrong, statements are clear of items of blocks
 
-pub ended_placed : EndedIsPlaced
-ended_placed r ignore file ds es t k e a n h =
-    let g : (placing_fault file es ≡ None) × (template_of file es ds.items ≡ t) = given (placing_fault file es) (template_of file es ds.items) t (placed_given r ignore file ds es t e h) in
-    let o : Orderly [] [] es = events_orderly r ignore file ds es e in
-    let first : There file [] [] es [] = record {
-      standing = standing_first es o;
-      orderly = o;
-      sound = nothing_stops file es g.0;
-      fine = record { waits = tt; ones = tt };
-      shut = λ c i f. cc f;
-    } in
-    all_placed r ignore file ds es t k e (uncrossed file [] [] es [] first a n) h
+all_clear : (file : ℕ) (es : List Event) → Orderly [] [] es → placing_fault file es ≡ None → Uncrossed [] es
+all_clear file es o h =
+    let w : NoneWrong file [] es = nothing_stops file es h in
+    let first : There file [] [] es [] = record { standing = standing_first es o; orderly = o; sound = w; fine = record { waits = tt; ones = tt }; shut = λ c i f. cc f } in
+    uncrossed file [] [] es [] first (returns_clear file [] es w) (ends_clear file [] es w)
+
+abbrev Heard : (r : CodeReader) → (ignore : Bool) → (file : ℕ) → (ds : Documents) → Items → Type 0
+Heard r ignore file ds t = (es : List Event) × (events r ignore file ds ≡ Ok es)
+
+heard_of : (r : CodeReader) (ignore : Bool) (file : ℕ) (ds : Documents) (t : Items) → placed_whole r ignore file ds ≡ Ok t → Heard r ignore file ds t
+unfolding placed_whole
+heard_of r ignore file ds t h = by (events r ignore file ds) refl h
+  where
+    by : (o : Outcome (List Event)) → events r ignore file ds ≡ o → (o >>= (λ es. placed_or (placing_fault file es) (template_of file es ds.items))) ≡ Ok t → Heard r ignore file ds t
+    by (Ok es) e g = (es, e)
+    by (Err f) e g = cc g
+
+pub all_placed : PlacedIsPlaced
+all_placed r ignore file ds t k h =
+    let x = heard_of r ignore file ds t h in
+    let g : (placing_fault file x.0 ≡ None) × (template_of file x.0 ds.items ≡ t) = given (placing_fault file x.0) (template_of file x.0 ds.items) t (placed_given r ignore file ds x.0 t x.1 h) in
+    items_placed in_a_file document_item t (kinded_whole_file r ignore file ds t k h)
+    (subst (StandingItems in_a_file) g.1 (template_stands r ignore file ds x.0 x.1 (all_clear file x.0 (events_orderly r ignore file ds x.0 x.1) g.0) g.0))

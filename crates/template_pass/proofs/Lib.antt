@@ -4,6 +4,7 @@ pub mod Built
 pub mod ByPath
 pub mod Checked
 pub mod Counted
+pub mod Crossing
 pub mod EventPuts
 pub mod Faults
 pub mod Inside
@@ -22,5 +23,6 @@ pub mod StillPlaced
 pub mod TextItems
 pub mod Trees
 pub mod Unclosed
+pub mod Uncrossed
 pub mod WordsPlaced
 pub mod Woven

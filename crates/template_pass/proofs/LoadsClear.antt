@@ -1,6 +1,7 @@
 -- Where each `end` stands in no item of its block, what stands outside every block is in no item of a block.
 use Rattle.std.proofs.Common.{◌≡◌, ℕ, suc, ◌<◌, ◌≤◌, Bool, true, false, not, ◌&&◌, ◌||◌, if◌then◌else◌, is_some, List, [], ◌∷◌, length, drop, bytes_eq, Option, Some, None, ◌⊎◌, inl, inr, refl, sym, ◌∙◌, ap, subst, arith}
 use Rattle.std.specs.Bool.{IsTrue}
+use Rattle.ytt_base.specs.declared.fault.FaultKind.TheVariants as kind
 use Rattle.star_spec.specs.Code.{load, return}
 use Rattle.star_spec.specs.Program.{ItemKind, Instruction, statement}
 use Rattle.star_spec.specs.CodeReading.{Header}
@@ -8,13 +9,13 @@ use Rattle.template_pass.specs.Orderly.{Orderly}
 use Rattle.template_pass.proofs.Built.{NoneWrong}
 use Rattle.template_spec.specs.Comments.{Said, ignored, a_note, a_value, statements, opens, elif, otherwise, closes}
 use Rattle.template_spec.specs.Events.{Path, Event, begins, beside, says}
-use Rattle.template_spec.specs.Misplaced.{no_block, stays_within, statement_fault, statements_fault}
+use Rattle.template_spec.specs.Misplaced.{no_block, stays_within, statement_fault, statements_fault, fault_on, innermost_def, is_collection_of, takes_end}
 use Rattle.template_spec.specs.Nesting.{innermost}
 use Rattle.template_spec.specs.OpenBlocks.{collection_of, lies_in, Block, belongs, is_over, next_item, open_blocks, so_far, unclosed}
 use Rattle.template_pass.specs.Levels.{Open, behind}
 use Rattle.template_pass.specs.Rows as row
 use Rattle.template_pass.specs.Standing.{Began, level_at, Numbered, row_of, Standing}
-use Rattle.template_pass.specs.Uncrossed.{AllReturnsClear, EndsClear, is_in_block, ReturnsClear, StatementsClear, Uncrossed}
+use Rattle.template_pass.proofs.Uncrossed.{AllReturnsClear, EndsClear, is_in_block, ReturnsClear, StatementsClear, Uncrossed}
 use Rattle.template_pass.proofs.Inside.{inside_split, same_path}
 use Rattle.template_pass.proofs.ItemBegins.{advance, collection_in, is_new, left_none_over, NoneOver}
 use Rattle.template_pass.proofs.OwnBlocks.{OneIn, OnesIn, WaitIn, wait_in}
@@ -339,3 +340,37 @@ module _ (file : ℕ) where
       by (elif x) h a up = up
       by otherwise h a up = up
       by closes h a up = up
+
+  -- ---- where nothing is wrong
+
+  both_hold : (x y : Bool) → IsTrue (x && y) → IsTrue y
+  both_hold true y h = h
+  both_hold false y h = cc h
+
+  returns_here : (bs : List Block) (c : Path) (is : List Instruction) → statements_fault bs c is ≡ None → ReturnsClear bs c is
+  returns_here bs c [] f = tt
+  returns_here bs c (statement (return p e) ∷ is) f =
+      let x = both_none (statement_fault bs c (return p e)) (statements_fault bs c is) f in (none_true (is_collection_of c (innermost_def bs)) _ x.0, returns_here bs c is x.1)
+  returns_here bs c (statement s ∷ is) f = returns_here bs c is (both_none (statement_fault bs c s) (statements_fault bs c is) f).1
+  returns_here bs c (i ∷ is) f = returns_here bs c is f
+
+  ends_here : (bs : List Block) (next : Option Path) → IsTrue (takes_end bs next) → IsTrue (bytes_eq (belongs bs next) (innermost bs))
+  ends_here [] next h = cc h
+  ends_here (b ∷ bs) next h = both_hold (not b.for_one) (bytes_eq (belongs (b ∷ bs) next) b.collection) h
+
+  pub returns_clear : (past es : List Event) → NoneWrong file past es → AllReturnsClear past es
+  returns_clear past [] w = tt
+  returns_clear past (says l (statements is) ∷ es) w = (
+    returns_here (open_blocks past (next_item es)) (belongs (open_blocks past (next_item es)) (next_item es)) is (then_said file (open_blocks past (next_item es)) (next_item es) l (statements is) w.0),
+    returns_clear (says l (statements is) ∷ past) es w.1,
+  )
+  returns_clear past (e ∷ es) w = returns_clear (e ∷ past) es w.1
+
+  pub ends_clear : (past es : List Event) → NoneWrong file past es → EndsClear past es
+  ends_clear past [] w = tt
+  ends_clear past (says l closes ∷ es) w = (
+    ends_here (open_blocks past (next_item es)) (next_item es)
+        (none_true (takes_end (open_blocks past (next_item es)) (next_item es)) (fault_on file kind.BlockStray l) (then_said file (open_blocks past (next_item es)) (next_item es) l closes w.0)),
+    ends_clear (says l closes ∷ past) es w.1,
+  )
+  ends_clear past (e ∷ es) w = ends_clear (e ∷ past) es w.1

@@ -121,10 +121,10 @@ opener_step q past next bs s l h true = record { stack = opened_seen q past next
 
 -- ---- an `else` and an end
 
-none_where : (t z : Bool) (f g : Fault) → (if t then Some f else unless (not z) g) ≡ None → z ≡ false
-none_where true z f g h = cc
-none_where false true f g h = cc
-none_where false false f g h = refl
+none_where_first : (t z x : Bool) (f g : Fault) → (if t then Some f else unless (not z && x) g) ≡ None → z ≡ false
+none_where_first true z x f g h = cc
+none_where_first false true x f g h = cc
+none_where_first false false x f g h = refl
 
 none_where_both : (t x z : Bool) (f g : Fault) → (if t then Some f else unless (x && not z) g) ≡ None → z ≡ false
 none_where_both true x z f g h = cc
@@ -134,7 +134,7 @@ none_where_both false true false f g h = refl
 
 pub end_stays : (file : ℕ) (bs : List Block) (next : Option Path) (l : ℕ) → waiting_or_said file bs next l closes ≡ None → HeadStays bs
 end_stays file [] next l h = cc
-end_stays file (b ∷ bs) next l h = none_where _ b.for_one _ _ h
+end_stays file (b ∷ bs) next l h = none_where_first _ b.for_one _ _ _ h
 
 pub else_stays : (file : ℕ) (bs : List Block) (next : Option Path) (l : ℕ) → waiting_or_said file bs next l otherwise ≡ None → HeadStays bs
 else_stays file [] next l h = cc

@@ -21,7 +21,7 @@ use Rattle.template_pass.specs.Orderly.{Orderly}
 use Rattle.template_pass.specs.Rows as row
 use Rattle.template_pass.specs.Rows.{Start}
 use Rattle.template_pass.specs.Standing.{Around, Coming, level_at, row_of, Standing}
-use Rattle.template_pass.specs.Uncrossed.{is_in_block, StatementsClear, Uncrossed}
+use Rattle.template_pass.proofs.Uncrossed.{is_in_block, StatementsClear, Uncrossed}
 use Rattle.template_pass.proofs.Built.{NoneWrong, marks_stand}
 use Rattle.template_pass.proofs.ByPath.{PathPut, item_put, changed_if, slot_of, Ordered}
 use Rattle.template_pass.proofs.Checked.{AllStand, AllStay, all_kept, Checked, checked_stands, Frame, is_holder, kept, ways_within}

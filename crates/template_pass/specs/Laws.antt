@@ -1,5 +1,5 @@
 -- What the passes by levels give is what placing says.
-use Rattle.std.specs.Prelude.{◌≡◌, ℕ, Bool, List, [], Ok, None}
+use Rattle.std.specs.Prelude.{◌≡◌, ℕ, Bool, List, Ok, None}
 use Rattle.yaml_held.specs.Keyed.{KeyedDocuments}
 use Rattle.yaml_spec.specs.Noted.{Documents}
 use Rattle.star_spec.specs.CodeReading.{CodeReader}
@@ -12,7 +12,6 @@ use Rattle.template_pass.specs.Building.{template_by_levels}
 use Rattle.template_pass.specs.Kinded.{Kinded}
 use Rattle.template_pass.specs.Levels.{fault_by_levels}
 use Rattle.template_pass.specs.Rows.{AreRows, Row}
-use Rattle.template_pass.specs.Uncrossed.{AllReturnsClear, EndsClear, Uncrossed}
 
 -- the first fault of placing is the one that the pass by levels finds
 abbrev pub FaultIsByLevels : Type 0
@@ -31,14 +30,7 @@ abbrev pub PlacedIsKinded : Type 0
 PlacedIsKinded =
     (r : CodeReader) (ignore : Bool) (file : ℕ) (ds : Documents) (t : Items) → KeyedDocuments ds → placed_whole r ignore file ds ≡ Ok t → Kinded t
 
--- and all of it is placed, where each `return` belongs to its function's own collection, and each `load` to one in no item of a block
-abbrev pub UncrossedIsPlaced : Type 0
-UncrossedIsPlaced =
-    (r : CodeReader) (ignore : Bool) (file : ℕ) (ds : Documents) (es : List Event) (t : Items) →
-    KeyedDocuments ds → events r ignore file ds ≡ Ok es → Uncrossed [] es → placed_whole r ignore file ds ≡ Ok t → Placed t
-
--- so it is where each `return` belongs to its function's own collection, and each `end` stands in no item of its block
-abbrev pub EndedIsPlaced : Type 0
-EndedIsPlaced =
-    (r : CodeReader) (ignore : Bool) (file : ℕ) (ds : Documents) (es : List Event) (t : Items) →
-    KeyedDocuments ds → events r ignore file ds ≡ Ok es → AllReturnsClear [] es → EndsClear [] es → placed_whole r ignore file ds ≡ Ok t → Placed t
+-- and all of it is placed: each statement stands where it may, too
+abbrev pub PlacedIsPlaced : Type 0
+PlacedIsPlaced =
+    (r : CodeReader) (ignore : Bool) (file : ℕ) (ds : Documents) (t : Items) → KeyedDocuments ds → placed_whole r ignore file ds ≡ Ok t → Placed t

@@ -6,4 +6,3 @@ pub mod Levels
 pub mod Orderly
 pub mod Rows
 pub mod Standing
-pub mod Uncrossed

@@ -4,7 +4,7 @@
 //! they give this is the contract of functions that do nothing.
 #![tactic(auto)]
 
-ghost use Rattle.template_pass.specs.Laws.{EndedIsPlaced, FaultIsByLevels, PlacedIsKinded, TemplateIsByLevels, UncrossedIsPlaced};
+ghost use Rattle.template_pass.specs.Laws.{FaultIsByLevels, PlacedIsKinded, PlacedIsPlaced, TemplateIsByLevels};
 
 /// The first fault of placing is the one that the pass over the rows of the text finds, with a stack of levels.
 pub fn fault_is_by_levels()
@@ -21,9 +21,8 @@ pub fn placed_is_kinded()
     ensures { PlacedIsKinded }
 {}
 
-/// What placing gives is placed, where each `return` belongs to its function's own collection, and each `load` to one in no item
-/// of a block; and so it is where in place of the latter each `end` stands in no item of its block.
-pub fn uncrossed_is_placed()
-    ensures uncrossed { UncrossedIsPlaced }
-    ensures ended { EndedIsPlaced }
+/// What placing gives of documents with keys on pairs alone is placed, so its program is well nested where its names are as they
+/// may be.
+pub fn placed_is_placed()
+    ensures { PlacedIsPlaced }
 {}
