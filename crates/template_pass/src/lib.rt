@@ -1,7 +1,8 @@
 //! Placing by levels: one pass from the left finds the first fault and where everything belongs, and one from the right builds.
 //!
 //! What they give is what placing says of the events of a text. The passes stand in `specs/Levels` and `specs/Building`; that
-//! they give this is the contract of functions that do nothing.
+//! they give this is the contract of functions that do nothing. So it is that what placing gives has nodes of the right kinds, keys on
+//! pairs alone, and statements where they may stand.
 #![tactic(auto)]
 
 ghost use Rattle.template_pass.specs.Laws.{FaultIsByLevels, PlacedIsKinded, PlacedIsPlaced, TemplateIsByLevels};
