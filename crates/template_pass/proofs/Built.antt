@@ -33,11 +33,11 @@ use Rattle.template_pass.proofs.Woven.{weave, woven}
 -- ---- nothing is wrong
 
 -- no event is wrong where it stands
-abbrev NoneWrong : (file : ℕ) → (past : List Event) → List Event → Type 0
+abbrev pub NoneWrong : (file : ℕ) → (past : List Event) → List Event → Type 0
 NoneWrong file past [] = Unit {0}
 NoneWrong file past (e ∷ es) = (event_fault file past e es ≡ None) × NoneWrong file (e ∷ past) es
 
-none_wrong : (file : ℕ) (past es : List Event) → (sound_from file past es).stop ≡ [] → NoneWrong file past es
+pub none_wrong : (file : ℕ) (past es : List Event) → (sound_from file past es).stop ≡ [] → NoneWrong file past es
 none_wrong file past [] h = tt
 none_wrong file past (e ∷ es) h = by (event_fault file past e es) refl h (none_wrong file (e ∷ past) es)
   where
@@ -50,11 +50,11 @@ none_wrong file past (e ∷ es) h = by (event_fault file past e es) refl h (none
     by None g h up = (g, up h)
     by (Some f) g h up = absurd (let x : f ∷ [] ≡ [] = h in cc x)
 
-front_none : (fs gs : List Fault) (o : Option Fault) → first_of (earliest (fs ++ gs)) o ≡ None → fs ≡ []
+pub front_none : (fs gs : List Fault) (o : Option Fault) → first_of (earliest (fs ++ gs)) o ≡ None → fs ≡ []
 front_none [] gs o h = refl
 front_none (f ∷ fs) gs o h = cc h
 
-nothing_stops : (file : ℕ) (es : List Event) → placing_fault file es ≡ None → NoneWrong file [] es
+pub nothing_stops : (file : ℕ) (es : List Event) → placing_fault file es ≡ None → NoneWrong file [] es
 unfolding placing_fault
 nothing_stops file es h =
     none_wrong file [] es
@@ -79,7 +79,7 @@ said_stands q past es bs (elif e) h = (lain q _ (innermost_in q past (next_item 
 said_stands q past es bs otherwise h = (lain q _ (innermost_in q past (next_item es) bs h), sym (innermost_level q past (next_item es) bs h))
 said_stands q past es bs closes h = (lain q _ (innermost_in q past (next_item es) bs h), sym (innermost_level q past (next_item es) bs h))
 
-marks_stand : (file : ℕ) (q : Path) (past es : List Event) (ss : List Start) (bs : List Open) → Standing q past (next_item es) bs → NoneWrong file past es → Orderly q past es →
+pub marks_stand : (file : ℕ) (q : Path) (past es : List Event) (ss : List Start) (bs : List Open) → Standing q past (next_item es) bs → NoneWrong file past es → Orderly q past es →
     MarksStand q past bs (length past) es (rows_of es ss)
 marks_stand file q past [] ss bs s w o = tt
 marks_stand file q past (begins p k l ∷ es) ss bs s w o =
@@ -121,6 +121,11 @@ module _ (r : CodeReader) (ignore : Bool) (file : ℕ) (ds : Documents) (es : Li
       ∙ ap (λ (s : Slot). s.parts)
       (slots_by_path file [] [] all (puts_ordered [] [] [] [] 0 [] es ss (λ c. refl) stand (events_beside r ignore file ds es h) orderly) latest_none [] (in_itself []))
       ∙ slot_parts file es all (begun_in es ss) wove document_item [] ds.items (text_items r ignore file ds es ss h items)
+
+  -- what is put into the list of documents is what stands in it
+  pub parts_by_path : (slot_of file [] (path_puts [] [] es ss)).parts ≡ parts file es document_item [] 0 ds.items
+  unfolding all
+  parts_by_path = slot_parts file es all (begun_in es ss) wove document_item [] ds.items (text_items r ignore file ds es ss h items)
 
   template_built : template_by_levels file (rows_of es ss) ≡ template_of file es ds.items
   unfolding template_by_levels

@@ -1,5 +1,5 @@
 -- The first fault of placing is the one that the pass by levels finds.
-use Rattle.std.proofs.Common.{◌≡◌, ℕ, suc, Bool, true, false, not, ◌&&◌, nat_lt, if◌then◌else◌, is_some, List, [], ◌∷◌, ◌++◌, length, map as each, Option, Some, None, Ok, refl, sym, ◌∙◌, ap, subst}
+use Rattle.std.proofs.Common.{◌≡◌, ℕ, suc, Bool, true, false, not, ◌&&◌, ◌==◌, nat_lt, if◌then◌else◌, is_some, List, [], ◌∷◌, ◌++◌, length, map as each, Option, Some, None, Ok, refl, sym, ◌∙◌, ap, subst}
 use Rattle.ytt_base.specs.declared.fault.Fault.{Fault}
 use Rattle.ytt_base.specs.declared.fault.FaultKind.TheVariants as kind
 use Rattle.ytt_base.specs.Outcomes.{fault_at}
@@ -73,10 +73,6 @@ loop_in q m (b ∷ bs) a =
 
 -- ---- statements
 
-some_seen : (o : Option Block) → is_some (seen_option o) ≡ is_some o
-some_seen None = refl
-some_seen (Some b) = refl
-
 same_level : (q c : Path) (o : Option Block) → In q c → InBlock q o → level.is_level_of (length c) (seen_option o) ≡ is_collection_of c o
 same_level q c None i h = refl
 same_level q c (Some b) i h = sym (equal_by_length q b.collection c h i)
@@ -89,8 +85,11 @@ module _ (q c : Path) (m : ℕ) (bs : List Block) (a : Around q m bs) (i : In q 
   loop_level : level.is_level_of (length c) (level.innermost_loop (each seen bs)) ≡ is_collection_of c (innermost_loop bs)
   loop_level = ap (level.is_level_of (length c)) (loop_seen bs) ∙ same_level q c (innermost_loop bs) i (loop_in q m bs a)
 
+  def_level : level.is_level_of (length c) (level.innermost_def (each seen bs)) ≡ is_collection_of c (innermost_def bs)
+  def_level = ap (level.is_level_of (length c)) (def_seen bs) ∙ same_level q c (innermost_def bs) i (def_in q m bs a)
+
   statement_same : (s : Statement) → level.statement_fault (each seen bs) (length c) s ≡ statement_fault bs c s
-  statement_same (return p e) = ap (λ b. unless b (fault_at kind.CodeForm p)) (ap is_some (def_seen bs) ∙ some_seen (innermost_def bs))
+  statement_same (return p e) = ap (λ b. unless b (fault_at kind.CodeForm p)) def_level
   statement_same (break p) = ap (λ b. unless b (fault_at kind.CodeForm p)) loop_level
   statement_same (continue p) = ap (λ b. unless b (fault_at kind.CodeForm p)) loop_level
   statement_same (load p path xs) = ap (λ b. unless b (fault_at kind.CodeForm p)) (none_seen bs)
@@ -111,22 +110,24 @@ branch_seen : (bs : List Block) → level.takes_branch (each seen bs) ≡ takes_
 branch_seen [] = refl
 branch_seen (b ∷ bs) = refl
 
-end_seen : (bs : List Block) → level.takes_end (each seen bs) ≡ takes_end bs
-end_seen [] = refl
-end_seen (b ∷ bs) = refl
-
 some_level : (o : Option Path) → is_some (level_at o) ≡ is_some o
 some_level None = refl
 some_level (Some p) = refl
 
 module _ (file : ℕ) (q : Path) (past : List Event) (m : ℕ) (next : Option Path) (c : Coming q past next) where
+  end_seen : (bs : List Block) → Around q m bs → level.takes_end (each seen bs) (level_at next) ≡ takes_end bs next
+  end_seen [] a = refl
+  end_seen (b ∷ bs) a =
+      ap (λ d. not b.for_one && d == length b.collection) (sym (belongs_by_level q past m (b ∷ bs) next a c))
+      ∙ ap (λ t. not b.for_one && t) (sym (equal_by_length q (belongs (b ∷ bs) next) b.collection (belongs_lies q past m (b ∷ bs) next a c) (lain q b.collection a.0)))
+
   said_same : (bs : List Block) → Around q m bs → (l : ℕ) (s : Said) → level.said_fault file (each seen bs) (level_at next) l s ≡ said_fault file bs next l s
   said_same bs a l (statements is) =
       ap (λ d. level.statements_fault (each seen bs) d is) (sym (belongs_by_level q past m bs next a c)) ∙ statements_same q (belongs bs next) m bs a (belongs_lies q past m bs next a c) is
   said_same bs a l (opens h z) = ap (λ n. unless (nat_lt n max_blocks) (fault_on file kind.TooDeep l)) (length_seen bs)
   said_same bs a l (elif e) = ap (λ b. unless b (fault_on file kind.BlockStray l)) (branch_seen bs)
   said_same bs a l otherwise = ap (λ b. unless b (fault_on file kind.BlockStray l)) (branch_seen bs)
-  said_same bs a l closes = ap (λ b. unless b (fault_on file kind.BlockStray l)) (end_seen bs)
+  said_same bs a l closes = ap (λ b. unless b (fault_on file kind.BlockStray l)) (end_seen bs a)
   said_same bs a l s = refl
 
   waiting_same : (bs : List Block) → Around q m bs → (l : ℕ) (s : Said) → level.waiting_or_said file (each seen bs) (level_at next) l s ≡ waiting_or_said file bs next l s

@@ -32,14 +32,14 @@ numbered_still p k l past q h = let g : so_far h.1 past ≤ so_far h.1 (begins p
 numbered_now : (p : Path) (k : ItemKind) (l : ℕ) (past : List Event) → p ≡ so_far (collection_of p) past ∷ collection_of p → Numbered (begins p k l ∷ past) p
 numbered_now p k l past e = let s : so_far (collection_of p) (begins p k l ∷ past) ≡ suc (so_far (collection_of p) past) = so_far_here p k l past in (so_far (collection_of p) past, collection_of p, e, omega (arith, s))
 
-began_each : (P Q : Path → Type 0) → ((p : Path) → P p → Q p) → (es : List Event) → Began P es → Began Q es
+pub began_each : (P Q : Path → Type 0) → ((p : Path) → P p → Q p) → (es : List Event) → Began P es → Began Q es
 began_each P Q f [] h = tt
 began_each P Q f (begins p k l ∷ es) h = (f p h.0, began_each P Q f es h.1)
 began_each P Q f (beside p k b l s ∷ es) h = began_each P Q f es h
 began_each P Q f (says l s ∷ es) h = began_each P Q f es h
 
 -- an item that comes has not begun
-is_new : (past : List Event) (p q : Path) → Numbered past p → q ≡ so_far (collection_of q) past ∷ collection_of q → q ≡ p → ⊥
+pub is_new : (past : List Event) (p q : Path) → Numbered past p → q ≡ so_far (collection_of q) past ∷ collection_of q → q ≡ p → ⊥
 is_new past p q h e s =
     let t : so_far (collection_of q) past ∷ collection_of q ≡ h.0 ∷ h.1 = sym e ∙ s ∙ h.2 in
     let n : so_far (collection_of q) past ≡ h.0 = ap (λ p. get_or p 0 0) t in
@@ -54,7 +54,7 @@ collection_at : (q p e : Path) → q ≡ e ++ p → (q ≡ p → ⊥) → In (co
 collection_at q p [] h new = absurd (new h)
 collection_at q p (n ∷ e) h new = (e, ap collection_of h)
 
-collection_in : (q p : Path) → (q ≡ p → ⊥) → In q p → In (collection_of q) p
+pub collection_in : (q p : Path) → (q ≡ p → ⊥) → In q p → In (collection_of q) p
 collection_in q p new h = collection_at q p h.0 h.1 new
 
 not_at_most : (m n : ℕ) → not (at_most (suc m) n) ≡ at_most n m
@@ -107,7 +107,7 @@ either false true bs cs b e h = cc
 either false false bs cs b e h = ap (λ bs. b ∷ bs) h
 
 module _ (p : Path) (next : Option Path) where
-  abbrev advance : List Block → List Block
+  abbrev pub advance : List Block → List Block
   advance bs = left_at next (each (has_one p) bs)
 
   -- those that were over stay over
@@ -141,7 +141,7 @@ module _ (p : Path) (next : Option Path) where
     seen_first b true (Some x) l t h = seen_either (is_over (Some x) next) (level.is_over (Some (level_of x)) (level_at next)) (flagged b true (Some x)) (t.level h)
 
 -- none of these is over where this item comes
-abbrev NoneOver : (next : Option Path) → List Block → Type 0
+abbrev pub NoneOver : (next : Option Path) → List Block → Type 0
 NoneOver next [] = Unit {0}
 NoneOver next (b ∷ bs) = ((b.for_one && is_over b.one next) ≡ false) × NoneOver next bs
 
@@ -149,7 +149,7 @@ none_over_first : (next : Option Path) (b : Block) (bs : List Block) (t : Bool) 
 none_over_first next b bs true e h = h
 none_over_first next b bs false e h = (e, h)
 
-left_none_over : (next : Option Path) (bs : List Block) → NoneOver next (left_at next bs)
+pub left_none_over : (next : Option Path) (bs : List Block) → NoneOver next (left_at next bs)
 left_none_over next [] = tt
 left_none_over next (b ∷ bs) = none_over_first next b (left_at next bs) (b.for_one && is_over b.one next) refl (left_none_over next bs)
 
@@ -157,7 +157,7 @@ ones_first : (P : Path → Type 0) (b : Block) (bs : List Block) (t : Bool) → 
 ones_first P b bs true g h = h
 ones_first P b bs false g h = (g, h)
 
-ones_left : (P : Path → Type 0) (next : Option Path) (bs : List Block) → Ones P bs → Ones P (left_at next bs)
+pub ones_left : (P : Path → Type 0) (next : Option Path) (bs : List Block) → Ones P bs → Ones P (left_at next bs)
 ones_left P next [] h = tt
 ones_left P next (b ∷ bs) h = ones_first P b (left_at next bs) (b.for_one && is_over b.one next) h.0 (ones_left P next bs h.1)
 
@@ -218,7 +218,7 @@ module _ (p : Path) (k : ItemKind) (l : ℕ) (past : List Event) (next : Option 
   told_left : Ones (Told p next) (open_blocks past (Some p))
   told_left = ones_left (Told p next) (Some p) (unclosed_at past p) told_all
 
-  blocks_behind : open_blocks (begins p k l ∷ past) next ≡ advance p next (open_blocks past (Some p))
+  pub blocks_behind : open_blocks (begins p k l ∷ past) next ≡ advance p next (open_blocks past (Some p))
   blocks_behind = ap (left_at next) (behind_item p zero false past) ∙ advance_left p next (unclosed_at past p) told_all
 
   seen_behind : Numbered (begins p k l ∷ past) p → each seen (open_blocks (begins p k l ∷ past) next) ≡ advanced (level_of p) (level_at next) (each seen (open_blocks past (Some p)))

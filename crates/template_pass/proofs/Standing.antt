@@ -60,7 +60,7 @@ module _ (q : Path) (past : List Event) where
       by_test false true e = cc
       by_test false false e = refl
 
-  belongs_within : (m : ℕ) (bs : List Block) (next : Option Path) → Around q m bs → Around q (length (belongs bs next)) bs
+  pub belongs_within : (m : ℕ) (bs : List Block) (next : Option Path) → Around q m bs → Around q (length (belongs bs next)) bs
   belongs_within m [] next a = tt
   belongs_within m (b ∷ bs) None a = let l : length b.collection ≤ length b.collection = omega arith in (a.0, l, a.2)
   belongs_within m (b ∷ bs) (Some p) a = (a.0, by_test (lies_in (collection_of p) b.collection) refl, a.2)
@@ -121,10 +121,10 @@ opener_step q past next bs s l h true = record { stack = opened_seen q past next
 
 -- ---- an `else` and an end
 
-none_where : (t z : Bool) (f g : Fault) → (if t then Some f else unless (not z) g) ≡ None → z ≡ false
-none_where true z f g h = cc
-none_where false true f g h = cc
-none_where false false f g h = refl
+none_where_first : (t z x : Bool) (f g : Fault) → (if t then Some f else unless (not z && x) g) ≡ None → z ≡ false
+none_where_first true z x f g h = cc
+none_where_first false true x f g h = cc
+none_where_first false false x f g h = refl
 
 none_where_both : (t x z : Bool) (f g : Fault) → (if t then Some f else unless (x && not z) g) ≡ None → z ≡ false
 none_where_both true x z f g h = cc
@@ -132,11 +132,11 @@ none_where_both false true true f g h = cc
 none_where_both false false z f g h = cc
 none_where_both false true false f g h = refl
 
-end_stays : (file : ℕ) (bs : List Block) (next : Option Path) (l : ℕ) → waiting_or_said file bs next l closes ≡ None → HeadStays bs
+pub end_stays : (file : ℕ) (bs : List Block) (next : Option Path) (l : ℕ) → waiting_or_said file bs next l closes ≡ None → HeadStays bs
 end_stays file [] next l h = cc
-end_stays file (b ∷ bs) next l h = none_where _ b.for_one _ _ h
+end_stays file (b ∷ bs) next l h = none_where_first _ b.for_one _ _ _ h
 
-else_stays : (file : ℕ) (bs : List Block) (next : Option Path) (l : ℕ) → waiting_or_said file bs next l otherwise ≡ None → HeadStays bs
+pub else_stays : (file : ℕ) (bs : List Block) (next : Option Path) (l : ℕ) → waiting_or_said file bs next l otherwise ≡ None → HeadStays bs
 else_stays file [] next l h = cc
 else_stays file (b ∷ bs) next l h = none_where_both _ _ b.for_one _ _ h
 
@@ -196,7 +196,7 @@ said_step file q past es l otherwise bs s f = else_step q past (next_item es) bs
 said_step file q past es l closes bs s f = end_step q past (next_item es) bs s l (end_stays file (open_blocks past (next_item es)) (next_item es) l f)
 said_step file q past es l t bs s f = same_step q past (next_item es) bs (says l t) s refl s.numbered s.coming
 
-none_true : (b : Bool) (f : Fault) → unless b f ≡ None → IsTrue b
+pub none_true : (b : Bool) (f : Fault) → unless b f ≡ None → IsTrue b
 none_true true f h = refl
 none_true false f h = cc
 

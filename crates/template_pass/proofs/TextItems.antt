@@ -24,7 +24,7 @@ use Rattle.template_pass.proofs.Trees.{begun_of, items_begun, below_begun}
 
 -- ---- the items of rows
 
-abbrev start_of : Begun → Start
+abbrev pub start_of : Begun → Start
 start_of b = record { level = level_of b.path; kind = b.kind; line = b.line; key = b.key; written = b.written }
 
 abbrev paths_of : List Begun → List Path
@@ -46,7 +46,7 @@ begun_same (says l s ∷ es) ss bs h e = begun_same es ss bs h e
 
 -- ---- the items of the tree
 
-flat_begun : List Flat → List Begun
+pub flat_begun : List Flat → List Begun
 flat_begun [] = []
 flat_begun (starts p k l key w ∷ fs) = record { path = p; kind = k; line = l; key = key; written = w } ∷ flat_begun fs
 flat_begun (trailing_of p k b c ∷ fs) = flat_begun fs
@@ -93,14 +93,14 @@ mutual
   flat_below_begun p (noted_list is) = flat_items_begun element_item p 0 is
   flat_below_begun p (noted_map is) = flat_items_begun pair_item p 0 is
 
-flat_starts : (fs : List Flat) → flat_started fs ≡ each start_of (flat_begun fs)
+pub flat_starts : (fs : List Flat) → flat_started fs ≡ each start_of (flat_begun fs)
 unfolding flat_begun
 flat_starts [] = refl
 flat_starts (starts p k l key w ∷ fs) = ap (λ (ss : List Start). record { level = level_of p; kind = k; line = l; key = key; written = w } ∷ ss) (flat_starts fs)
 flat_starts (trailing_of p k b c ∷ fs) = flat_starts fs
 flat_starts (alone c ∷ fs) = flat_starts fs
 
-text_begun : (ds : Documents) → flat_begun (flat_text ds) ≡ items_begun document_item [] 0 ds.items
+pub text_begun : (ds : Documents) → flat_begun (flat_text ds) ≡ items_begun document_item [] 0 ds.items
 unfolding flat_begun
 text_begun ds =
     flat-append (flat_items document_item [] 0 ds.items) (loose_all ds.after)

@@ -87,7 +87,7 @@ none_behind c n past (says l s ∷ es) ps h =
 
 -- ---- the parts of a slot
 
-beside_parts : (file l : ℕ) (s : Said) (b : Bool) (t : Slot) → (changed_if b (with_beside file l s) t).parts ≡ t.parts
+pub beside_parts : (file l : ℕ) (s : Said) (b : Bool) (t : Slot) → (changed_if b (with_beside file l s) t).parts ≡ t.parts
 beside_parts file l s false t = refl
 beside_parts file l ignored true t = refl
 beside_parts file l (a_note x es) true t = refl

@@ -94,7 +94,7 @@ no_block [] = true
 no_block (b ∷ bs) = false
 
 abbrev pub statement_fault : List Open → (level : ℕ) → Statement → Option Fault
-statement_fault bs d (return p e) = unless (is_some (innermost_def bs)) (fault_at kind.CodeForm p)
+statement_fault bs d (return p e) = unless (is_level_of d (innermost_def bs)) (fault_at kind.CodeForm p)
 statement_fault bs d (break p) = unless (is_level_of d (innermost_loop bs)) (fault_at kind.CodeForm p)
 statement_fault bs d (continue p) = unless (is_level_of d (innermost_loop bs)) (fault_at kind.CodeForm p)
 statement_fault bs d (load p path xs) = unless (no_block bs) (fault_at kind.CodeForm p)
@@ -114,16 +114,16 @@ abbrev pub takes_branch : List Open → Bool
 takes_branch [] = false
 takes_branch (b ∷ bs) = is_if b.header && not b.has_else && not b.for_one
 
-abbrev pub takes_end : List Open → Bool
-takes_end [] = false
-takes_end (b ∷ bs) = not b.for_one
+abbrev pub takes_end : List Open → (next : Option ℕ) → Bool
+takes_end [] next = false
+takes_end (b ∷ bs) next = not b.for_one && belongs (b ∷ bs) next == b.level
 
 abbrev pub said_fault : (file : ℕ) → List Open → (next : Option ℕ) → (line : ℕ) → Said → Option Fault
 said_fault file bs next l (statements is) = statements_fault bs (belongs bs next) is
 said_fault file bs next l (opens h z) = unless (nat_lt (length bs) max_blocks) (fault_on file kind.TooDeep l)
 said_fault file bs next l (elif e) = unless (takes_branch bs) (fault_on file kind.BlockStray l)
 said_fault file bs next l otherwise = unless (takes_branch bs) (fault_on file kind.BlockStray l)
-said_fault file bs next l closes = unless (takes_end bs) (fault_on file kind.BlockStray l)
+said_fault file bs next l closes = unless (takes_end bs next) (fault_on file kind.BlockStray l)
 said_fault file bs next l s = None
 
 abbrev pub waiting_or_said : (file : ℕ) → List Open → (next : Option ℕ) → (line : ℕ) → Said → Option Fault

@@ -1,5 +1,6 @@
 pub mod Building
 pub mod Flat
+pub mod Kinded
 pub mod Laws
 pub mod Levels
 pub mod Orderly

@@ -57,10 +57,10 @@ abbrev pub no_block : List Block → Bool
 no_block [] = true
 no_block (b ∷ bs) = false
 
--- A statement that belongs to a collection, within these blocks: `return` stands in a `def`, `break` and `continue` belong to
--- their loop's own collection, and `load` stands outside every block.
+-- A statement that belongs to a collection, within these blocks: `return` belongs to its function's own collection, `break` and
+-- `continue` to their loop's, and `load` stands outside every block.
 abbrev pub statement_fault : List Block → Path → Statement → Option Fault
-statement_fault bs c (return p e) = unless (is_some (innermost_def bs)) (fault_at kind.CodeForm p)
+statement_fault bs c (return p e) = unless (is_collection_of c (innermost_def bs)) (fault_at kind.CodeForm p)
 statement_fault bs c (break p) = unless (is_collection_of c (innermost_loop bs)) (fault_at kind.CodeForm p)
 statement_fault bs c (continue p) = unless (is_collection_of c (innermost_loop bs)) (fault_at kind.CodeForm p)
 statement_fault bs c (load p path xs) = unless (no_block bs) (fault_at kind.CodeForm p)
@@ -83,21 +83,22 @@ may_wait (a_note x es) = true
 may_wait (opens h z) = z
 may_wait s = false
 
--- `elif` and `else` belong to an `if` without `else`, and `end` to any block; one for a single item takes none of them
+-- `elif` and `else` belong to an `if` without `else`, and `end` to any block; one for a single item takes none of them. An `end`
+-- stands in no item of its block: a statement there would belong to its block's collection too.
 abbrev pub takes_branch : List Block → Bool
 takes_branch [] = false
 takes_branch (b ∷ bs) = is_if b.header && not b.has_else && not b.for_one
 
-abbrev pub takes_end : List Block → Bool
-takes_end [] = false
-takes_end (b ∷ bs) = not b.for_one
+abbrev pub takes_end : List Block → (next : Option Path) → Bool
+takes_end [] next = false
+takes_end (b ∷ bs) next = not b.for_one && bytes_eq (belongs (b ∷ bs) next) b.collection
 
 abbrev pub said_fault : (file : ℕ) → List Block → (next : Option Path) → (line : ℕ) → Said → Option Fault
 said_fault file bs next l (statements is) = statements_fault bs (belongs bs next) is
 said_fault file bs next l (opens h z) = unless (nat_lt (length bs) max_blocks) (fault_on file kind.TooDeep l)
 said_fault file bs next l (elif e) = unless (takes_branch bs) (fault_on file kind.BlockStray l)
 said_fault file bs next l otherwise = unless (takes_branch bs) (fault_on file kind.BlockStray l)
-said_fault file bs next l closes = unless (takes_end bs) (fault_on file kind.BlockStray l)
+said_fault file bs next l closes = unless (takes_end bs next) (fault_on file kind.BlockStray l)
 said_fault file bs next l s = None
 
 -- nothing but notes and further such openers comes between an opener for one item and the item

@@ -3,6 +3,7 @@ pub mod GoodScalars
 pub mod Held
 pub mod HeldDocuments
 pub mod HeldRows
+pub mod KeyedRead
 pub mod QuotesUtf8
 pub mod Shallow
 pub mod TextParts

@@ -1,9 +1,12 @@
-//! What is read of a text is what the program holds, and can be written: the contract of a function that does nothing.
+//! What is read of a text is what the program holds, and can be written, and it has keys in maps alone: contracts of functions that
+//! do nothing.
 #![tactic(auto)]
 
 ghost use Rattle.std.specs.Prelude.{◌≡◌, ℕ, List, Ok};
 ghost use Rattle.ytt_base.specs.Trees.{AreTrees, Trees, Writable};
-ghost use Rattle.yaml_spec.specs.Read.{read_trees};
+ghost use Rattle.yaml_held.specs.Keyed.{KeyedDocuments};
+ghost use Rattle.yaml_spec.specs.Noted.{Documents};
+ghost use Rattle.yaml_spec.specs.Read.{Read, read_trees};
 ghost use Rattle.yaml_spec.specs.ReadsBack.{ReadsAlone};
 ghost use Rattle.yaml_spec.specs.Text.{Text};
 
@@ -14,4 +17,9 @@ pub fn reads_writable()
     ensures writable { (file : ℕ) (bytes : List ℕ) (documents : Trees) → read_trees file bytes ≡ Ok documents → Writable documents }
     ensures back { (file : ℕ) (bytes : List ℕ) (documents : Trees) → read_trees file bytes ≡ Ok documents →
         ReadsAlone (Text documents) documents }
+{}
+
+/// In noted documents that were read an item has a key exactly where it stands in a map.
+pub fn reads_keyed()
+    ensures { (file : ℕ) (bytes : List ℕ) (documents : Documents) → Read file bytes ≡ Ok documents → KeyedDocuments documents }
 {}
