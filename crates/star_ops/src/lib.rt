@@ -1,0 +1,11 @@
+//! What operators give for None, bools, integers of 128 bits, texts and tuples.
+//!
+//! `unary` and `binary` give exactly what the table of operators says, or its refusal, and take exactly its steps.
+#![tactic(auto)]
+
+mod equality;
+mod order;
+mod steps;
+mod value;
+
+pub use value::{Value, Values};
