@@ -1,3 +1,7 @@
+pub mod Copies
+pub mod Floor
 pub mod Meeting
+pub mod Passing
+pub mod Shifts
 pub mod Tuples
 pub mod Views

@@ -1,7 +1,6 @@
--- The plain values of texts and tuples.
-use Rattle.std.proofs.Common.{◌≡◌, rules, subst, sym}
-use Rattle.star_spec.specs.Values as plain
-use Rattle.star_spec.specs.Values.{text_value, tuple_value, values_from}
+-- The plain values of integers, texts and tuples.
+use Rattle.std.proofs.Common.{◌≡◌, ℤ, rules}
+use Rattle.star_spec.specs.Values.{int_value, text_value, tuple_value, values_from}
 use Rattle.star_ops.specs.declared.value.Value.{Value, the_lemmas}
 use Rattle.star_ops.specs.declared.value.Value as held
 use Rattle.star_ops.specs.View.{value_of, values_of}
@@ -11,3 +10,6 @@ value_of-Tuple v shared e = search (rules, the_lemmas)
 
 pub value_of-Text : (v : Value) (shared : _) → v ≡ held.Text shared → value_of v ≡ text_value shared.value
 value_of-Text v shared e = search (rules, the_lemmas)
+
+pub value_of-Int : (v : Value) (z : ℤ) → v ≡ held.Int z → value_of v ≡ int_value z
+value_of-Int v z e = search (rules, the_lemmas)

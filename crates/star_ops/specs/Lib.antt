@@ -1,3 +1,4 @@
 pub mod Alike
 pub mod Meets
+pub mod Operators
 pub mod View

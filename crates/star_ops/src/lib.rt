@@ -4,8 +4,12 @@
 #![tactic(auto)]
 
 mod equality;
+mod numbers;
+mod operators;
 mod order;
 mod steps;
+mod sums;
 mod value;
 
+pub use operators::{BinaryOp, UnaryOp};
 pub use value::{Value, Values};
