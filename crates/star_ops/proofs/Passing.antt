@@ -6,7 +6,7 @@ use Rattle.ytt_base.specs.declared.fault.Place.{Place}
 use Rattle.star_spec.specs.Outcomes.{State}
 use Rattle.star_spec.specs.Values.{Value, int_value}
 use Rattle.star_ops.specs.declared.operators.IntegerOp.{IntegerOp}
-use Rattle.star_ops.specs.Operators.{integer_act, integer_row}
+use Rattle.star_ops.specs.Acts.{integer_act, integer_row}
 
 pub as_passed : (P : ℤ → ℤ → Type 0) (a b : ℤ) → FitsSigned w128 a → FitsSigned w128 b → P (to_z w128 (of_z w128 a)) (to_z w128 (of_z w128 b)) → P a b
 as_passed P a b f g h = subst (λ x. P x b) (to_z-of_z w128 a f) (subst (λ y. P (to_z w128 (of_z w128 a)) y) (to_z-of_z w128 b g) h)

@@ -21,6 +21,10 @@ abbrev pub among_by : (equal : Value → Value → Computation (Unit {0}) Bool) 
 among_by equal p v [] = give false
 among_by equal p v (w ∷ ws) = paid p (equal w v) >>= λ is. if is then give true else among_by equal p v ws
 
+-- the sizes of both
+abbrev pub both_ranked : Place → (left right : Value) → Computation (Unit {0}) (Unit {0})
+both_ranked p a b = ranked 100 p a >>= λ u. ranked 100 p b
+
 -- ---- what operators ask of two values
 
 unfoldable pub same : Place → (left right : Value) → Computation (Unit {0}) Bool

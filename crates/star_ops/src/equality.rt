@@ -1,12 +1,12 @@
 // Equality.
-ghost use Rattle.star_ops.specs.Alike.{alike};
+ghost use Rattle.star_ops.specs.Alike.{alike, same};
 ghost use Rattle.star_spec.specs.Equality.{equal_pairs, equal_texts, equal_within};
 ghost use Rattle.star_spec.specs.Outcomes.{paid};
 ghost use Rattle.star_ops.specs.Meets.{Meets, as_is, state_of};
 ghost use Rattle.star_ops.specs.View.{value_of, values_of};
 
 use crate::steps::{pay, refusal};
-use crate::value::{Value, members, text};
+use crate::value::{MAX_DEPTH, Value, members, text};
 use std::alloc::Global;
 use ytt_base::fault::{FaultKind, Place, Stop};
 
@@ -110,8 +110,9 @@ fn pairs_equal(
     Ok(true)
 }
 
+/// The same of a pair of members, which takes a step.
 #[cycle(equality)]
-fn pair_equal(
+pub(crate) fn pair_equal(
     alloc: Global,
     place: Place,
     levels: u32,
@@ -123,4 +124,17 @@ fn pair_equal(
 {
     pay(alloc, place, 1, steps)?;
     equal(alloc, place, levels, left, right, steps)
+}
+
+/// Whether two values are equal.
+pub(crate) fn equals(
+    alloc: Global,
+    place: Place,
+    left: &Value,
+    right: &Value,
+    steps: &mut u64,
+) -> Result<bool, Stop>
+    ensures { Meets as_is result (state_of steps.new) (same place (value_of left.now) (value_of right.now) (state_of steps.old)) }
+{
+    equal(alloc, place, MAX_DEPTH, left, right, steps)
 }

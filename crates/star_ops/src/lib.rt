@@ -4,12 +4,15 @@
 #![tactic(auto)]
 
 mod equality;
+mod membership;
 mod numbers;
 mod operators;
 mod order;
+mod rows;
 mod steps;
 mod sums;
 mod value;
 
 pub use operators::{BinaryOp, UnaryOp};
-pub use value::{Value, Values};
+pub use rows::{binary, unary};
+pub use value::{Value, Values, truth};

@@ -6,7 +6,7 @@ ghost use Rattle.star_spec.specs.Numbers.{at_least_zero, complement, floor_quoti
 ghost use Rattle.star_spec.specs.Code as code;
 ghost use Rattle.star_spec.specs.Operators.{int_of, unary_row};
 ghost use Rattle.star_ops.specs.Meets.{Tells};
-ghost use Rattle.star_ops.specs.Operators.{integer_act, integer_row};
+ghost use Rattle.star_ops.specs.Acts.{integer_act, integer_row};
 ghost use Rattle.star_ops.specs.declared.operators.IntegerOp.TheVariants as integer;
 ghost use Rattle.star_ops.specs.View.{value_of};
 

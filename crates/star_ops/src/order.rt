@@ -1,13 +1,13 @@
 // The order of values.
 ghost use Rattle.std.specs.Prelude.{◌≡◌, []};
-ghost use Rattle.star_spec.specs.Order.{by_bool, by_integer, by_members, by_number, each_sized, order_within, rank, sized_within};
+ghost use Rattle.star_spec.specs.Order.{are_comparable, by_bool, by_integer, by_members, by_number, each_sized, order_within, rank, sized_within};
 ghost use Rattle.star_spec.specs.Outcomes.{paid};
-ghost use Rattle.star_ops.specs.Alike.{ordered, ranked};
+ghost use Rattle.star_ops.specs.Alike.{both_ranked, comparing, ordered, ranked};
 ghost use Rattle.star_ops.specs.Meets.{Meets, as_is, state_of};
 ghost use Rattle.star_ops.specs.View.{comparison_of, value_of, values_of};
 
 use crate::steps::{pay, refusal};
-use crate::value::{Value, members, text};
+use crate::value::{MAX_DEPTH, Value, members, text};
 use std::alloc::Global;
 use std::cmp::Ordering;
 use ytt_base::fault::{FaultKind, Place, Stop};
@@ -228,4 +228,44 @@ fn rank_order(left: &Value, right: &Value) -> Ordering
     ensures { comparison_of result ≡ by_number (rank (value_of left.now)) (rank (value_of right.now)) }
 {
     number_order(rank_of(left), rank_of(right))
+}
+
+/// Whether two values are of one kind, which has an order.
+fn comparable(left: &Value, right: &Value) -> bool
+    ensures { result ≡ are_comparable (value_of left.now) (value_of right.now) }
+{
+    let rank = rank_of(left);
+    rank == rank_of(right) && 0 < rank && rank < 6
+}
+
+/// Which of two bools, integers, texts or tuples comes first; else `ValueKind`. It takes the sizes of both
+/// as steps.
+pub(crate) fn compare(
+    alloc: Global,
+    place: Place,
+    left: &Value,
+    right: &Value,
+    steps: &mut u64,
+) -> Result<Ordering, Stop>
+    ensures { Meets comparison_of result (state_of steps.new) (comparing place (value_of left.now) (value_of right.now) (state_of steps.old)) }
+{
+    if !comparable(left, right) {
+        return Err(refusal(alloc, FaultKind::ValueKind, place));
+    }
+    pay_sizes(alloc, place, left, right, steps)?;
+    Ok(order(MAX_DEPTH, left, right))
+}
+
+/// The steps of both.
+fn pay_sizes(
+    alloc: Global,
+    place: Place,
+    left: &Value,
+    right: &Value,
+    steps: &mut u64,
+) -> Result<(), Stop>
+    ensures { Meets as_is result (state_of steps.new) (both_ranked place (value_of left.now) (value_of right.now) (state_of steps.old)) }
+{
+    pay_size(alloc, place, MAX_DEPTH, left, steps)?;
+    pay_size(alloc, place, MAX_DEPTH, right, steps)
 }

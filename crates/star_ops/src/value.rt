@@ -1,10 +1,15 @@
 // Values.
-ghost use Rattle.std.specs.Prelude.{◌≡◌, IfOk};
+ghost use Rattle.std.specs.Prelude.{◌≡◌, [], IfOk};
+ghost use Rattle.star_spec.specs.Members.{truth_in};
+ghost use Rattle.star_spec.specs.Operators.{cost_in};
 ghost use Rattle.star_ops.specs.View.{value_of};
 
 use sqlite_items::Items;
 use std::rc::Rc;
 use ytt_base::text::{Memory, Text};
+
+/// How many tuples may stand in one another where they are compared.
+pub(crate) const MAX_DEPTH: u32 = 100;
 
 /// A value. Texts and tuples are shared, so a copy takes the same time whatever the value.
 #[derive(Drop)]
@@ -46,4 +51,28 @@ pub(crate) fn text(text: &Rc<Text>) -> &str
     ensures { result.now ≡ text.now.value }
 {
     text.as_str()
+}
+
+/// None, False, 0 and what has no byte or member are false; all else is true.
+pub fn truth(value: &Value) -> bool
+    ensures { result ≡ truth_in [] (value_of value.now) }
+{
+    match value {
+        Value::None => false,
+        Value::Bool(b) => *b,
+        Value::Int(n) => *n != 0,
+        Value::Text(t) => !text(t).is_empty(),
+        Value::Tuple(tuple) => !members(tuple).is_empty(),
+    }
+}
+
+/// The steps that turning the truth of a value takes: a sixteenth of a text's bytes, or the members of a tuple.
+pub(crate) fn turning_cost(value: &Value) -> u128
+    ensures { result ≡ cost_in [] (value_of value.now) }
+{
+    match value {
+        Value::Text(t) => text(t).len() as u128 / 16,
+        Value::Tuple(tuple) => members(tuple).len() as u128,
+        _ => 0,
+    }
 }

@@ -1,6 +1,6 @@
 use Rattle.star_ops.specs.declared.operators.IntegerOp.TheVariants as integer
 use Rattle.star_ops.specs.Meets.{Meets}
-use Rattle.star_ops.specs.Operators.{integer_act}
+use Rattle.star_ops.specs.Acts.{integer_act}
 use Rattle.star_ops.specs.View.{value_of}
 use Rattle.star_ops.proofs.Passing.{as_passed}
 use Rattle.star_ops.proofs.numbers.of_integers.Goals as goal

@@ -1,7 +1,7 @@
 use Rattle.std.proofs.Common.{FitsSigned, rules}
 use Rattle.std.specs.Int.{w128}
 use Rattle.star_ops.specs.Meets.{Meets}
-use Rattle.star_ops.specs.Operators.{integer_act}
+use Rattle.star_ops.specs.Acts.{integer_act}
 use Rattle.star_ops.specs.View.{value_of}
 use Rattle.star_ops.proofs.Meeting.{meets_same}
 use Rattle.star_ops.proofs.Passing.{as_passed, integers_row}

@@ -2,11 +2,11 @@ use Rattle.std.proofs.Common.{FitsSigned, rules}
 use Rattle.std.specs.Int.{w128}
 use Rattle.star_ops.specs.declared.operators.IntegerOp.TheVariants as integer
 use Rattle.star_ops.specs.Meets.{Meets, state_of}
-use Rattle.star_ops.specs.Operators.{integer_act}
+use Rattle.star_ops.specs.Acts.{integer_act}
 use Rattle.star_ops.specs.View.{value_of}
 use Rattle.star_ops.proofs.Meeting.{meets_same}
 use Rattle.star_ops.proofs.Passing.{as_passed}
-use Rattle.star_ops.proofs.Rows.{sum_of_ints, sum_of_tuples}
+use Rattle.star_ops.proofs.ByKinds.{sum_of_ints, sum_of_tuples}
 use Rattle.star_ops.proofs.Views.{value_of-Int, value_of-Tuple}
 use Rattle.star_ops.proofs.sums.add.Goals as goal
 

@@ -3,11 +3,11 @@ use Rattle.std.specs.Int.{w128}
 use Rattle.star_spec.specs.Operators.{repeat_tuple}
 use Rattle.star_ops.specs.declared.operators.IntegerOp.TheVariants as integer
 use Rattle.star_ops.specs.Meets.{Meets, state_of}
-use Rattle.star_ops.specs.Operators.{integer_act}
+use Rattle.star_ops.specs.Acts.{integer_act}
 use Rattle.star_ops.specs.View.{value_of, values_of}
 use Rattle.star_ops.proofs.Meeting.{meets_same}
 use Rattle.star_ops.proofs.Passing.{as_passed, one_passed}
-use Rattle.star_ops.proofs.Rows.{int_and_tuple, product_of_ints, tuple_and_int}
+use Rattle.star_ops.proofs.ByKinds.{int_and_tuple, product_of_ints, tuple_and_int}
 use Rattle.star_ops.proofs.Views.{value_of-Int, value_of-Tuple}
 use Rattle.star_ops.proofs.sums.multiply.Goals as goal
 

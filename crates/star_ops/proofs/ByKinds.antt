@@ -1,20 +1,21 @@
 -- Rows of the table, by what stands in their operands.
-use Rattle.std.proofs.Common.{◌≡◌, ℤ, Bool, true, false, not, List, ◌∷◌, [], length, if◌then◌else◌, refl, sym, ap, ◌∙◌}
+use Rattle.std.proofs.Common.{◌≡◌, ◌==◌, ℕ, ℤ, Bool, true, false, not, List, ◌∷◌, [], length, if◌then◌else◌, refl, sym, ap, ◌∙◌, eqb-true, arith}
 use Rattle.std.proofs.lemmas.List.{length-map}
 use Rattle.ytt_base.specs.declared.fault.Place.{Place}
+use Rattle.ytt_base.specs.Outcomes.{fault_at}
 use Rattle.star_spec.specs.Code as code
 use Rattle.star_spec.specs.Equality.{among, equality}
 use Rattle.star_spec.specs.Members.{truth_in, is_empty}
-use Rattle.star_spec.specs.Operators.{answered, denied, compared, binary_row, contained_in, cost_in, join_tuples, product_row, repeat_tuple, sum_row}
+use Rattle.star_spec.specs.Operators.{answered, denied, compared, binary_row, contained_in, cost_in, join_tuples, part_of_text, product_row, repeat_tuple, sum_row}
 use Rattle.star_spec.specs.Order.{are_comparable, comparison, is_above, is_below, order}
-use Rattle.star_spec.specs.Outcomes.{State, Computation, Ending, done, then_do, give, need, paid, reads, ◌>>=◌}
+use Rattle.star_spec.specs.Outcomes.{State, Computation, Ending, done, bad, then_do, give, need, paid, reads, ◌>>=◌}
 use Rattle.ytt_base.specs.declared.fault.FaultKind.TheVariants as kind
 use Rattle.star_spec.specs.Values.{Value, int_value, text_value, tuple_value, values_in, values_from}
-use Rattle.star_spec.proofs.Computations.{then_ext}
-use Rattle.star_ops.specs.Alike.{alike, among_by, comparing, ordered, ranked, same, within}
+use Rattle.star_spec.proofs.Computations.{then_assoc, then_ext}
+use Rattle.star_ops.specs.Alike.{alike, among_by, both_ranked, comparing, ordered, ranked, same, within}
 use Rattle.star_ops.specs.declared.operators.IntegerOp.TheVariants as integer
 use Rattle.star_ops.specs.declared.value.Value.{Value as Held}
-use Rattle.star_ops.specs.Operators.{integer_act}
+use Rattle.star_ops.specs.Acts.{integer_act}
 use Rattle.star_ops.specs.View.{value_of, values_of}
 use Rattle.star_ops.proofs.Tuples.{members_again}
 
@@ -53,21 +54,37 @@ pub within_tuple : (p : Place) (v w : Value) (vs : List Value) (s : State (Unit 
 unfolding within
 within_tuple p v w vs s e = ap (λ w. contained_in p v w s) e ∙ in_tuple p v (tuple_value (values_from vs)) s v vs ∙ ap (λ vs. among p v vs s) (members_again vs) ∙ among_alike p v vs s
 
+pub within_texts : (p : Place) (v w : Value) (x t : List ℕ) (s : State (Unit {0})) → v ≡ text_value x → w ≡ text_value t → within p v w s ≡ part_of_text p x t s
+unfolding within
+within_texts p v w x t s e f = λ i. contained_in p (e i) (f i) s
+
 -- ---- comparison
 
 pub same_alike : (p : Place) (a b : Value) (s : State (Unit {0})) → same p a b s ≡ alike 100 p a b s
 unfolding same alike
 same_alike p a b s = refl
 
+sized_both : (a b : Value) (e : Ending (Unit {0}) (Unit {0})) (f : Computation (Unit {0}) (Unit {0})) →
+    then_do e (λ u t. then_do (f t) (λ w r. done (order r.store a b) r)) ≡ then_do (then_do e (λ u. f)) (λ w r. done (order r.store a b) r)
+sized_both a b e f = sym (then_assoc e (λ u. f) (λ w r. done (order r.store a b) r))
+
 comparable : (p : Place) (a b : Value) (s : State (Unit {0})) (t : Bool) → t ≡ true → then_do (need kind.ValueKind p t s) (λ u. ranked 100 p a >>= λ v. ranked 100 p b >>= λ w. reads (λ store. order store a b))
-    ≡ then_do (ranked 100 p a s) (λ u t. then_do (ranked 100 p b t) (λ w r. done (order r.store a b) r))
-comparable p a b s true e = refl
+    ≡ then_do (both_ranked p a b s) (λ w r. done (order r.store a b) r)
+comparable p a b s true e = sized_both a b (ranked 100 p a s) (ranked 100 p b)
 comparable p a b s false e = cc
 
-pub comparing_steps : (p : Place) (a b : Value) (s : State (Unit {0})) → are_comparable a b ≡ true →
-    comparing p a b s ≡ then_do (ranked 100 p a s) (λ u t. then_do (ranked 100 p b t) (λ w r. done (order r.store a b) r))
+-- values that are comparable, and then their sizes
+pub comparing_steps : (p : Place) (a b : Value) (s : State (Unit {0})) → are_comparable a b ≡ true → comparing p a b s ≡ then_do (both_ranked p a b s) (λ w r. done (order r.store a b) r)
 unfolding comparing ranked
 comparing_steps p a b s e = comparable p a b s (are_comparable a b) e
+
+refused : (p : Place) (a b : Value) (s : State (Unit {0})) (t : Bool) → t ≡ false → then_do (need kind.ValueKind p t s) (λ u. ranked 100 p a >>= λ v. ranked 100 p b >>= λ w. reads (λ store. order store a b)) ≡ bad (fault_at kind.ValueKind p) s
+refused p a b s false e = refl
+refused p a b s true e = cc
+
+pub comparing_refused : (p : Place) (a b : Value) (s : State (Unit {0})) → are_comparable a b ≡ false → comparing p a b s ≡ bad (fault_at kind.ValueKind p) s
+unfolding comparing ranked
+comparing_refused p a b s e = refused p a b s (are_comparable a b) e
 
 pub order_is : (a b : Value) → ordered 100 a b ≡ order [] a b
 unfolding ordered
@@ -113,5 +130,10 @@ module _ (p : Place) (a b : Value) (s : State (Unit {0})) where
 pub tuple_cost : (v : Value) (vs : List Held) → v ≡ tuple_value (values_from (values_of vs)) → length vs ≡ cost_in [] v
 tuple_cost v vs e = sym (ap (cost_in []) e ∙ ap length (members_again (values_of vs)) ∙ length-map vs value_of)
 
-pub tuple_truth : (v : Value) (vs : List Held) → v ≡ tuple_value (values_from (values_of vs)) → not (is_empty (values_of vs)) ≡ truth_in [] v
-tuple_truth v vs e = sym (ap (truth_in []) e ∙ ap (λ vs. not (is_empty vs)) (members_again (values_of vs)))
+some_member : (vs : List Held) (none : Bool) → none ≡ (length vs == 0) → not none ≡ not (is_empty (values_of vs))
+some_member [] none h = ap not h
+some_member (v ∷ vs) false h = refl
+some_member (v ∷ vs) true h = absurd (let e : length (v ∷ vs) ≡ 0 = eqb-true _ _ (sym h) in omega (arith, e))
+
+pub tuple_truth : (v : Value) (vs : List Held) (none : Bool) → none ≡ (length vs == 0) → v ≡ tuple_value (values_from (values_of vs)) → not none ≡ truth_in [] v
+tuple_truth v vs none h e = some_member vs none h ∙ sym (ap (truth_in []) e ∙ ap (λ vs. not (is_empty vs)) (members_again (values_of vs)))
