@@ -7,7 +7,7 @@ use Rattle.star_spec.specs.Code as code
 use Rattle.star_spec.specs.Equality.{among, equality}
 use Rattle.star_spec.specs.Members.{truth_in, is_empty}
 use Rattle.star_spec.specs.Operators.{answered, denied, compared, binary_row, contained_in, cost_in, join_tuples, part_of_text, product_row, repeat_tuple, sum_row}
-use Rattle.star_spec.specs.Order.{are_comparable, comparison, is_above, is_below, order}
+use Rattle.star_spec.specs.Order.{are_comparable, is_above, is_below, order}
 use Rattle.star_spec.specs.Outcomes.{State, Computation, Ending, done, bad, then_do, give, need, paid, reads, ◌>>=◌}
 use Rattle.ytt_base.specs.declared.fault.FaultKind.TheVariants as kind
 use Rattle.star_spec.specs.Values.{Value, int_value, text_value, tuple_value, values_in, values_from}

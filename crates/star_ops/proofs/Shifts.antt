@@ -1,5 +1,5 @@
 -- Shifts of integers of 128 bits.
-use Rattle.std.proofs.Common.{◌≡◌, ℕ, zero, suc, ◌+◌, ◌-◌, ◌*◌, ◌/◌, ◌^◌, ◌<◌, ◌≤◌, ℤ, pos, negsuc, ◌*ℤ◌, ◌<ℤ◌, ◌≤ℤ◌, neg_ℤ, FitsSigned, to_z, of_z, Option, None, refl, sym, ap, subst, ◌∙◌, arith}
+use Rattle.std.proofs.Common.{◌≡◌, ℕ, zero, suc, ◌+◌, ◌*◌, ◌/◌, ◌^◌, ◌<◌, ◌≤◌, ℤ, pos, negsuc, ◌*ℤ◌, ◌<ℤ◌, ◌≤ℤ◌, neg_ℤ, FitsSigned, to_z, of_z, Option, None, refl, sym, ap, subst, ◌∙◌, arith}
 use Rattle.std.proofs.lemmas.Int.{ints, to_z-of_z, unsigned_abs-mul}
 use Rattle.std.proofs.lemmas.Nat.{pow-add}
 use Rattle.std.proofs.Math.Nat.{div-eq_of_lt, mul_assoc, mul-le-mul_left, mul-le-mul_right}
@@ -86,5 +86,5 @@ pub both_parts : (z x : ℤ) (m k n : ℕ) (r : Option ℤ) → n ≡ m + k → 
     SomeIff r (FitsSigned w128 (shifted_left (to_z w128 (of_z w128 x)) k)) (shifted_left (to_z w128 (of_z w128 x)) k) → SomeIff r (FitsSigned w128 (shifted_left z n)) (shifted_left z n)
 both_parts z x m k n r e f g is h =
     let same : shifted_left (to_z w128 (of_z w128 x)) k ≡ shifted_left z n =
-        ap (λ y. shifted_left y k) (to_z-of_z w128 x g ∙ is ∙ ap (λ y. shifted_left y m) (to_z-of_z w128 z f)) ∙ in_two z m k n e in
+    ap (λ y. shifted_left y k) (to_z-of_z w128 x g ∙ is ∙ ap (λ y. shifted_left y m) (to_z-of_z w128 z f)) ∙ in_two z m k n e in
     subst (λ y. SomeIff r (FitsSigned w128 y) y) same h

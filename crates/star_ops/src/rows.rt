@@ -38,12 +38,7 @@ pub fn unary(
     }
 }
 
-fn not_true(
-    alloc: Global,
-    place: Place,
-    operand: &Value,
-    steps: &mut u64,
-) -> Result<Value, Stop>
+fn not_true(alloc: Global, place: Place, operand: &Value, steps: &mut u64) -> Result<Value, Stop>
     ensures { Meets value_of result (state_of steps.new) (not_row place (value_of operand.now) (state_of steps.old)) }
 {
     pay(alloc, place, turning_cost(operand), steps)?;

@@ -9,16 +9,16 @@ use Rattle.ytt_base.specs.Trees.{max_depth}
 use Rattle.ytt_base.specs.declared.fault.FaultKind.{FaultKind}
 use Rattle.ytt_base.specs.declared.fault.FaultKind.TheVariants as kind
 use Rattle.star_spec.specs.Code.{UnaryOperator, negation, positive, inversion, logical_not, BinaryOperator, addition, subtraction, multiplication, floor_division, remainder, bit_and, bit_or, bit_xor, shift_left, shift_right, equal, unequal, less, greater, at_most, at_least, contained, not_contained}
-use Rattle.star_spec.specs.Equality.{kind_number, equal_texts, equal_pairs, equal_members, equal_by, equal_within, equality, among}
+use Rattle.star_spec.specs.Equality.{kind_number, equal_texts, equal_pairs, equal_by, equal_within, equality, among}
 use Rattle.star_spec.specs.Held.{HeldValue, HeldValues, HeldList}
 use Rattle.star_spec.specs.Keys.{text_cost}
 use Rattle.star_spec.specs.Members.{as_int, as_text, as_tuple, truth_in}
 use Rattle.star_spec.specs.Numbers.{at_least_zero, fits, complement, floor_quotient, floor_remainder, is_negative, is_zero, shifted_left, shifted_right}
-use Rattle.star_spec.specs.Operators.{if_one, if_both, int_of, copies, repeated, tuple_of, cost_in, not_row, join_texts, join_tuples, repeat_text, repeat_tuple, repeat_row, unary_row, sum_row, difference_row, product_row, divided, quotient_row, remainder_row, bits_row, shifted, shift_row, is_part, part_of_text, contained_in, answered, denied, compared, binary_row}
+use Rattle.star_spec.specs.Operators.{if_one, if_both, int_of, copies, repeated, tuple_of, cost_in, not_row, join_texts, join_tuples, repeat_text, repeat_tuple, repeat_row, unary_row, sum_row, difference_row, product_row, divided, bits_row, shifted, shift_row, is_part, part_of_text, contained_in, answered, denied, compared, binary_row}
 use Rattle.star_spec.specs.Order.{Comparison, is_below, is_above, rank, are_comparable, each_sized, sized_by, sized_within, sized, order, comparison}
-use Rattle.star_spec.specs.Outcomes.{Computation, give, fail, reads}
+use Rattle.star_spec.specs.Outcomes.{Computation, give, fail}
 use Rattle.star_spec.specs.Store.{list_at}
-use Rattle.star_spec.specs.Values.{Value, none_value, bool_value, int_value, text_value, tuple_value, range_value, struct_value, fragment_value, list_value, dict_value, function_value, module_value, builtin_value, method_value, native_value, replace_value, Values, no_values, a_value, values_in, values_from}
+use Rattle.star_spec.specs.Values.{Value, none_value, bool_value, int_value, text_value, tuple_value, list_value, Values, no_values, a_value, values_in, values_from}
 use Rattle.star_spec.proofs.Keeping.{Keeps, Anything, keeps_then, keeps_give, keeps_fail, keeps_need, keeps_paid, keeps_steps, keeps_if, keeps_reads}
 
 -- ---- what is read of operands

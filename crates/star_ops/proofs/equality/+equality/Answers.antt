@@ -1,6 +1,5 @@
 use Rattle.std.proofs.Common.{◌≡◌, suc, ◌-◌, length, arith}
 use Rattle.star_ops.specs.Meets.{as_is, state_of}
-use Rattle.star_ops.specs.View.{values_of}
 use Rattle.star_ops.proofs.Meeting.{meets_same}
 use Rattle.star_ops.proofs.Tuples.{alike_values, within_as_many}
 use Rattle.star_ops.proofs.Views.{value_of-Tuple}

@@ -1,4 +1,4 @@
-use Rattle.std.proofs.Common.{◌≡◌, ◌+◌, ◌-◌, ◌/◌, ◌≤◌, FitsSigned, rules, arith}
+use Rattle.std.proofs.Common.{◌-◌, ◌/◌, FitsSigned, rules, arith}
 use Rattle.std.specs.Int.{w128}
 use Rattle.star_ops.proofs.Shifts.{both_parts, not_zero, part_too_far, too_far}
 use Rattle.star_ops.proofs.numbers.doubled.Goals as goal
