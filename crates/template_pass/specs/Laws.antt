@@ -1,15 +1,12 @@
 -- What the passes by levels give is what placing says.
 use Rattle.std.specs.Prelude.{◌≡◌, ℕ, Bool, List, Ok, None}
-use Rattle.yaml_held.specs.Keyed.{KeyedDocuments}
 use Rattle.yaml_spec.specs.Noted.{Documents}
 use Rattle.star_spec.specs.CodeReading.{CodeReader}
 use Rattle.template_spec.specs.Events.{Event, events}
 use Rattle.template_spec.specs.Misplaced.{placing_fault}
 use Rattle.template_spec.specs.Nesting.{placed_whole, template_of}
-use Rattle.template_spec.specs.Placed.{Placed}
 use Rattle.template_spec.specs.Template.{Items}
 use Rattle.template_pass.specs.Building.{template_by_levels}
-use Rattle.template_pass.specs.Kinded.{Kinded}
 use Rattle.template_pass.specs.Levels.{fault_by_levels}
 use Rattle.template_pass.specs.Rows.{AreRows, Row}
 
@@ -24,13 +21,3 @@ abbrev pub TemplateIsByLevels : Type 0
 TemplateIsByLevels =
     (r : CodeReader) (ignore : Bool) (file : ℕ) (ds : Documents) (es : List Event) (rs : List Row) →
     events r ignore file ds ≡ Ok es → AreRows ds es rs → placing_fault file es ≡ None → template_by_levels file rs ≡ template_of file es ds.items
-
--- each node of a template has the kind of its collection, and a key where it is a pair
-abbrev pub PlacedIsKinded : Type 0
-PlacedIsKinded =
-    (r : CodeReader) (ignore : Bool) (file : ℕ) (ds : Documents) (t : Items) → KeyedDocuments ds → placed_whole r ignore file ds ≡ Ok t → Kinded t
-
--- and all of it is placed: each statement stands where it may, too
-abbrev pub PlacedIsPlaced : Type 0
-PlacedIsPlaced =
-    (r : CodeReader) (ignore : Bool) (file : ℕ) (ds : Documents) (t : Items) → KeyedDocuments ds → placed_whole r ignore file ds ≡ Ok t → Placed t

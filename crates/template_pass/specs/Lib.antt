@@ -1,6 +1,5 @@
 pub mod Building
 pub mod Flat
-pub mod Kinded
 pub mod Laws
 pub mod Levels
 pub mod Orderly

@@ -15,15 +15,15 @@ use Rattle.template_spec.specs.OpenBlocks.{collection_of, lies_in, Block, belong
 use Rattle.template_pass.specs.Levels.{Open, behind}
 use Rattle.template_pass.specs.Rows as row
 use Rattle.template_pass.specs.Standing.{Began, level_at, Numbered, row_of, Standing}
-use Rattle.template_pass.proofs.Uncrossed.{AllReturnsClear, EndsClear, is_in_block, ReturnsClear, StatementsClear, Uncrossed}
+use Rattle.template_placed.proofs.Uncrossed.{AllReturnsClear, EndsClear, is_in_block, ReturnsClear, StatementsClear, Uncrossed}
 use Rattle.template_pass.proofs.Inside.{inside_split, same_path}
 use Rattle.template_pass.proofs.ItemBegins.{advance, collection_in, is_new, left_none_over, NoneOver}
-use Rattle.template_pass.proofs.OwnBlocks.{OneIn, OnesIn, WaitIn, wait_in}
+use Rattle.template_placed.proofs.OwnBlocks.{OneIn, OnesIn, WaitIn, wait_in}
 use Rattle.template_pass.proofs.Paths.{In, in_by_length, in_collection, in_itself, in_length, in_through, lain, lies}
 use Rattle.template_pass.proofs.Standing.{none_true, belongs_lies, coming_next, standing_step}
-use Rattle.template_pass.proofs.StillPlaced.{Fine, behind_begins, behind_closes, behind_otherwise, fine_begins, fine_said, ones_open, then_said}
+use Rattle.template_placed.proofs.StillPlaced.{Fine, behind_begins, behind_closes, behind_otherwise, fine_begins, fine_said, ones_open, then_said}
 use Rattle.template_pass.proofs.Unclosed.{flagged, OfOne, Ones, with_else}
-use Rattle.template_pass.proofs.WordsPlaced.{both_none, or_left, or_right}
+use Rattle.template_placed.proofs.WordsPlaced.{both_none, or_left, or_right}
 
 -- ---- a collection in an item of a block that is open
 

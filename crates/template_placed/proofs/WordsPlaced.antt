@@ -15,25 +15,25 @@ use Rattle.template_spec.specs.Template.{Item, Content}
 use Rattle.template_spec.specs.WellNested.{Ways, in_a_node, stands}
 use Rattle.template_pass.specs.Building.{Before, Slot, with_part, item_with, content_of, waiting}
 use Rattle.template_pass.specs.Flat.{Shape, a_scalar, a_map, a_list}
-use Rattle.template_pass.specs.Kinded.{StandingItem, StandingContent}
+use Rattle.template_placed.specs.Kinded.{StandingItem, StandingContent}
 use Rattle.template_pass.specs.Levels.{Open, behind}
 use Rattle.template_pass.specs.Orderly.{Orderly}
 use Rattle.template_pass.specs.Rows as row
 use Rattle.template_pass.specs.Rows.{Start}
 use Rattle.template_pass.specs.Standing.{Around, Coming, level_at, row_of, Standing}
-use Rattle.template_pass.proofs.Uncrossed.{is_in_block, StatementsClear, Uncrossed}
+use Rattle.template_placed.proofs.Uncrossed.{is_in_block, StatementsClear, Uncrossed}
 use Rattle.template_pass.proofs.Built.{NoneWrong, marks_stand}
 use Rattle.template_pass.proofs.ByPath.{PathPut, item_put, changed_if, slot_of, Ordered}
-use Rattle.template_pass.proofs.Checked.{AllStand, AllStay, all_kept, Checked, checked_stands, Frame, is_holder, kept, ways_within}
+use Rattle.template_placed.proofs.Checked.{AllStand, AllStay, all_kept, Checked, checked_stands, Frame, is_holder, kept, ways_within}
 use Rattle.template_pass.proofs.Counted.{Latest, gone_item, latest_item}
 use Rattle.template_pass.proofs.EventPuts.{BesideStands, first_start, marked, path_puts, place_of, puts_ordered}
 use Rattle.template_pass.proofs.Inside.{path_cases, path_other, path_same, same_path}
 use Rattle.template_pass.proofs.ItemBegins.{advance}
-use Rattle.template_pass.proofs.OwnBlocks.{AllHold, BegunElsewhere, frame_if, holding, may_break, may_return, NoneWaits, NotHolder, OneIn, OnesIn, other_stay, own, own_advance, own_else, own_shorter, own_stay, wait_in}
+use Rattle.template_placed.proofs.OwnBlocks.{AllHold, BegunElsewhere, frame_if, holding, may_break, may_return, NoneWaits, NotHolder, OneIn, OnesIn, other_stay, own, own_advance, own_else, own_shorter, own_stay, wait_in}
 use Rattle.template_pass.proofs.Paths.{In, in_by_length, in_collection, in_itself, in_through, lain, lies}
 use Rattle.template_pass.proofs.SlotsByPath.{slot_gone}
 use Rattle.template_pass.proofs.Standing.{belongs_within, coming_next, end_stays, none_true, standing_step}
-use Rattle.template_pass.proofs.StillPlaced.{behind_begins, behind_closes, behind_otherwise, Fine, fine_begins, fine_said, none_begun, none_wait, then_said}
+use Rattle.template_placed.proofs.StillPlaced.{behind_begins, behind_closes, behind_otherwise, Fine, fine_begins, fine_said, none_begun, none_wait, then_said}
 use Rattle.template_pass.proofs.Unclosed.{HeadStays}
 use Rattle.template_pass.proofs.Woven.{beside_parts}
 

@@ -8,7 +8,7 @@ use Rattle.template_spec.specs.Misplaced.{is_def, is_for, innermost_def, innermo
 use Rattle.template_spec.specs.OpenBlocks.{collection_of, lies_in, Block, belongs, is_over}
 use Rattle.template_spec.specs.WellNested.{Ways}
 use Rattle.template_pass.specs.Standing.{Around, Numbered, Coming}
-use Rattle.template_pass.proofs.Checked.{Frame, kept, AllStay, is_holder, header_ways, ways_within, HeldBy, Holding}
+use Rattle.template_placed.proofs.Checked.{Frame, kept, AllStay, is_holder, header_ways, ways_within, HeldBy, Holding}
 use Rattle.template_pass.proofs.Inside.{same_path, path_same}
 use Rattle.template_pass.proofs.ItemBegins.{advance, collection_in, is_new, NoneOver}
 use Rattle.template_pass.proofs.Paths.{In, in_through, in_length, lies, lain, same_by_length}

@@ -15,23 +15,23 @@ use Rattle.template_spec.specs.Placed.{PlacedBranches, PlacedContent, PlacedItem
 use Rattle.template_spec.specs.Template.{Item, node, code, if_block, for_block, def_block, Items, no_items, an_item, Branches, no_branch, else_branch, elif_branch, Content, written_value, value_from, pairs, elements, fragment_kind}
 use Rattle.template_spec.specs.WellNested.{in_a_branch, in_a_file, in_a_function, in_a_loop, in_a_node, Ways}
 use Rattle.template_pass.specs.Flat.{flat_text}
-use Rattle.template_pass.specs.Kinded.{KindedBranches, KindedContent, KindedItem, KindedItems, StandingBranches, StandingContent, StandingItem, StandingItems}
-use Rattle.template_pass.specs.Laws.{PlacedIsPlaced}
+use Rattle.template_placed.specs.Kinded.{KindedBranches, KindedContent, KindedItem, KindedItems, StandingBranches, StandingContent, StandingItem, StandingItems}
+use Rattle.template_placed.specs.Laws.{PlacedIsPlaced}
 use Rattle.template_pass.specs.Orderly.{Orderly}
 use Rattle.template_pass.specs.Rows.{flat_started}
-use Rattle.template_pass.proofs.Uncrossed.{Uncrossed}
+use Rattle.template_placed.proofs.Uncrossed.{Uncrossed}
 use Rattle.template_pass.proofs.Built.{front_none, nothing_stops, NoneWrong, parts_by_path}
-use Rattle.template_pass.proofs.Checked.{Checked, checked_stands, is_holder}
+use Rattle.template_placed.proofs.Checked.{Checked, checked_stands, is_holder}
 use Rattle.template_pass.proofs.Counted.{latest_none}
-use Rattle.template_pass.proofs.ItemsHeard.{text_rows}
-use Rattle.template_pass.proofs.KindsPlaced.{kinded_whole_file}
-use Rattle.template_pass.proofs.LoadsClear.{ends_clear, returns_clear, There, uncrossed}
+use Rattle.template_placed.proofs.ItemsHeard.{text_rows}
+use Rattle.template_placed.proofs.KindsPlaced.{kinded_whole_file}
+use Rattle.template_placed.proofs.LoadsClear.{ends_clear, returns_clear, There, uncrossed}
 use Rattle.template_pass.proofs.OrderlyEvents.{events_orderly}
-use Rattle.template_pass.proofs.OwnBlocks.{AllHold}
+use Rattle.template_placed.proofs.OwnBlocks.{AllHold}
 use Rattle.template_pass.proofs.Paths.{in_itself}
 use Rattle.template_pass.proofs.Standing.{standing_first}
 use Rattle.template_pass.proofs.TextItems.{events_beside}
-use Rattle.template_pass.proofs.WordsPlaced.{checked, Here, Known, NoneHolds}
+use Rattle.template_placed.proofs.WordsPlaced.{checked, Here, Known, NoneHolds}
 
 -- ---- both parts
 

@@ -12,7 +12,7 @@ use Rattle.template_spec.specs.OpenBlocks.{next_item, collection_of, Block, belo
 use Rattle.template_pass.specs.Standing.{Numbered, Coming, Standing}
 use Rattle.template_pass.specs.Levels.{Open}
 use Rattle.template_pass.proofs.ItemBegins.{advance, began_each, blocks_behind, numbered_still, left_none_over, ones_left}
-use Rattle.template_pass.proofs.OwnBlocks.{BegunElsewhere, begun_elsewhere, HeadStill, NoneWaits, none_waits, OneIn, OnesIn, WaitIn, Waits, wait_in, none_behind_head}
+use Rattle.template_placed.proofs.OwnBlocks.{BegunElsewhere, begun_elsewhere, HeadStill, NoneWaits, none_waits, OneIn, OnesIn, WaitIn, Waits, wait_in, none_behind_head}
 use Rattle.template_pass.proofs.Standing.{else_stays, end_stays}
 use Rattle.template_pass.proofs.Unclosed.{Ones, behind_else, behind_end, flagged, ones_began, with_else}
 

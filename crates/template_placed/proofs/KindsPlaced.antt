@@ -20,7 +20,7 @@ use Rattle.template_spec.specs.Misplaced.{placing_fault}
 use Rattle.template_spec.specs.Nesting.{Mark, Nested, broken, at_top, inside, Part, a_node, a_mark, around_one, block_of, content, key_part, last_branch, marks, marks_at, nest, nest_said, next_branch, open_block, parts, placed_or, placed_whole, put, put_block, put_statements, template_of, value_beside, value_or, whole}
 use Rattle.template_spec.specs.Placed.{KeyFits}
 use Rattle.template_spec.specs.Template.{Item, code, if_block, for_block, def_block, Items, no_items, an_item, Branches, no_branch, Content}
-use Rattle.template_pass.specs.Kinded.{KindedItem, KindedItems, KindedBranches, KindedContent, Kinded}
+use Rattle.template_placed.specs.Kinded.{KindedItem, KindedItems, KindedBranches, KindedContent, Kinded}
 
 -- ---- what is read from the end of a collection
 

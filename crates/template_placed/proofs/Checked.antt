@@ -11,7 +11,7 @@ use Rattle.template_spec.specs.Comments.{statements, opens, elif, otherwise, clo
 use Rattle.template_spec.specs.Nesting.{Nested, broken, at_top, inside, Part, a_node, a_mark, around_one, block_of, last_branch, nest, next_branch, open_block, put, put_block, put_statements, whole}
 use Rattle.template_spec.specs.Template.{Item, node, code, if_block, for_block, def_block, Items, no_items, an_item, Branches, no_branch, else_branch, elif_branch, Content, written_value, value_from, pairs, elements, is_node, has_nodes, branches_have_nodes}
 use Rattle.template_spec.specs.WellNested.{Ways, in_a_node, in_a_branch, in_a_loop, in_a_function, stands}
-use Rattle.template_pass.specs.Kinded.{StandingItem, StandingItems, StandingBranches, StandingContent}
+use Rattle.template_placed.specs.Kinded.{StandingItem, StandingItems, StandingBranches, StandingContent}
 
 -- ---- more ways let more statements stand
 

@@ -1,5 +1,0 @@
-use Rattle.template_pass.proofs.AllPlaced.{all_placed}
-use Rattle.template_pass.proofs.placed_is_placed.Goals as goal
-
-pub returns : goal.returns
-returns c = all_placed

@@ -1,0 +1,10 @@
+pub mod AllPlaced
+pub mod Checked
+pub mod Crossing
+pub mod ItemsHeard
+pub mod KindsPlaced
+pub mod LoadsClear
+pub mod OwnBlocks
+pub mod StillPlaced
+pub mod Uncrossed
+pub mod WordsPlaced
