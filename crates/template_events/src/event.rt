@@ -1,13 +1,9 @@
-// Items and comments one after another.
+// What the comments of a template say, between its items.
 
+use notes_read::Comment;
 use sqlite_items::Items;
 use star_tree::ItemKind;
-use yaml_noted::RawComment;
 use ytt_base::tree::{Key, Tree};
-
-/// Where an item stands: its number in its collection behind the path of the item whose value that is. The list of documents has the
-/// empty path.
-pub type Path = Items<usize>;
 
 /// What is written in an item: a scalar, or a map or a list, whose items follow.
 #[derive(Drop)]
@@ -20,7 +16,8 @@ pub enum Written {
 /// An item as it begins.
 #[derive(Drop)]
 pub struct Start {
-    pub path: Path,
+    /// How many items are around it: 0 for a document.
+    pub level: usize,
     pub kind: ItemKind,
     pub line: u32,
     /// The key of a pair. Documents and elements have none.
@@ -28,14 +25,17 @@ pub struct Start {
     pub written: Written,
 }
 
-/// An item, the comment on the line of an item that belongs to it, or another comment.
+/// One of the rows of a template's text.
 #[derive(Drop)]
-pub enum Flat {
-    Starts(Start),
-    /// The path and the kind of the item, and whether a map or a list is written in it.
-    Trails(Path, ItemKind, bool, RawComment),
-    Loose(RawComment),
+pub enum Row {
+    /// An item begins.
+    Begins(Start),
+    /// What is said on the line of an item, to which it belongs: the item's level and kind, whether a map or a list is written in it,
+    /// and the line.
+    Beside(usize, ItemKind, bool, u32, Comment),
+    /// What is said on a line of its own, from this line on.
+    Says(u32, Comment),
 }
 
-/// Items and comments in text order.
-pub type Flats = Items<Flat>;
+/// Rows in text order.
+pub type Rows = Items<Row>;

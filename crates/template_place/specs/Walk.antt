@@ -1,0 +1,99 @@
+-- The pass over rows as it is made: a block's head is known by its form alone, and what comes next is known beforehand.
+use Rattle.std.specs.Prelude.{ℕ, zero, suc, Bool, true, false, nat_lt, ◌==◌, if◌then◌else◌, List, [], ◌∷◌, ◌++◌, map as each, Option, Some, None}
+use Rattle.ytt_base.specs.declared.fault.Fault.{Fault}
+use Rattle.ytt_base.specs.Outcomes.{Outcome, place_at}
+use Rattle.star_spec.specs.Code.{Expr, name, no_parameters}
+use Rattle.star_spec.specs.CodeReading.{Header, if_header, elif_header, else_header, for_header, def_header, end_header}
+use Rattle.star_spec.specs.Program.{Instruction, statement}
+use Rattle.template_spec.specs.Comments.{Said, a_note, statements, opens, elif, otherwise, closes}
+use Rattle.template_spec.specs.Misplaced.{line_of}
+use Rattle.template_spec.specs.Nesting.{placed_or}
+use Rattle.template_spec.specs.Template.{Items}
+use Rattle.template_pass.specs.Building.{Before, Put, an_item, put_beside, put_mark, innermost, waiting, template_by_levels}
+use Rattle.template_pass.specs.Levels.{Open, behind, belongs, fault_by_levels, next_level, statement_fault}
+use Rattle.template_pass.specs.Rows.{Row, begins, beside, says}
+
+-- ---- heads by their form
+
+abbrev pub nothing : Expr
+nothing = name (place_at 0 0) []
+
+-- a head of the same form, without its code
+abbrev pub same_form : Header → Header
+same_form (if_header e) = if_header nothing
+same_form (for_header x e) = for_header nothing nothing
+same_form (def_header x ps) = def_header [] no_parameters
+same_form (elif_header e) = end_header
+same_form else_header = end_header
+same_form end_header = end_header
+
+abbrev pub bare : Open → Open
+bare b = record b { header = same_form b.header }
+
+abbrev pub bare_all : List Open → List Open
+bare_all bs = each bare bs
+
+abbrev pub bare_row : Row → Row
+bare_row (says l (opens h z)) = says l (opens (same_form h) z)
+bare_row r = r
+
+-- ---- what comes behind each row
+
+abbrev pub nexts_of : List Row → List (Option ℕ)
+nexts_of [] = []
+nexts_of (r ∷ rs) = next_level rs ∷ nexts_of rs
+
+-- ---- faults
+
+abbrev pub instruction_fault : List Open → (level : ℕ) → Instruction → Option Fault
+instruction_fault bs d (statement s) = statement_fault bs d s
+instruction_fault bs d i = None
+
+-- the one that stands at the lesser line, and else the first
+abbrev pub earlier : Option Fault → Option Fault → Option Fault
+earlier None g = g
+earlier (Some f) None = Some f
+earlier (Some f) (Some g) = if nat_lt (line_of g) (line_of f) then Some g else Some f
+
+-- the flag of a number; none is raised past the end
+abbrev pub flag : List Bool → ℕ → Bool
+flag [] n = false
+flag (b ∷ bs) zero = b
+flag (b ∷ bs) (suc n) = flag bs n
+
+-- ---- where each row's mark goes
+
+-- the level of what a row puts between items
+abbrev pub mark_level : List Open → (next : Option ℕ) → Row → ℕ
+mark_level bs next (says l (elif e)) = innermost bs
+mark_level bs next (says l otherwise) = innermost bs
+mark_level bs next (says l closes) = innermost bs
+mark_level bs next r = belongs bs next
+
+abbrev pub mark_levels : List Open → (count : ℕ) → List Row → List ℕ
+mark_levels bs n [] = []
+mark_levels bs n (r ∷ rs) = mark_level bs (next_level rs) r ∷ mark_levels (behind bs (next_level rs) n r) (suc n) rs
+
+abbrev pub said_at : (level line : ℕ) → Said → List Put
+said_at d l (statements is) = put_mark d l (statements is) ∷ []
+said_at d l (opens h z) = put_mark d l (opens h z) ∷ []
+said_at d l (elif e) = put_mark d l (elif e) ∷ []
+said_at d l otherwise = put_mark d l otherwise ∷ []
+said_at d l closes = put_mark d l closes ∷ []
+said_at d l s = []
+
+-- what a row puts whose mark goes to this level, behind these notes
+abbrev pub put_at : (level : ℕ) → List Before → Row → List Put
+put_at d ns (begins e k l key w) = an_item e k l key w ns ∷ []
+put_at d ns (beside e k b l s) = put_beside e l s ∷ []
+put_at d ns (says l s) = said_at d l s
+
+abbrev pub puts_at : List ℕ → List Before → List Row → List Put
+puts_at (d ∷ ds) ns (r ∷ rs) = put_at d ns r ++ puts_at ds (waiting ns r) rs
+puts_at ds ns rs = []
+
+-- ---- the whole
+
+-- the template of rows, or their first fault
+abbrev pub placed_by_levels : (file : ℕ) → List Row → Outcome Items
+placed_by_levels file rs = placed_or (fault_by_levels file rs) (template_by_levels file rs)
