@@ -1,1 +1,6 @@
+pub mod Bare
+pub mod Earliest
+pub mod Returning
 pub mod Views
+pub mod Waiting
+pub mod Walking

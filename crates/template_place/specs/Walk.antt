@@ -1,16 +1,18 @@
 -- The pass over rows as it is made: a block's head is known by its form alone, and what comes next is known beforehand.
-use Rattle.std.specs.Prelude.{ℕ, zero, suc, Bool, true, false, nat_lt, ◌==◌, if◌then◌else◌, List, [], ◌∷◌, ◌++◌, map as each, Option, Some, None}
+use Rattle.std.specs.Prelude.{◌≡◌, ℕ, zero, suc, Bool, true, false, nat_lt, ◌==◌, if◌then◌else◌, List, [], ◌∷◌, ◌++◌, map as each, Option, Some, None}
+use Rattle.std.specs.List.{list_any}
 use Rattle.ytt_base.specs.declared.fault.Fault.{Fault}
-use Rattle.ytt_base.specs.Outcomes.{Outcome, place_at}
+use Rattle.ytt_base.specs.declared.fault.FaultKind.TheVariants as kind
+use Rattle.ytt_base.specs.Outcomes.{Outcome, fault_at, place_at}
 use Rattle.star_spec.specs.Code.{Expr, name, no_parameters}
 use Rattle.star_spec.specs.CodeReading.{Header, if_header, elif_header, else_header, for_header, def_header, end_header}
 use Rattle.star_spec.specs.Program.{Instruction, statement}
 use Rattle.template_spec.specs.Comments.{Said, a_note, statements, opens, elif, otherwise, closes}
-use Rattle.template_spec.specs.Misplaced.{line_of}
+use Rattle.template_spec.specs.Misplaced.{Returned, fault_on, line_of, option_list}
 use Rattle.template_spec.specs.Nesting.{placed_or}
 use Rattle.template_spec.specs.Template.{Items}
 use Rattle.template_pass.specs.Building.{Before, Put, an_item, put_beside, put_mark, innermost, waiting, template_by_levels}
-use Rattle.template_pass.specs.Levels.{Open, behind, belongs, fault_by_levels, next_level, statement_fault}
+use Rattle.template_pass.specs.Levels.{Open, behind, belongs, fault_by_levels, is_waiting, last_open, left_open, next_level, sound_from, statement_fault}
 use Rattle.template_pass.specs.Rows.{Row, begins, beside, says}
 
 -- ---- heads by their form
@@ -49,6 +51,17 @@ abbrev pub instruction_fault : List Open → (level : ℕ) → Instruction → O
 instruction_fault bs d (statement s) = statement_fault bs d s
 instruction_fault bs d i = None
 
+-- the line of the innermost block, where it holds for one item that has not begun
+abbrev pub waiting_line : List Open → Option ℕ
+waiting_line [] = None
+waiting_line (b ∷ bs) = if is_waiting b then Some b.line else None
+
+-- nothing but notes and further such openers comes before the item of a block that waits for it
+abbrev pub waiting_or : (file : ℕ) → (waiting : Option ℕ) → (may_wait : Bool) → Option Fault → Option Fault
+waiting_or file None may f = f
+waiting_or file (Some l) true f = f
+waiting_or file (Some l) false f = Some (fault_on file kind.BlockOpen l)
+
 -- the one that stands at the lesser line, and else the first
 abbrev pub earlier : Option Fault → Option Fault → Option Fault
 earlier None g = g
@@ -60,6 +73,11 @@ abbrev pub flag : List Bool → ℕ → Bool
 flag [] n = false
 flag (b ∷ bs) zero = b
 flag (b ∷ bs) (suc n) = flag bs n
+
+-- a `return` in a `def` whose flag is raised
+abbrev pub flagged_faults : List Bool → List Returned → List Fault
+flagged_faults flags [] = []
+flagged_faults flags (r ∷ rs) = if flag flags r.within then fault_at kind.CodeForm r.place ∷ flagged_faults flags rs else flagged_faults flags rs
 
 -- ---- where each row's mark goes
 
@@ -91,6 +109,17 @@ put_at d ns (says l s) = said_at d l s
 abbrev pub puts_at : List ℕ → List Before → List Row → List Put
 puts_at (d ∷ ds) ns (r ∷ rs) = put_at d ns r ++ puts_at ds (waiting ns r) rs
 puts_at ds ns rs = []
+
+-- ---- what the pass finds
+
+-- the `def`s that hold items, the `return`s and the fault that stopped it; and where nothing is wrong, the levels and the block that is
+-- open at the end
+pub record IsWalked (file : ℕ) (rs : List Row) (flags : List Bool) (returned : List Returned) (stop : Option Fault) (levels : List ℕ) (left : Option Fault) : Type 0 where
+  pub flagged : (k : ℕ) → flag flags k ≡ list_any (λ h. h == k) (sound_from file [] 0 rs).holders
+  pub returns : returned ≡ (sound_from file [] 0 rs).returned
+  pub stops : option_list stop ≡ (sound_from file [] 0 rs).stop
+  pub marked : stop ≡ None → levels ≡ mark_levels [] 0 rs
+  pub last : stop ≡ None → left ≡ left_open file (last_open [] 0 rs)
 
 -- ---- the whole
 
