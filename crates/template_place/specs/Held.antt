@@ -39,5 +39,8 @@ fault_by w = fault_at w.kind w.place
 abbrev pub wrong_of : Option Wrong → Option Fault
 wrong_of w = option_map fault_by w
 
+abbrev pub return_of : Return → Returned
+return_of r = record { within = r.within; place = r.place }
+
 abbrev pub returned_of : List Return → List Returned
-returned_of rs = each (λ r. record { within = r.within; place = r.place }) rs
+returned_of rs = each return_of rs

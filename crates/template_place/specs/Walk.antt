@@ -1,5 +1,5 @@
 -- The pass over rows as it is made: a block's head is known by its form alone, and what comes next is known beforehand.
-use Rattle.std.specs.Prelude.{◌≡◌, ℕ, zero, suc, Bool, true, false, nat_lt, ◌==◌, if◌then◌else◌, List, [], ◌∷◌, ◌++◌, map as each, Option, Some, None}
+use Rattle.std.specs.Prelude.{◌≡◌, ℕ, suc, Bool, true, false, nat_lt, slice_index_or, ◌==◌, if◌then◌else◌, List, [], ◌∷◌, ◌++◌, map as each, Option, Some, None}
 use Rattle.std.specs.List.{list_any}
 use Rattle.ytt_base.specs.declared.fault.Fault.{Fault}
 use Rattle.ytt_base.specs.declared.fault.FaultKind.TheVariants as kind
@@ -70,9 +70,7 @@ earlier (Some f) (Some g) = if nat_lt (line_of g) (line_of f) then Some g else S
 
 -- the flag of a number; none is raised past the end
 abbrev pub flag : List Bool → ℕ → Bool
-flag [] n = false
-flag (b ∷ bs) zero = b
-flag (b ∷ bs) (suc n) = flag bs n
+flag flags n = slice_index_or flags n false
 
 -- a `return` in a `def` whose flag is raised
 abbrev pub flagged_faults : List Bool → List Returned → List Fault

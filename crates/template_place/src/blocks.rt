@@ -94,22 +94,6 @@ fn is_if(form: Form) -> bool
 
 // ---- one block
 
-/// The level to which a statement or an opener belongs where this block is the innermost one.
-fn belongs_within(block: &Block, next: Option<usize>) -> usize
-    ensures { (bs : List Open) → result ≡ levels.belongs (open_of block.now ∷ bs) next }
-{
-    match next {
-        None => block.level,
-        Some(level) => {
-            if level < block.level {
-                block.level
-            } else {
-                level
-            }
-        }
-    }
-}
-
 /// Whether the text of an item in a collection of one level is over where an item of the other comes next.
 fn is_over(one: Option<usize>, next: Option<usize>) -> bool
     ensures { result ≡ levels.is_over one next }
@@ -212,10 +196,19 @@ impl Blocks {
         ensures { result ≡ levels.belongs (opens_of self.now) next }
     {
         match self.blocks.last() {
-            Some(block) => belongs_within(block, next),
             None => match next {
                 None => 0,
                 Some(level) => level,
+            },
+            Some(block) => match next {
+                None => block.level,
+                Some(level) => {
+                    if level < block.level {
+                        block.level
+                    } else {
+                        level
+                    }
+                }
             },
         }
     }

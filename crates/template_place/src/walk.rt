@@ -1,12 +1,12 @@
 // The pass over the rows from the left.
-ghost use Rattle.std.specs.Prelude.{◌≡◌, ◌||◌, ◌==◌, ℕ, ◌++◌, ◌∷◌, [], IfOk, OnOk, reverse};
+ghost use Rattle.std.specs.Prelude.{◌≡◌, ◌||◌, ◌==◌, ℕ, List, ◌++◌, ◌∷◌, [], IfOk, Option, OnOk, reverse};
 ghost use Rattle.std.specs.List.{list_any};
 ghost use Rattle.notes_read.specs.View.{said_of};
 ghost use Rattle.template_events.specs.View.{row_of, rows_of};
 ghost use Rattle.template_spec.specs.Misplaced.{earliest};
 ghost use Rattle.template_pass.specs.Levels as levels;
 ghost use Rattle.template_pass.specs.Rows as plain;
-ghost use Rattle.template_place.specs.Held.{open_in, opens_of, returned_of, wrong_of};
+ghost use Rattle.template_place.specs.Held.{open_in, opens_of, return_of, returned_of, wrong_of};
 ghost use Rattle.template_place.specs.Walk.{IsWalked, bare_row, flag, flagged_faults, mark_level, nexts_of};
 
 use crate::blocks::{Block, Blocks, form_of};
@@ -157,6 +157,17 @@ fn behind(
     }
 }
 
+/// Takes the level of the item that comes next behind the first row.
+fn take_next(nexts: &mut Items<Option<usize>>) -> Option<usize>
+    ensures value { (n : Option ℕ) (ns : List (Option ℕ)) → reverse nexts.old ≡ n ∷ ns → result ≡ n }
+    ensures rest { (n : Option ℕ) (ns : List (Option ℕ)) → reverse nexts.old ≡ n ∷ ns → reverse nexts.new ≡ ns }
+{
+    match nexts.pop() {
+        Some(next) => next,
+        None => None,
+    }
+}
+
 /// Walks over rows behind each of which an item of that level comes next, that of the first row last.
 pub fn walk(
     alloc: Global,
@@ -173,7 +184,7 @@ pub fn walk(
     let mut returned = Items::new(alloc);
     let mut levels = Items::new(alloc);
     for (at, row) in rows.iter().enumerate() {
-        let next = left.pop().flatten();
+        let next = take_next(&mut left);
         put_returned(file, &blocks, row, &mut returned)?;
         if let Some(wrong) = row_fault(file, &blocks, next, row) {
             return Ok(Walked {
@@ -197,21 +208,25 @@ pub fn walk(
     })
 }
 
+fn raised_fault(flags: &Items<bool>, one: Return) -> Option<Wrong>
+    ensures { wrong_of result ≡ earliest (flagged_faults flags.now (return_of one ∷ [])) }
+{
+    if is_raised(flags, one.within) {
+        return Some(Wrong {
+            kind: FaultKind::CodeForm,
+            place: one.place,
+        });
+    }
+    None
+}
+
 /// The first of the `return`s in `def`s that hold items.
 pub fn return_fault(flags: &Items<bool>, returned: &[Return]) -> Option<Wrong>
     ensures { wrong_of result ≡ earliest (flagged_faults flags.now (returned_of returned.now)) }
 {
     let mut wrong = None;
     for one in returned {
-        if is_raised(flags, one.within) {
-            wrong = earlier(
-                wrong,
-                Some(Wrong {
-                    kind: FaultKind::CodeForm,
-                    place: one.place,
-                }),
-            );
-        }
+        wrong = earlier(wrong, raised_fault(flags, *one));
     }
     wrong
 }
