@@ -1,6 +1,7 @@
 pub mod Bare
 pub mod Earliest
 pub mod Returning
+pub mod Rowwise
 pub mod Steps
 pub mod Views
 pub mod Waiting
