@@ -1,17 +1,18 @@
 -- The pass over rows, as they are held.
 use Rattle.std.proofs.Common.{◌≡◌, ℕ, suc, ◌+◌, ◌<◌, ◌≤◌, Bool, List, [], ◌∷◌, ◌++◌, length, drop, get_or, reverse, Option, Some, None, refl, ap, sym, subst, ◌∙◌, add-one}
-use Rattle.std.specs.Prelude.{◌||◌, ◌==◌}
+use Rattle.std.specs.Prelude.{◌||◌, ◌==◌, nat_lt, if◌then◌else◌, true, false}
 use Rattle.std.specs.List.{list_any}
 use Rattle.std.proofs.lemmas.List.{drop_all}
 use Rattle.ytt_base.specs.declared.fault.Fault.{Fault}
-use Rattle.template_spec.specs.Misplaced.{Returned}
-use Rattle.template_pass.specs.Levels.{Open, behind, holder_at, left_open, next_level, returned_at, row_fault}
+use Rattle.template_spec.specs.Misplaced.{Returned, earliest, line_of}
+use Rattle.template_spec.specs.OpenBlocks.{first_of}
+use Rattle.template_pass.specs.Levels.{Open, behind, holder_at, left_open, next_level, returned_at, fault_by_levels, note_faults, row_fault}
 use Rattle.template_pass.specs.Rows as plain
 use Rattle.template_events.specs.declared.event.Row.{Row}
 use Rattle.template_events.specs.View.{row_of, rows_of}
-use Rattle.template_place.specs.Walk.{IsWalked, bare_row, flag, mark_level, nexts_of}
+use Rattle.template_place.specs.Walk.{IsWalked, bare_row, earlier, flag, flagged_faults, mark_level, mark_levels, nexts_of}
 use Rattle.template_place.proofs.Steps.{row_at}
-use Rattle.template_place.proofs.Walking.{IsWalking, begins_walk, walk_ends, walk_stops, walks_on}
+use Rattle.template_place.proofs.Walking.{IsWalking, begins_walk, fault_found, walk_ends, walk_stops, walks_on}
 
 -- what comes next behind the row at a place, and behind those behind it
 pub nexts_at : (file : ℕ) (rows : List Row) (at : ℕ) (r : Row) (left : List (Option ℕ)) → at < length rows → r ≡ get_or rows at r
@@ -57,3 +58,28 @@ pub ends : (file : ℕ) (rows : List Row) (at : ℕ) (bs : List Open) (flags : L
     → IsWalking file (rows_of file rows) (rows_of file (drop at rows)) at bs flags returned levels → left ≡ left_open file bs → IsWalked file (rows_of file rows) flags returned None levels left
 ends file rows at bs flags returned levels left past w e =
     rw e (walk_ends file (rows_of file rows) at bs flags returned levels (subst (λ (rs : List Row). IsWalking file (rows_of file rows) (rows_of file rs) at bs flags returned levels) (drop_all at rows past) w))
+
+-- ---- the first fault
+
+pub fault_is : (file : ℕ) (rs : List plain.Row) (flags : List Bool) (returned : List Returned) (stop : Option Fault) (levels : List ℕ) (left notes returning others most first : Option Fault)
+    → IsWalked file rs flags returned stop levels left → notes ≡ earliest (note_faults file rs) → returning ≡ earliest (flagged_faults flags returned)
+    → others ≡ earlier returning notes → most ≡ earlier stop others → first ≡ first_of most left → first ≡ fault_by_levels file rs
+fault_is file rs flags returned stop levels left notes returning others most first w noted back a b c =
+    c ∙ ap (λ (o : Option Fault). first_of o left) (b ∙ ap (earlier stop) (a ∙ ap (λ (o : Option Fault). earlier o notes) back)) ∙ sym (fault_found file rs flags returned stop levels left notes w noted)
+
+some_none : (f : Fault) → Some f ≡ None → ⊥
+some_none f e = cc
+
+some_chosen : (t : Bool) (f g : Fault) (left : Option Fault) → first_of (if t then Some g else Some f) left ≡ None → ⊥
+some_chosen true f g left e = some_none g e
+some_chosen false f g left e = some_none f e
+
+no_stop : (stop others left : Option Fault) → first_of (earlier stop others) left ≡ None → stop ≡ None
+no_stop None others left e = refl
+no_stop (Some f) None left e = absurd (some_none f e)
+no_stop (Some f) (Some g) left e = absurd (some_chosen (nat_lt (line_of g) (line_of f)) f g left e)
+
+pub levels_are : (file : ℕ) (rs : List plain.Row) (flags : List Bool) (returned : List Returned) (stop : Option Fault) (levels : List ℕ) (left others most first : Option Fault)
+    → IsWalked file rs flags returned stop levels left → most ≡ earlier stop others → first ≡ first_of most left → first ≡ None → levels ≡ mark_levels [] 0 rs
+levels_are file rs flags returned stop levels left others most first w b c e =
+    w.marked (no_stop stop others left (ap (λ (o : Option Fault). first_of o left) (sym b) ∙ sym c ∙ e))

@@ -239,7 +239,8 @@ impl Blocks {
     pub fn left_open(&self, file: u32) -> Option<Wrong>
         ensures { wrong_of result ≡ levels.left_open file (opens_of self.now) }
     {
-        match self.blocks.last() {
+        let open = self.blocks.last();
+        match open {
             Some(block) => unless(false, FaultKind::BlockOpen, file, block.line),
             None => None,
         }
