@@ -1,14 +1,14 @@
 -- The pass looks at nothing of a head but its form.
-use Rattle.std.proofs.Common.{◌≡◌, ℕ, suc, Bool, true, false, if◌then◌else◌, List, [], ◌∷◌, length, map as each, Option, Some, None, refl, ap, ◌∙◌, sym}
+use Rattle.std.proofs.Common.{◌≡◌, ℕ, Bool, true, false, if◌then◌else◌, List, [], ◌∷◌, Option, Some, None, refl, ap}
 use Rattle.std.specs.Prelude.{option_map, is_some, not, ◌&&◌, drop}
 use Rattle.std.proofs.lemmas.List.{length-map}
 use Rattle.star_spec.specs.Code.{Statement, evaluate, assign, augment, load, return, break, continue, pass}
 use Rattle.star_spec.specs.CodeReading.{Header, if_header, elif_header, else_header, for_header, def_header, end_header}
 use Rattle.star_spec.specs.Program.{Instruction, part, statement, begin_if, begin_elif, begin_else, begin_for, begin_def, close}
 use Rattle.template_spec.specs.Comments.{Said, ignored, a_note, a_value, statements, opens, elif, otherwise, closes}
-use Rattle.template_spec.specs.Misplaced.{is_if, is_def, is_for, may_wait, unless, fault_on, max_blocks, Returned}
+use Rattle.template_spec.specs.Misplaced.{is_if, is_def, is_for, Returned}
 use Rattle.template_pass.specs.Building.{innermost}
-use Rattle.template_pass.specs.Levels.{Open, advanced, behind, belongs, has_one, keep, is_over, innermost_def, innermost_loop, is_level_of, no_block, statement_fault, statements_fault, said_fault, waiting_or_said, stays_within, row_fault, takes_branch, takes_end, returned_in, returned_at, holder_in, holder_at, with_else, opened}
+use Rattle.template_pass.specs.Levels.{Open, advanced, behind, belongs, has_one, keep, is_over, innermost_def, innermost_loop, is_level_of, no_block, statement_fault, statements_fault, said_fault, waiting_or_said, stays_within, row_fault, takes_branch, takes_end, returned_in, returned_at, holder_in, holder_at, with_else}
 use Rattle.template_pass.specs.Rows.{Row, begins, beside, says}
 use Rattle.template_place.specs.Walk.{bare, bare_all, bare_row, mark_level, same_form}
 

@@ -1,9 +1,7 @@
 -- Statements one after another.
-use Rattle.std.proofs.Common.{◌≡◌, ℕ, List, [], ◌∷◌, ◌++◌, Option, Some, None, refl, ap}
-use Rattle.ytt_base.specs.declared.fault.Fault.{Fault}
-use Rattle.star_spec.specs.Code.{Statement, evaluate, assign, augment, load, return, break, continue, pass}
+use Rattle.std.proofs.Common.{◌≡◌, ℕ, List, [], ◌∷◌, ◌++◌, Option, Some, None, refl}
+use Rattle.star_spec.specs.Code.{evaluate, assign, augment, load, return, break, continue, pass}
 use Rattle.star_spec.specs.Program.{Instruction, part, statement, begin_if, begin_elif, begin_else, begin_for, begin_def, close}
-use Rattle.template_spec.specs.Misplaced.{Returned}
 use Rattle.template_spec.specs.OpenBlocks.{first_of}
 use Rattle.template_pass.specs.Levels.{Open, returned_in, statements_fault}
 use Rattle.template_place.specs.Walk.{instruction_fault}

@@ -43,11 +43,11 @@ module _ (file : ℕ) (rows : List Row) (at : ℕ) (r : Row) (bs : List Open) (f
       → IsWalking file all rest (at + 1) bs2 flags2 returned2 levels2
   walks_row bs2 flags2 levels2 d ok stepped held pushed marked =
       let further : IsWalking file all rest (suc at) bs2 flags2 returned2 levels2 =
-          walks_on file all rest (row_of file r) at bs bs2 flags flags2 returned returned2 levels levels2 here
-          (ap (λ (m : Option ℕ). row_fault file bs m (row_of file r)) (sym comes) ∙ sym ok)
-          (stepped ∙ ap (λ (m : Option ℕ). behind bs m at (bare_row (row_of file r))) comes)
-          returns held
-          (pushed ∙ ap (λ n. levels ++ n ∷ []) (marked ∙ ap (λ (m : Option ℕ). mark_level bs m (row_of file r)) comes)) in
+      walks_on file all rest (row_of file r) at bs bs2 flags flags2 returned returned2 levels levels2 here
+      (ap (λ (m : Option ℕ). row_fault file bs m (row_of file r)) (sym comes) ∙ sym ok)
+      (stepped ∙ ap (λ (m : Option ℕ). behind bs m at (bare_row (row_of file r))) comes)
+      returns held
+      (pushed ∙ ap (λ n. levels ++ n ∷ []) (marked ∙ ap (λ (m : Option ℕ). mark_level bs m (row_of file r)) comes)) in
       subst (λ n. IsWalking file all rest n bs2 flags2 returned2 levels2) (sym (add-one at)) further
 
   pub stops_row : (f : Fault) → Some f ≡ row_fault file bs next (row_of file r) → IsWalked file all flags returned2 (Some f) levels None

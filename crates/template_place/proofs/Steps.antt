@@ -1,23 +1,22 @@
 -- One element more.
-use Rattle.std.proofs.Common.{◌≡◌, ℕ, zero, suc, ◌+◌, ◌-◌, ◌<◌, ◌≤◌, Bool, true, false, List, [], ◌∷◌, ◌++◌, length, drop, take, get_or, reverse, map as each, Option, Some, None, refl, ap, arith, sym, ◌∙◌, add-one, append_assoc}
-use Rattle.std.specs.Prelude.{◌==◌, ◌||◌, slice_get, slice_set, slice_index_or, if◌then◌else◌}
+use Rattle.std.proofs.Common.{◌≡◌, ℕ, zero, suc, ◌+◌, ◌-◌, ◌<◌, ◌≤◌, Bool, true, false, List, [], ◌∷◌, ◌++◌, length, drop, take, get_or, reverse, Option, Some, None, refl, ap, arith, sym, ◌∙◌, add-one, append_assoc}
+use Rattle.std.specs.Prelude.{◌==◌, ◌||◌, slice_set, if◌then◌else◌}
 use Rattle.std.proofs.lemmas.Bool.Decides.{nat_tests}
 use Rattle.std.proofs.lemmas.List.{drop_more, map-append, reverse-append, get_or-set_same, get_or-set_other}
 use Rattle.std.proofs.Math.Seq.{take-suc}
 use Rattle.ytt_base.specs.declared.fault.Fault.{Fault}
 use Rattle.ytt_base.specs.declared.fault.FaultKind.TheVariants as kind
 use Rattle.ytt_base.specs.Outcomes.{fault_at}
-use Rattle.star_spec.specs.Program.{Instruction}
 use Rattle.star_tree.specs.declared.code.Stmt.{Stmt}
 use Rattle.star_tree.specs.Whole.{instruction_of, instructions_of}
 use Rattle.template_spec.specs.Misplaced.{Returned, earliest, option_list}
-use Rattle.template_pass.specs.Levels.{Open, next_level, note_fault, note_faults, returned_in}
+use Rattle.template_pass.specs.Levels.{Open, note_fault, note_faults, returned_in}
 use Rattle.template_pass.specs.Rows as plain
 use Rattle.template_events.specs.declared.event.Row.{Row}
 use Rattle.template_events.specs.View.{row_of, rows_of}
 use Rattle.template_place.specs.declared.statements.Return.{Return}
 use Rattle.template_place.specs.Held.{return_of, returned_of}
-use Rattle.template_place.specs.Walk.{earlier, flag, flagged_faults, nexts_of}
+use Rattle.template_place.specs.Walk.{earlier, flag, flagged_faults}
 use Rattle.template_place.proofs.Earliest.{earliest_append}
 use Rattle.template_place.proofs.Returning.{returns_split}
 
@@ -92,7 +91,7 @@ flagged_more flags all at d found old new within e h k =
     let x = return_of (get_or all at d) in
     let front = returned_of (take at all) in
     let taken : returned_of (take (at + 1) all) ≡ front ++ x ∷ [] =
-        ap (λ n. returned_of (take n all)) (add-one at) ∙ ap returned_of (take-suc all at d within) ∙ map-append return_of (take at all) (get_or all at d ∷ []) in
+    ap (λ n. returned_of (take n all)) (add-one at) ∙ ap returned_of (take-suc all at d within) ∙ map-append return_of (take at all) (get_or all at d ∷ []) in
     h ∙ (λ i. earlier (k i) (e i))
     ∙ sym (earliest_append (flagged_faults flags front) (flagged_faults flags (x ∷ [])))
     ∙ ap earliest (sym (flagged_append flags front (x ∷ [])) ∙ ap (flagged_faults flags) (sym taken))

@@ -1,13 +1,13 @@
 -- What is kept while the pass walks over the rows.
-use Rattle.std.proofs.Common.{◌≡◌, ℕ, suc, Bool, true, false, List, [], ◌∷◌, ◌++◌, Option, Some, None, refl, ap, ◌∙◌, sym, subst, append_assoc}
+use Rattle.std.proofs.Common.{◌≡◌, ℕ, suc, Bool, true, false, List, [], ◌∷◌, ◌++◌, Option, Some, None, refl, ap, ◌∙◌, sym, append_assoc}
 use Rattle.std.specs.Prelude.{◌||◌, ◌==◌, nat_lt, if◌then◌else◌}
 use Rattle.std.specs.List.{list_any}
 use Rattle.ytt_base.specs.declared.fault.Fault.{Fault}
-use Rattle.template_spec.specs.Comments.{Said, ignored, a_note, a_value, statements, opens, elif, otherwise, closes}
+use Rattle.template_spec.specs.Comments.{ignored, a_note, a_value, statements, opens, elif, otherwise, closes}
 use Rattle.template_spec.specs.Misplaced.{Returned, Sound, and_sound, earliest, line_of, option_list, return_faults}
 use Rattle.template_spec.specs.OpenBlocks.{first_of}
 use Rattle.template_pass.specs.Building.{Before, Put, puts, put_row, waiting}
-use Rattle.template_pass.specs.Levels.{Open, behind, fault_by_levels, fault_of, holder_at, last_open, left_open, next_level, note_faults, returned_at, row_fault, sound_from}
+use Rattle.template_pass.specs.Levels.{Open, behind, fault_by_levels, holder_at, last_open, left_open, next_level, note_faults, returned_at, row_fault, sound_from}
 use Rattle.template_pass.specs.Rows.{Row, begins, beside, says}
 use Rattle.template_place.specs.Walk.{IsWalked, bare_all, bare_row, earlier, flag, flagged_faults, mark_level, mark_levels, put_at, puts_at}
 use Rattle.template_place.proofs.Bare.{behind_bare, holder_bare, mark_level_bare, returned_bare, row_bare}

@@ -1,5 +1,5 @@
 -- What the pass holds, as plain data.
-use Rattle.std.specs.Prelude.{ℕ, List, [], map as each, reverse, Option, option_map}
+use Rattle.std.specs.Prelude.{List, [], map as each, reverse, Option, option_map}
 use Rattle.ytt_base.specs.declared.fault.Fault.{Fault}
 use Rattle.ytt_base.specs.Outcomes.{fault_at}
 use Rattle.star_spec.specs.Code.{no_parameters}

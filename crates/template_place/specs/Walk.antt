@@ -7,7 +7,7 @@ use Rattle.ytt_base.specs.Outcomes.{Outcome, fault_at, place_at}
 use Rattle.star_spec.specs.Code.{Expr, name, no_parameters}
 use Rattle.star_spec.specs.CodeReading.{Header, if_header, elif_header, else_header, for_header, def_header, end_header}
 use Rattle.star_spec.specs.Program.{Instruction, statement}
-use Rattle.template_spec.specs.Comments.{Said, a_note, statements, opens, elif, otherwise, closes}
+use Rattle.template_spec.specs.Comments.{Said, statements, opens, elif, otherwise, closes}
 use Rattle.template_spec.specs.Misplaced.{Returned, fault_on, line_of, option_list}
 use Rattle.template_spec.specs.Nesting.{placed_or}
 use Rattle.template_spec.specs.Template.{Items}

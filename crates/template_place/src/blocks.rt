@@ -9,9 +9,9 @@ ghost use Rattle.template_place.specs.Held.{blocks_of, head_of, open_of, opens_o
 ghost use Rattle.template_place.specs.Walk.{same_form, waiting_line};
 
 use crate::wrong::{Wrong, unless};
+use star_tree::code::Header;
 use std::alloc::Global;
 use std::marker::Model;
-use star_tree::code::Header;
 use ytt_base::fault::FaultKind;
 use ytt_base::text::Memory;
 
@@ -300,7 +300,12 @@ impl Blocks {
     }
 
     /// The blocks behind the beginning of an item: those for one item go with its text.
-    pub fn advanced(&self, alloc: Global, level: usize, next: Option<usize>) -> Result<Blocks, Memory>
+    pub fn advanced(
+        &self,
+        alloc: Global,
+        level: usize,
+        next: Option<usize>,
+    ) -> Result<Blocks, Memory>
         ensures { IfOk result (λ bs. opens_of bs ≡ levels.advanced level next (opens_of self.now)) }
     {
         let mut kept = Blocks::new(alloc);

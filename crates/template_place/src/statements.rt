@@ -63,12 +63,7 @@ fn statement_fault(file: u32, blocks: &Blocks, level: usize, stmt: &Stmt) -> Opt
 
 /// What is wrong first with statements of this level within these blocks.
 #[tactic(auto, using(crate::proofs::Returning::statements_split))]
-pub fn statements_fault(
-    file: u32,
-    blocks: &Blocks,
-    level: usize,
-    stmts: &[Stmt],
-) -> Option<Wrong>
+pub fn statements_fault(file: u32, blocks: &Blocks, level: usize, stmts: &[Stmt]) -> Option<Wrong>
     ensures { wrong_of result ≡ levels.statements_fault (opens_of blocks.now) level (instructions_of file stmts.now) }
 {
     for stmt in stmts {

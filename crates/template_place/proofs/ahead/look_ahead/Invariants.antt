@@ -1,4 +1,4 @@
-use Rattle.std.proofs.Common.{◌≡◌, ℕ, drop, reverse, true, false}
+use Rattle.std.proofs.Common.{◌≡◌, drop, reverse, true, false}
 use Rattle.template_events.specs.View.{rows_of}
 use Rattle.template_pass.specs.Levels.{is_lost, next_level, note_faults}
 use Rattle.template_spec.specs.Misplaced.{earliest}

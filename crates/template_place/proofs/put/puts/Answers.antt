@@ -1,4 +1,4 @@
-use Rattle.std.proofs.Common.{◌∷◌, ◌∙◌, ◌++◌, ap, arith, drop, ◌+◌, sym, List, ℕ, reverse}
+use Rattle.std.proofs.Common.{◌∙◌, ◌++◌, ap, arith, drop, ◌+◌, sym, List, ℕ, reverse}
 use Rattle.template_events.specs.View.{rows_of}
 use Rattle.template_place.specs.Puts.{befores_of, puts_of}
 use Rattle.template_place.specs.Walk.{puts_at}

@@ -1,4 +1,4 @@
-use Rattle.std.proofs.Common.{ap, arith, drop}
+use Rattle.std.proofs.Common.{ap, arith}
 use Rattle.template_place.specs.Held.{fault_by, opens_of, returned_of, wrong_of}
 use Rattle.template_place.proofs.Rowwise.{ends, nexts_at, starts, stops_row, walks_row}
 use Rattle.template_place.proofs.walk.walk.Goals as goal
