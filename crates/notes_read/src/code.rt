@@ -1,11 +1,16 @@
 // The code of comments.
-ghost use Rattle.std.specs.Prelude.{◌≡◌};
+ghost use Rattle.std.specs.Prelude.{◌≡◌, true};
 ghost use Rattle.star_grammar.specs.CodeReaders.{GivesCode};
+ghost use Rattle.star_grammar.specs.Parts.{code_in};
+ghost use Rattle.star_grammar.specs.Tokens.{ends};
+ghost use Rattle.star_grammar.specs.declared.start.Start.TheVariants as start;
+ghost use Rattle.star_read.specs.Answers.{HasRead};
 ghost use Rattle.star_tree.specs.Whole as whole;
 
+use sqlite_items::Items;
 use star_read as read;
-use star_token::tokens;
-use star_tree::code::{Args, Expr, Header, Program};
+use star_token::{Tokens, tokens};
+use star_tree::code::{Args, Expr, Header, Stmt};
 use std::alloc::Global;
 use ytt_base::fault::{Place, Stop};
 use ytt_base::text::Text;
@@ -28,13 +33,22 @@ pub fn read_args(alloc: Global, code: &str, at: Place) -> Result<Args, Stop>
     read::read_args(alloc, &found)
 }
 
+/// The simple statements of a line.
+fn read_line(alloc: Global, found: &Tokens) -> Result<Items<Stmt>, Stop>
+    requires { ends found.now.tokens ≡ true }
+    ensures { HasRead start.Line code_in found.now result }
+{
+    let program = read::read_simple(alloc, found)?;
+    Ok(program.code)
+}
+
 /// The simple statements that code is.
-pub fn read_simple(alloc: Global, code: &str, at: Place) -> Result<Program, Stop>
-    ensures { GivesCode whole.program_of result (λ r. r.simple at code.now) }
+pub fn read_simple(alloc: Global, code: &str, at: Place) -> Result<Items<Stmt>, Stop>
+    ensures { GivesCode (whole.instructions_of at.file) result (λ r. r.simple at code.now) }
 {
     let text = Text::of(alloc, code)?;
     let found = tokens(alloc, &text, at.file, at.line)?;
-    read::read_simple(alloc, &found)
+    read_line(alloc, &found)
 }
 
 /// The head or the end of a block that a text is.

@@ -1,13 +1,14 @@
 // What a comment says.
 
-use star_tree::code::{Args, Expr, Header, Program};
+use sqlite_items::Items;
+use star_tree::code::{Args, Expr, Header, Stmt};
 use ytt_base::text::Text;
 
 /// What a comment of a template says.
 #[derive(Drop)]
 pub enum Comment {
     /// The simple statements of a line of its own.
-    Code(Program),
+    Code(Items<Stmt>),
     /// The head of an `if`, a `for` or a `def`, and whether it has `/end` and so holds for one item alone.
     Open(Header, bool),
     Else,

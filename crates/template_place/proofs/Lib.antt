@@ -1,1 +1,9 @@
+pub mod Bare
+pub mod Earliest
+pub mod Putting
+pub mod Returning
+pub mod Rowwise
+pub mod Steps
 pub mod Views
+pub mod Waiting
+pub mod Walking
