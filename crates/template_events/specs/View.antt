@@ -1,39 +1,27 @@
 -- Items, comments and rows as plain data.
-<<<<<<< HEAD
 use Rattle.std.specs.Prelude.{ℕ, List, [], ◌∷◌, map as each, Option, Some, None, option_map}
-=======
-use Rattle.std.specs.Prelude.{ℕ, List, map as each, option_map}
->>>>>>> fbfb1e2d4cca301221430ffed3b5c264546a0ecb
 use Rattle.ytt_base.specs.View.{key_of, tree_of}
+use Rattle.yaml_noted.specs.View.{comment_of}
 use Rattle.star_tree.specs.View.{item_kind_of}
 use Rattle.notes_read.specs.View.{said_of}
-<<<<<<< HEAD
 use Rattle.template_events.specs.declared.event.Owner.{Owner}
 use Rattle.template_events.specs.declared.event.Part.{Part}
 use Rattle.template_events.specs.declared.event.Part.TheVariants as part
-=======
->>>>>>> fbfb1e2d4cca301221430ffed3b5c264546a0ecb
 use Rattle.template_events.specs.declared.event.Row.{Row}
 use Rattle.template_events.specs.declared.event.Row.TheVariants as row
 use Rattle.template_events.specs.declared.event.Written.{Written}
 use Rattle.template_events.specs.declared.event.Written.TheVariants as written
-<<<<<<< HEAD
 use Rattle.template_events.specs.declared.hear.Held.{Held}
 use Rattle.template_pass.specs.Flat.{Shape, a_scalar, a_map, a_list}
 use Rattle.template_pass.specs.Rows as plain
 use Rattle.template_events.specs.Levels as level
 use Rattle.template_events.specs.Hearing as hearing
-=======
-use Rattle.template_pass.specs.Flat.{Shape, a_scalar, a_map, a_list}
-use Rattle.template_pass.specs.Rows as plain
->>>>>>> fbfb1e2d4cca301221430ffed3b5c264546a0ecb
 
 abbrev pub shape_of : Written → Shape
 shape_of (written.Scalar t) = a_scalar (tree_of t)
 shape_of written.Map = a_map
 shape_of written.List = a_list
 
-<<<<<<< HEAD
 abbrev pub owner_of : Owner → level.Owner
 owner_of o = record { level = o.level; kind = item_kind_of o.kind; is_collection = o.is_collection }
 
@@ -62,12 +50,3 @@ rows_of file rs = each (row_of file) rs
 abbrev pub rows_in : (file : ℕ) → Option Row → List plain.Row
 rows_in file None = []
 rows_in file (Some r) = row_of file r ∷ []
-=======
-abbrev pub row_of : (file : ℕ) → Row → plain.Row
-row_of file (row.Begins s) = plain.begins s.level (item_kind_of s.kind) s.line (option_map key_of s.key) (shape_of s.written)
-row_of file (row.Beside d k b l c) = plain.beside d (item_kind_of k) b l (said_of file c)
-row_of file (row.Says l c) = plain.says l (said_of file c)
-
-abbrev pub rows_of : (file : ℕ) → List Row → List plain.Row
-rows_of file rs = each (row_of file) rs
->>>>>>> fbfb1e2d4cca301221430ffed3b5c264546a0ecb

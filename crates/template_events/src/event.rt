@@ -1,12 +1,9 @@
-<<<<<<< HEAD
 // Items and comments one after another, and what the comments say.
-=======
-// What the comments of a template say, between its items.
->>>>>>> fbfb1e2d4cca301221430ffed3b5c264546a0ecb
 
 use notes_read::Comment;
 use sqlite_items::Items;
 use star_tree::ItemKind;
+use yaml_noted::RawComment;
 use ytt_base::tree::{Key, Tree};
 
 /// What is written in an item: a scalar, or a map or a list, whose items follow.
@@ -29,7 +26,6 @@ pub struct Start {
     pub written: Written,
 }
 
-<<<<<<< HEAD
 /// The item on whose line a comment stands.
 #[derive(Clone, Copy)]
 pub struct Owner {
@@ -61,19 +57,5 @@ pub enum Row {
     Says(u32, Comment),
 }
 
-=======
-/// One of the rows of a template's text.
-#[derive(Drop)]
-pub enum Row {
-    /// An item begins.
-    Begins(Start),
-    /// What is said on the line of an item, to which it belongs: the item's level and kind, whether a map or a list is written in it,
-    /// and the line.
-    Beside(usize, ItemKind, bool, u32, Comment),
-    /// What is said on a line of its own, from this line on.
-    Says(u32, Comment),
-}
-
->>>>>>> fbfb1e2d4cca301221430ffed3b5c264546a0ecb
 /// Rows in text order.
 pub type Rows = Items<Row>;

@@ -1,5 +1,4 @@
 //! The rows of a template's text: its items and what its comments say.
-<<<<<<< HEAD
 //!
 //! `read_events` gives the events of the documents by levels, with the keys of the items and what is written in them, or exactly the first
 //! fault of a comment, whichever reader reads code as the grammar says (`events`).
@@ -11,10 +10,3 @@ mod hear;
 
 pub use event::{Row, Rows, Start, Written};
 pub use hear::read_events;
-=======
-#![tactic(auto)]
-
-mod event;
-
-pub use event::{Row, Rows, Start, Written};
->>>>>>> fbfb1e2d4cca301221430ffed3b5c264546a0ecb

@@ -266,11 +266,12 @@ impl Blocks {
         }
     }
 
-    pub fn takes_end(&self) -> bool
-        ensures { result ≡ levels.takes_end (opens_of self.now) }
+    /// Whether `end` may stand here, before an item of this level: in no item of its block.
+    pub fn takes_end(&self, next: Option<usize>) -> bool
+        ensures { result ≡ levels.takes_end (opens_of self.now) next }
     {
         match self.blocks.last() {
-            Some(block) => !block.for_one,
+            Some(block) => !block.for_one && self.belongs(next) == block.level,
             None => false,
         }
     }

@@ -51,7 +51,7 @@ fn said_fault(
         Comment::Elif(_) | Comment::Else => {
             unless(blocks.takes_branch(), FaultKind::BlockStray, file, line)
         }
-        Comment::End => unless(blocks.takes_end(), FaultKind::BlockStray, file, line),
+        Comment::End => unless(blocks.takes_end(next), FaultKind::BlockStray, file, line),
         Comment::Value(_) | Comment::Note(_, _) | Comment::Ignored => None,
     }
 }

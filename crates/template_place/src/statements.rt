@@ -20,7 +20,7 @@ pub struct Return {
     pub place: Place,
 }
 
-/// Whether a loop belongs to this levels.
+/// Whether a block belongs to this level.
 fn is_level_of(level: usize, block: Option<Block>) -> bool
     ensures { result ≡ levels.is_level_of level (open_in block) }
 {
@@ -36,7 +36,7 @@ fn statement_fault(file: u32, blocks: &Blocks, level: usize, stmt: &Stmt) -> Opt
 {
     match stmt {
         Stmt::Return(line, _) => unless(
-            blocks.innermost_def().is_some(),
+            is_level_of(level, blocks.innermost_def()),
             FaultKind::CodeForm,
             file,
             *line,
