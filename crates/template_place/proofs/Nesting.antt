@@ -1,5 +1,5 @@
 -- What parts of a collection become, one after another.
-use Rattle.std.proofs.Common.{◌≡◌, ℕ, Bool, true, false, List, [], ◌∷◌, ◌++◌, reverse, map as each, Option, Some, None, Result, Ok, Err, IfOk, refl, ap, sym, ◌∙◌, append_assoc, rules}
+use Rattle.std.proofs.Common.{◌≡◌, ℕ, true, false, List, [], ◌∷◌, ◌++◌, reverse, map as each, Option, Some, None, Result, Ok, Err, IfOk, refl, ap, sym, ◌∙◌, append_assoc, rules}
 use Rattle.std.proofs.lemmas.List.{map-append, reverse-append, reverse-reverse}
 use Rattle.ytt_base.specs.declared.fault.Place.{Place}
 use Rattle.star_spec.specs.Code.{Expr, Name, Parameters}
@@ -27,7 +27,7 @@ use Rattle.template_place.specs.declared.tree.TBranches as branches
 use Rattle.ytt_base.specs.declared.text.Memory.{Memory}
 use Rattle.template_place.specs.declared.tree.TItem.{TItem}
 use Rattle.template_place.specs.declared.tree.TItem as item
-use Rattle.template_place.specs.Nests.{front_of, is_no_branch, is_statement, nest_step, nested_of, part_of, parts_of}
+use Rattle.template_place.specs.Nests.{is_no_branch, is_statement, nest_step, nested_of, part_of, parts_of}
 use Rattle.template_place.specs.View.{branches_of, code_of, item_of, items_of}
 use Rattle.template_place.proofs.Views.{item_of-Node, item_of-Code, item_of-If, item_of-For, item_of-Def, branches_of-Nothing, branches_of-Else, branches_of-Elif}
 

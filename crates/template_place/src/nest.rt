@@ -308,11 +308,7 @@ fn last_branch(alloc: Global, place: Place, nested: Nested) -> Result<Nested, Me
         Nested::Inside(items, more, outer) => {
             if is_nothing(&more) {
                 let body = turned_items(alloc, items)?;
-                return Ok(Nested::Inside(
-                    Items::new(alloc),
-                    TBranches::Else(place, body),
-                    outer,
-                ));
+                return Ok(Nested::Inside(Items::new(alloc), TBranches::Else(place, body), outer));
             }
             Ok(Nested::Broken)
         }
@@ -325,11 +321,7 @@ fn close_block(alloc: Global, nested: Nested) -> Result<Nested, Memory>
     ensures { (file : ℕ) → IfOk result (λ n. nested_of file n ≡ nesting.inside no_items no_branch (nested_of file nested)) }
 {
     let outer = Boxed::new(alloc, nested)?;
-    Ok(Nested::Inside(
-        Items::new(alloc),
-        TBranches::Nothing,
-        outer,
-    ))
+    Ok(Nested::Inside(Items::new(alloc), TBranches::Nothing, outer))
 }
 
 // ---- all parts

@@ -1,4 +1,4 @@
-use Rattle.std.proofs.Common.{Bool, ap, ◌∙◌}
+use Rattle.std.proofs.Common.{ap, ◌∙◌}
 use Rattle.star_tree.specs.View.{item_kind_of}
 use Rattle.notes_read.specs.declared.comment.Comment.TheVariants as comment
 use Rattle.template_place.specs.Nests.{nested_of}
