@@ -1,5 +1,6 @@
 pub mod Bare
 pub mod Earliest
+pub mod Nesting
 pub mod Putting
 pub mod Returning
 pub mod Rowwise
