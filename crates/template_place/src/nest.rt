@@ -102,7 +102,8 @@ fn is_statement(stmt: &Stmt) -> bool
         | Stmt::Elif(_, _)
         | Stmt::Else(_)
         | Stmt::For(_, _, _)
-        | Stmt::Def(_, _, _)
+        | Stmt::Def(_, _, _, _, _)
+        | Stmt::Node(_)
         | Stmt::Close(_) => false,
     }
 }
@@ -150,7 +151,7 @@ fn block_of(
     items: TItems,
     more: TBranches,
 ) -> Option<TItem>
-    ensures { (file : ℕ) → option_map (item_of file) result ≡ nesting.block_of (item_kind_of kind) place (header_of file header) (items_of file items) (branches_of file more) }
+    ensures { (file : ℕ) → option_map (item_of file) result ≡ nesting.block_of (item_kind_of kind) (place_at file place.line) (header_of file header) (items_of file items) (branches_of file more) }
 {
     match header {
         Header::If(test) => Some(TItem::If(place, test, items, more)),
@@ -188,7 +189,7 @@ fn open_block(
     header: Header,
     nested: Nested,
 ) -> Result<Nested, Memory>
-    ensures { (file : ℕ) → IfOk result (λ n. nested_of file n ≡ nesting.open_block (item_kind_of kind) place (header_of file header) (nested_of file nested)) }
+    ensures { (file : ℕ) → IfOk result (λ n. nested_of file n ≡ nesting.open_block (item_kind_of kind) (place_at file place.line) (header_of file header) (nested_of file nested)) }
 {
     match nested {
         Nested::Inside(items, more, outer) => {
@@ -210,7 +211,7 @@ fn block_around(
     header: Header,
     item: TItem,
 ) -> Result<Option<TItem>, Memory>
-    ensures { (file : ℕ) → IfOk result (λ b. option_map (item_of file) b ≡ nesting.block_of (item_kind_of kind) place (header_of file header) (an_item (item_of file item) no_items) no_branch) }
+    ensures { (file : ℕ) → IfOk result (λ b. option_map (item_of file) b ≡ nesting.block_of (item_kind_of kind) (place_at file place.line) (header_of file header) (an_item (item_of file item) no_items) no_branch) }
 {
     let mut items: TItems = Items::new(alloc);
     items.push(item)?;
@@ -225,7 +226,7 @@ fn around_top(
     header: Header,
     items: TItems,
 ) -> Result<Nested, Memory>
-    ensures { (file : ℕ) → IfOk result (λ n. nested_of file n ≡ nesting.around_one (item_kind_of kind) place (header_of file header) (nesting.at_top (items_of file (reverse items)))) }
+    ensures { (file : ℕ) → IfOk result (λ n. nested_of file n ≡ nesting.around_one (item_kind_of kind) (place_at file place.line) (header_of file header) (nesting.at_top (items_of file (reverse items)))) }
 {
     let mut rest = items;
     match rest.pop() {
@@ -248,7 +249,7 @@ fn around_inside(
     more: TBranches,
     outer: Boxed<Nested>,
 ) -> Result<Nested, Memory>
-    ensures { (file : ℕ) → IfOk result (λ n. nested_of file n ≡ nesting.around_one (item_kind_of kind) place (header_of file header) (nesting.inside (items_of file (reverse items)) (branches_of file more) (nested_of file outer))) }
+    ensures { (file : ℕ) → IfOk result (λ n. nested_of file n ≡ nesting.around_one (item_kind_of kind) (place_at file place.line) (header_of file header) (nesting.inside (items_of file (reverse items)) (branches_of file more) (nested_of file outer))) }
 {
     let mut rest = items;
     match rest.pop() {
@@ -270,7 +271,7 @@ fn around_one(
     header: Header,
     nested: Nested,
 ) -> Result<Nested, Memory>
-    ensures { (file : ℕ) → IfOk result (λ n. nested_of file n ≡ nesting.around_one (item_kind_of kind) place (header_of file header) (nested_of file nested)) }
+    ensures { (file : ℕ) → IfOk result (λ n. nested_of file n ≡ nesting.around_one (item_kind_of kind) (place_at file place.line) (header_of file header) (nested_of file nested)) }
 {
     match nested {
         Nested::AtTop(items) => Ok(around_top(alloc, kind, place, header, items)?),
@@ -283,7 +284,7 @@ fn around_one(
 
 #[tactic(auto, using(crate::proofs::Nesting::nests))]
 fn next_branch(alloc: Global, place: Place, test: Expr, nested: Nested) -> Result<Nested, Memory>
-    ensures { (file : ℕ) → IfOk result (λ n. nested_of file n ≡ nesting.next_branch place (expr_of file test) (nested_of file nested)) }
+    ensures { (file : ℕ) → IfOk result (λ n. nested_of file n ≡ nesting.next_branch (place_at file place.line) (expr_of file test) (nested_of file nested)) }
 {
     match nested {
         Nested::Inside(items, more, outer) => {
@@ -302,7 +303,7 @@ fn next_branch(alloc: Global, place: Place, test: Expr, nested: Nested) -> Resul
 
 #[tactic(auto, using(crate::proofs::Nesting::nests))]
 fn last_branch(alloc: Global, place: Place, nested: Nested) -> Result<Nested, Memory>
-    ensures { (file : ℕ) → IfOk result (λ n. nested_of file n ≡ nesting.last_branch place (nested_of file nested)) }
+    ensures { (file : ℕ) → IfOk result (λ n. nested_of file n ≡ nesting.last_branch (place_at file place.line) (nested_of file nested)) }
 {
     match nested {
         Nested::Inside(items, more, outer) => {

@@ -56,7 +56,8 @@ fn statement_fault(file: u32, blocks: &Blocks, level: usize, stmt: &Stmt) -> Opt
         | Stmt::Elif(_, _)
         | Stmt::Else(_)
         | Stmt::For(_, _, _)
-        | Stmt::Def(_, _, _)
+        | Stmt::Def(_, _, _, _, _)
+        | Stmt::Node(_)
         | Stmt::Close(_) => None,
     }
 }
