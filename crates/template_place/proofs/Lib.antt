@@ -4,7 +4,9 @@ pub mod Nesting
 pub mod Putting
 pub mod Returning
 pub mod Rowwise
+pub mod Slotting
 pub mod Steps
 pub mod Views
 pub mod Waiting
 pub mod Walking
+pub mod Wholes

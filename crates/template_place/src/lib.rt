@@ -10,7 +10,9 @@ mod blocks;
 mod faults;
 mod first;
 mod nest;
+mod place;
 mod put;
+mod slots;
 mod statements;
 mod tree;
 mod walk;
@@ -18,6 +20,7 @@ mod wrong;
 
 pub use first::{Checked, first_fault};
 pub use nest::{Part, Parts, items_in};
+pub use place::place_rows;
 pub use put::{Put, Puts, puts};
 pub use tree::{TBranches, TContent, TItem, TItems, TNode, TNote, TNotes, Template};
 pub use wrong::Wrong;

@@ -1,0 +1,33 @@
+// Placing rows.
+ghost use Rattle.std.specs.Prelude.{◌≡◌, IfOk};
+ghost use Rattle.template_events.specs.View.{rows_of};
+ghost use Rattle.template_place.specs.View.{template_of};
+ghost use Rattle.template_place.specs.Walk.{placed_by_levels};
+ghost use Rattle.ytt_base.specs.Outcomes.{Gives};
+
+use crate::first::{Checked, first_fault};
+use crate::put::puts;
+use crate::slots::build;
+use crate::tree::Template;
+use crate::wrong::stop_at;
+use std::alloc::Global;
+use template_events::Rows;
+use ytt_base::fault::Stop;
+
+/// The template of a file's rows, or their first fault.
+///
+/// `rows` are the items and what the comments say, in text order, and `file` the number of their file, which the template and a fault
+/// name. A statement, a block, an item or a note that doesn't stand where it may is a fault at its line, and of several the one at the
+/// least line; a block that is open at the end is one only where nothing else is wrong. Want of memory is `Stop::Memory`.
+pub fn place_rows(alloc: Global, rows: Rows, file: u32) -> Result<Template, Stop>
+    ensures template { Gives template_of result (placed_by_levels file (rows_of file rows)) }
+    ensures file { IfOk result (λ t. t.file ≡ file) }
+{
+    let Checked { wrong, levels } = first_fault(alloc, file, rows.as_slice())?;
+    if let Some(wrong) = wrong {
+        return Err(stop_at(alloc, wrong));
+    }
+    let puts = puts(alloc, rows, levels.as_slice())?;
+    let items = build(alloc, file, puts)?;
+    Ok(Template { file, items })
+}
