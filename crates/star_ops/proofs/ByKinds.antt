@@ -12,7 +12,7 @@ use Rattle.star_spec.specs.Outcomes.{State, Computation, Ending, done, bad, then
 use Rattle.ytt_base.specs.declared.fault.FaultKind.TheVariants as kind
 use Rattle.star_spec.specs.Values.{Value, int_value, text_value, tuple_value, values_in, values_from}
 use Rattle.star_spec.proofs.Computations.{then_assoc, then_ext}
-use Rattle.star_ops.specs.Alike.{alike, among_by, both_ranked, comparing, ordered, ranked, same, within}
+use Rattle.star_ops.specs.Alike.{alike, among_by, both_ranked, comparing, is_at_least, is_at_most, ordered, ranked, same, within}
 use Rattle.star_ops.specs.declared.operators.IntegerOp.TheVariants as integer
 use Rattle.star_ops.specs.declared.value.Value.{Value as Held}
 use Rattle.star_ops.specs.Acts.{integer_act}
@@ -109,11 +109,11 @@ module _ (p : Place) (a b : Value) (s : State (Unit {0})) where
   unfolding comparing
   row_greater = refl
 
-  pub row_at_most : binary_row p code.at_most a b s ≡ compared (λ c. not (is_above c)) (comparing p a b) s
+  pub row_at_most : binary_row p code.at_most a b s ≡ compared is_at_most (comparing p a b) s
   unfolding comparing
   row_at_most = refl
 
-  pub row_at_least : binary_row p code.at_least a b s ≡ compared (λ c. not (is_below c)) (comparing p a b) s
+  pub row_at_least : binary_row p code.at_least a b s ≡ compared is_at_least (comparing p a b) s
   unfolding comparing
   row_at_least = refl
 

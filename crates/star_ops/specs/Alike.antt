@@ -1,9 +1,9 @@
 -- Equality and order where tuples may stand in one another so many levels more.
-use Rattle.std.specs.Prelude.{ℕ, [], ◌∷◌, Bool, true, false, if◌then◌else◌, List}
+use Rattle.std.specs.Prelude.{ℕ, [], ◌∷◌, Bool, true, false, not, if◌then◌else◌, List}
 use Rattle.ytt_base.specs.declared.fault.Place.{Place}
 use Rattle.star_spec.specs.Equality.{equality, equal_by, equal_within}
 use Rattle.star_spec.specs.Operators.{contained_in}
-use Rattle.star_spec.specs.Order.{Comparison, comparison, order_by, order_within, sized_by, sized_within}
+use Rattle.star_spec.specs.Order.{Comparison, comparison, is_above, is_below, order_by, order_within, sized_by, sized_within}
 use Rattle.star_spec.specs.Outcomes.{Computation, give, paid, ◌>>=◌}
 use Rattle.star_spec.specs.Values.{Value}
 
@@ -32,6 +32,13 @@ same p a b = equality p a b
 
 unfoldable pub comparing : Place → (left right : Value) → Computation (Unit {0}) Comparison
 comparing p a b = comparison p a b
+
+-- not above, and not below
+abbrev pub is_at_most : Comparison → Bool
+is_at_most c = not (is_above c)
+
+abbrev pub is_at_least : Comparison → Bool
+is_at_least c = not (is_below c)
 
 unfoldable pub within : Place → (value whole : Value) → Computation (Unit {0}) Bool
 within p v whole = contained_in p v whole

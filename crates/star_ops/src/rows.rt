@@ -2,7 +2,7 @@
 ghost use Rattle.std.specs.Prelude.{◌≡◌, not};
 ghost use Rattle.star_spec.specs.Operators.{answered, binary_row, compared, denied, not_row, unary_row};
 ghost use Rattle.star_spec.specs.Order.{is_above, is_below};
-ghost use Rattle.star_ops.specs.Alike.{comparing, same, within};
+ghost use Rattle.star_ops.specs.Alike.{comparing, is_at_least, is_at_most, same, within};
 ghost use Rattle.star_ops.specs.Meets.{Meets, state_of};
 ghost use Rattle.star_ops.specs.Acts.{binary_operator_of, unary_operator_of};
 ghost use Rattle.star_ops.specs.View.{comparison_of, value_of};
@@ -139,7 +139,7 @@ fn at_most_row(
     right: &Value,
     steps: &mut u64,
 ) -> Result<Value, Stop>
-    ensures { Meets value_of result (state_of steps.new) (compared (λ c. not (is_above c)) (comparing place (value_of left.now) (value_of right.now)) (state_of steps.old)) }
+    ensures { Meets value_of result (state_of steps.new) (compared is_at_most (comparing place (value_of left.now) (value_of right.now)) (state_of steps.old)) }
 {
     let order = compare(alloc, place, left, right, steps)?;
     Ok(Value::Bool(!is_greater(order)))
@@ -152,7 +152,7 @@ fn at_least_row(
     right: &Value,
     steps: &mut u64,
 ) -> Result<Value, Stop>
-    ensures { Meets value_of result (state_of steps.new) (compared (λ c. not (is_below c)) (comparing place (value_of left.now) (value_of right.now)) (state_of steps.old)) }
+    ensures { Meets value_of result (state_of steps.new) (compared is_at_least (comparing place (value_of left.now) (value_of right.now)) (state_of steps.old)) }
 {
     let order = compare(alloc, place, left, right, steps)?;
     Ok(Value::Bool(!is_less(order)))
