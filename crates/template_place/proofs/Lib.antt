@@ -1,6 +1,7 @@
 pub mod Bare
 pub mod Earliest
 pub mod Nesting
+pub mod Placings
 pub mod Putting
 pub mod Returning
 pub mod Rowwise

@@ -2,6 +2,7 @@
 use Rattle.std.proofs.Common.{◌≡◌, ℕ, true, false, List, [], ◌∷◌, ◌++◌, reverse, map as each, Option, Some, None, Result, Ok, Err, IfOk, refl, ap, sym, ◌∙◌, append_assoc, rules}
 use Rattle.std.proofs.lemmas.List.{map-append, reverse-append, reverse-reverse}
 use Rattle.ytt_base.specs.declared.fault.Place.{Place}
+use Rattle.ytt_base.specs.Outcomes.{place_at}
 use Rattle.star_spec.specs.Code.{Expr, Name, Parameters}
 use Rattle.star_spec.specs.CodeReading.{for_header, def_header}
 use Rattle.star_spec.specs.CodeReading as plain_header
@@ -55,15 +56,15 @@ statements_behind (begin_for p x e ∷ is) i n = statements_behind is i n
 statements_behind (begin_def p k f x ps ∷ is) i n = statements_behind is i n
 statements_behind (close p ∷ is) i n = statements_behind is i n
 
-pub one_statement : (i : Instruction) (n : nesting.Nested) → is_statement i ≡ true → put_statements (i ∷ []) n ≡ put (code_of i) n
-one_statement (statement s) n e = refl
-one_statement (part o) n e = cc
-one_statement (begin_if p x) n e = cc
-one_statement (begin_elif p x) n e = cc
-one_statement (begin_else p) n e = cc
-one_statement (begin_for p x y) n e = cc
-one_statement (begin_def p k f x ps) n e = cc
-one_statement (close p) n e = cc
+pub one_statement : (file : ℕ) (i : Instruction) (n : nesting.Nested) → is_statement i ≡ true → put_statements (i ∷ []) n ≡ put (code_of file i) n
+one_statement file (statement s) n e = refl
+one_statement file (part o) n e = cc
+one_statement file (begin_if p x) n e = cc
+one_statement file (begin_elif p x) n e = cc
+one_statement file (begin_else p) n e = cc
+one_statement file (begin_for p x y) n e = cc
+one_statement file (begin_def p k f x ps) n e = cc
+one_statement file (close p) n e = cc
 
 pub no_statement : (i : Instruction) (n : nesting.Nested) → is_statement i ≡ false → put_statements (i ∷ []) n ≡ n
 no_statement (statement s) n e = cc
@@ -120,7 +121,7 @@ ok_same file (Ok n) a b h e = h ∙ e
 ok_same file (Err m) a b h e = tt
 
 pub statement_same : (file : ℕ) (s : Stmt) (n : nesting.Nested) → true ≡ is_statement (instruction_of file s) → put (item_of file (item.Code s)) n ≡ put_statements (instruction_of file s ∷ []) n
-statement_same file s n e = ap (λ i. put i n) (item_of-Code file s) ∙ sym (one_statement (instruction_of file s) n (sym e))
+statement_same file s n e = ap (λ i. put i n) (item_of-Code file s) ∙ sym (one_statement file (instruction_of file s) n (sym e))
 
 branch_is : (m : Branches) → true ≡ is_no_branch m → m ≡ no_branch
 branch_is no_branch e = refl
@@ -138,28 +139,28 @@ def_none kind p x ps is (else_branch q js) e = refl
 def_none kind p x ps is (elif_branch q z js m) e = refl
 
 pub for_given : (file : ℕ) (kind : ItemKind) (p : Place) (h : Header) (x y : held_expr.Expr) (is : List TItem) (more : TBranches) → h ≡ header.For x y → true ≡ is_no_branch (branches_of file more)
-    → Some (item_of file (item.For p x y is)) ≡ nesting.block_of kind p (header_of file h) (items_of file is) (branches_of file more)
+    → Some (item_of file (item.For p x y is)) ≡ nesting.block_of kind (place_at file p.line) (header_of file h) (items_of file is) (branches_of file more)
 for_given file kind p h x y is more e b =
-    ap (λ i. Some i) (item_of-For file p x y is) ∙ ap (λ (m : Branches). nesting.block_of kind p (header_of file (header.For x y)) (items_of file is) m) (sym (branch_is (branches_of file more) b))
-    ∙ ap (λ (g : Header). nesting.block_of kind p (header_of file g) (items_of file is) (branches_of file more)) (sym e)
+    ap (λ i. Some i) (item_of-For file p x y is) ∙ ap (λ (m : Branches). nesting.block_of kind (place_at file p.line) (header_of file (header.For x y)) (items_of file is) m) (sym (branch_is (branches_of file more) b))
+    ∙ ap (λ (g : Header). nesting.block_of kind (place_at file p.line) (header_of file g) (items_of file is) (branches_of file more)) (sym e)
 
 pub for_not_given : (file : ℕ) (kind : ItemKind) (p : Place) (h : Header) (x y : held_expr.Expr) (is : List TItem) (more : TBranches) → h ≡ header.For x y → false ≡ is_no_branch (branches_of file more)
-    → None ≡ nesting.block_of kind p (header_of file h) (items_of file is) (branches_of file more)
+    → None ≡ nesting.block_of kind (place_at file p.line) (header_of file h) (items_of file is) (branches_of file more)
 for_not_given file kind p h x y is more e b =
-    for_none kind p (expr_of file x) (expr_of file y) (items_of file is) (branches_of file more) b
-    ∙ ap (λ (g : Header). nesting.block_of kind p (header_of file g) (items_of file is) (branches_of file more)) (sym e)
+    for_none kind (place_at file p.line) (expr_of file x) (expr_of file y) (items_of file is) (branches_of file more) b
+    ∙ ap (λ (g : Header). nesting.block_of kind (place_at file p.line) (header_of file g) (items_of file is) (branches_of file more)) (sym e)
 
 pub def_given : (file : ℕ) (kind : held_kind.ItemKind) (p : Place) (h : Header) (x : Name) (ps : List Param) (is : List TItem) (more : TBranches) → h ≡ header.Def x ps → true ≡ is_no_branch (branches_of file more)
-    → Some (item_of file (item.Def p x ps kind is)) ≡ nesting.block_of (item_kind_of kind) p (header_of file h) (items_of file is) (branches_of file more)
+    → Some (item_of file (item.Def p x ps kind is)) ≡ nesting.block_of (item_kind_of kind) (place_at file p.line) (header_of file h) (items_of file is) (branches_of file more)
 def_given file kind p h x ps is more e b =
-    ap (λ i. Some i) (item_of-Def file p x ps kind is) ∙ ap (λ (m : Branches). nesting.block_of (item_kind_of kind) p (header_of file (header.Def x ps)) (items_of file is) m) (sym (branch_is (branches_of file more) b))
-    ∙ ap (λ (g : Header). nesting.block_of (item_kind_of kind) p (header_of file g) (items_of file is) (branches_of file more)) (sym e)
+    ap (λ i. Some i) (item_of-Def file p x ps kind is) ∙ ap (λ (m : Branches). nesting.block_of (item_kind_of kind) (place_at file p.line) (header_of file (header.Def x ps)) (items_of file is) m) (sym (branch_is (branches_of file more) b))
+    ∙ ap (λ (g : Header). nesting.block_of (item_kind_of kind) (place_at file p.line) (header_of file g) (items_of file is) (branches_of file more)) (sym e)
 
 pub def_not_given : (file : ℕ) (kind : ItemKind) (p : Place) (h : Header) (x : Name) (ps : List Param) (is : List TItem) (more : TBranches) → h ≡ header.Def x ps → false ≡ is_no_branch (branches_of file more)
-    → None ≡ nesting.block_of kind p (header_of file h) (items_of file is) (branches_of file more)
+    → None ≡ nesting.block_of kind (place_at file p.line) (header_of file h) (items_of file is) (branches_of file more)
 def_not_given file kind p h x ps is more e b =
-    def_none kind p x (parameters_of file ps) (items_of file is) (branches_of file more) b
-    ∙ ap (λ (g : Header). nesting.block_of kind p (header_of file g) (items_of file is) (branches_of file more)) (sym e)
+    def_none kind (place_at file p.line) x (parameters_of file ps) (items_of file is) (branches_of file more) b
+    ∙ ap (λ (g : Header). nesting.block_of kind (place_at file p.line) (header_of file g) (items_of file is) (branches_of file more)) (sym e)
 
 no_else : (p : Place) (is : Items) (m : Branches) (o : nesting.Nested) → false ≡ is_no_branch m → broken ≡ nesting.last_branch p (inside is m o)
 no_else p is no_branch o e = cc
@@ -167,19 +168,19 @@ no_else p is (else_branch q js) o e = refl
 no_else p is (elif_branch q z js m) o e = refl
 
 pub else_given : (file : ℕ) (p : Place) (n : Nested) (is body new : List TItem) (more : TBranches) (outer : Nested) → n ≡ held.Inside is more outer → true ≡ is_no_branch (branches_of file more) → body ≡ reverse is → new ≡ []
-    → nested_of file (held.Inside new (branches.Else p body) outer) ≡ nesting.last_branch p (nested_of file n)
+    → nested_of file (held.Inside new (branches.Else p body) outer) ≡ nesting.last_branch (place_at file p.line) (nested_of file n)
 else_given file p n is body new more outer e b t f =
     nested_of-Inside file new (branches.Else p body) outer
     ∙ ap (λ (js : List TItem). inside (items_of file (reverse js)) (branches_of file (branches.Else p body)) (nested_of file outer)) f
-    ∙ ap (λ (m : Branches). inside no_items m (nested_of file outer)) (branches_of-Else file p body ∙ ap (λ (js : List TItem). else_branch p (items_of file js)) t)
-    ∙ ap (λ (m : Branches). nesting.last_branch p (inside (items_of file (reverse is)) m (nested_of file outer))) (sym (branch_is (branches_of file more) b))
-    ∙ ap (nesting.last_branch p) (sym (nested_of-Inside file is more outer) ∙ ap (nested_of file) (sym e))
+    ∙ ap (λ (m : Branches). inside no_items m (nested_of file outer)) (branches_of-Else file p body ∙ ap (λ (js : List TItem). else_branch (place_at file p.line) (items_of file js)) t)
+    ∙ ap (λ (m : Branches). nesting.last_branch (place_at file p.line) (inside (items_of file (reverse is)) m (nested_of file outer))) (sym (branch_is (branches_of file more) b))
+    ∙ ap (nesting.last_branch (place_at file p.line)) (sym (nested_of-Inside file is more outer) ∙ ap (nested_of file) (sym e))
 
 pub else_not_given : (file : ℕ) (p : Place) (n : Nested) (is : List TItem) (more : TBranches) (outer : Nested) → n ≡ held.Inside is more outer → false ≡ is_no_branch (branches_of file more)
-    → nested_of file held.Broken ≡ nesting.last_branch p (nested_of file n)
+    → nested_of file held.Broken ≡ nesting.last_branch (place_at file p.line) (nested_of file n)
 else_not_given file p n is more outer e b =
-    nested_of-Broken file ∙ no_else p (items_of file (reverse is)) (branches_of file more) (nested_of file outer) b
-    ∙ ap (nesting.last_branch p) (sym (nested_of-Inside file is more outer) ∙ ap (nested_of file) (sym e))
+    nested_of-Broken file ∙ no_else (place_at file p.line) (items_of file (reverse is)) (branches_of file more) (nested_of file outer) b
+    ∙ ap (nesting.last_branch (place_at file p.line)) (sym (nested_of-Inside file is more outer) ∙ ap (nested_of file) (sym e))
 
 front_pushed : (file : ℕ) (items rest : List TItem) (i : TItem) → items ≡ rest ++ i ∷ [] → items_of file (reverse items) ≡ an_item (item_of file i) (items_of file (reverse rest))
 front_pushed file items rest i e = ap (items_of file) (ap reverse e ∙ reverse-append rest (i ∷ []))

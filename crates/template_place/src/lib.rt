@@ -1,8 +1,7 @@
-//! Whole templates: the items of a file, with the statements and blocks between them; and what the rows of a text are placed by.
+//! Placing: noted documents into the template of their file, with its statements and blocks where they stand.
 //!
-//! `first_fault` gives exactly the first fault that the pass by levels finds in rows (`fault`), and where there is none the level of what
-//! each row puts between items (`levels`); `puts` gives what rows put by these levels. `items_in` gives the items of one collection, with
-//! its statements and blocks, from its parts. The pass from the right, which gives each collection its parts, isn't here yet.
+//! `place` gives exactly the definition's template of the documents, or exactly the first fault of their comments and then of their
+//! placing, whichever reader reads code as the grammar says (`template`), in the documents' file (`file`).
 #![tactic(auto)]
 
 mod ahead;
@@ -18,9 +17,5 @@ mod tree;
 mod walk;
 mod wrong;
 
-pub use first::{Checked, first_fault};
-pub use nest::{Part, Parts, items_in};
-pub use place::place_rows;
-pub use put::{Put, Puts, puts};
+pub use place::place;
 pub use tree::{TBranches, TContent, TItem, TItems, TNode, TNote, TNotes, Template};
-pub use wrong::Wrong;

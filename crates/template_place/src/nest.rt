@@ -335,7 +335,7 @@ fn nest_said(
     comment: Comment,
     nested: Nested,
 ) -> Result<Nested, Memory>
-    ensures { (file : ℕ) → IfOk result (λ n. nested_of file n ≡ nesting.nest_said (item_kind_of kind) place (said_of file comment) (nested_of file nested)) }
+    ensures { (file : ℕ) → IfOk result (λ n. nested_of file n ≡ nesting.nest_said (item_kind_of kind) (place_at file place.line) (said_of file comment) (nested_of file nested)) }
 {
     match comment {
         Comment::Code(stmts) => Ok(put_statements(stmts, nested)?),
