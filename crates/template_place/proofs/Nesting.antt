@@ -82,7 +82,7 @@ pub nest_more : (file : ℕ) (kind : ItemKind) (p : nesting.Part) (ps : List nes
 nest_more file kind (a_node i) ps = refl
 nest_more file kind (a_mark l s) ps = refl
 
-parts_behind : (file : ℕ) (ps : List Part) (p : Part) → parts_of file (ps ++ p ∷ []) ≡ part_of file p ∷ parts_of file ps
+pub parts_behind : (file : ℕ) (ps : List Part) (p : Part) → parts_of file (ps ++ p ∷ []) ≡ part_of file p ∷ parts_of file ps
 parts_behind file ps p = ap (each (part_of file)) (reverse-append ps (p ∷ []))
 
 -- what these parts, the first one last, are before those that are left, the last one last

@@ -1,21 +1,27 @@
 -- Slots, one for each level.
 use Rattle.std.proofs.Common.{◌≡◌, ℕ, zero, suc, ◌+◌, ◌<◌, ◌≤◌, List, [], ◌∷◌, ◌++◌, length, take, get_or, set, map as each, Option, Some, None, refl, ap, sym, ◌∙◌, append_assoc, arith}
 use Rattle.std.proofs.lemmas.List.{length-map, map-append}
-use Rattle.std.specs.Prelude.{option_map}
+use Rattle.std.specs.Prelude.{option_map, OnOk, Result, Ok, Err}
 use Rattle.ytt_base.specs.declared.tree.Key.{Key}
 use Rattle.ytt_base.specs.Outcomes.{place_at}
 use Rattle.ytt_base.specs.View.{key_of}
+use Rattle.notes_read.specs.declared.comment.Comment.{Comment}
+use Rattle.notes_read.specs.View.{said_of}
 use Rattle.star_tree.specs.declared.code.Expr.{Expr}
+use Rattle.star_tree.specs.View.{item_kind_of}
+use Rattle.template_events.specs.declared.event.Start.{Start}
+use Rattle.template_events.specs.View.{shape_of}
 use Rattle.star_tree.specs.Whole.{expr_of, exprs_of}
 use Rattle.template_pass.specs.Building as build
 use Rattle.template_pass.specs.Building.{built, built_step, changed, fresh, notes_then, slot_at}
-use Rattle.template_spec.specs.Nesting.{key_part, value_or}
-use Rattle.template_spec.specs.Template.{Content, note}
+use Rattle.template_spec.specs.Nesting.{a_node, key_part, value_or}
+use Rattle.template_spec.specs.Template.{Content, Item, note}
 use Rattle.template_place.specs.declared.put.Put.{Put}
+use Rattle.template_place.specs.declared.put.Put.TheVariants as put
 use Rattle.template_place.specs.declared.slots.Slot.{Slot}
 use Rattle.template_place.specs.declared.tree.TNote.{TNote}
 use Rattle.template_place.specs.Puts.{befores_of, put_of, puts_of}
-use Rattle.template_place.specs.Slots.{slot_of, slots_of}
+use Rattle.template_place.specs.Slots.{same_slot, slot_of, slots_of}
 use Rattle.template_place.specs.View.{in_content, in_key, notes_of}
 
 -- ---- one slot
@@ -134,3 +140,46 @@ building_goes_on file all left left2 p slots slots2 w e h = record {
 
 pub building_ends : (file : ℕ) (all left : List Put) (slots : List build.Slot) → IsBuilding file all left slots → left ≡ [] → slots ≡ built file (puts_of file all)
 building_ends file all left slots w e = w.is_built ∙ ap (λ (ps : List Put). built file (puts_of file ps)) (ap (λ (ps : List Put). ps ++ w.done) (sym e) ∙ sym w.whole)
+
+-- ---- slots are added and kept
+
+pub reach_goes_on : (file d : ℕ) (f : build.Slot → build.Slot) (ss ts : List Slot) (s : Slot) → ts ≡ ss ++ s ∷ [] → slot_of file s ≡ fresh → length ss ≤ d → changed d f (slots_of file ts) ≡ changed d f (slots_of file ss)
+reach_goes_on file d f ss ts s e h le =
+    let short : length (slots_of file ss) ≤ d = omega (arith, held_length file ss) in
+    ap (λ (us : List Slot). changed d f (slots_of file us)) e ∙ ap (changed d f) (map-append (slot_of file) ss (s ∷ []) ∙ ap (λ (x : build.Slot). slots_of file ss ++ x ∷ []) h) ∙ changed_fresh d f (slots_of file ss) short
+
+pub same_changed : (file d : ℕ) (ss : List Slot) → d < length ss → changed d same_slot (slots_of file ss) ≡ slots_of file ss
+same_changed file d [] lt = absurd (omega arith)
+same_changed file zero (s ∷ ss) lt = refl
+same_changed file (suc d) (s ∷ ss) lt = ap (λ (ts : List build.Slot). slot_of file s ∷ ts) (same_changed file d ss (omega arith))
+
+pub slot_changed : (file d : ℕ) (f : build.Slot → build.Slot) (ss old : List Slot) (x here : Slot) → d < length ss → here ≡ get_or ss d here → slot_of file x ≡ f (slot_of file here)
+    → changed d f (slots_of file ss) ≡ changed d f (slots_of file old) → slots_of file (set ss d x) ≡ changed d f (slots_of file old)
+slot_changed file d f ss old x here lt at e same = changed_set file d f ss x here lt (e ∙ ap (λ (s : Slot). f (slot_of file s)) at) ∙ same
+
+-- ---- what a call gives
+
+pub on_ok : {A E : Type 0} (r : Result A E) (P Q : Type 0) → (P → Q) → OnOk r P → OnOk r Q
+on_ok (Ok x) P Q f h = f h
+on_ok (Err e) P Q f h = tt
+
+pub on_both : {A E : Type 0} (r : Result A E) (P Q S : Type 0) → (P → Q → S) → OnOk r P → OnOk r Q → OnOk r S
+on_both (Ok x) P Q S f h k = f h k
+on_both (Err e) P Q S f h k = tt
+
+one_more : (d b : ℕ) → b ≡ d + 1 → b ≡ suc d
+one_more d b e = omega arith
+
+pub front_item : (file : ℕ) (p : Put) (s : Start) (ns : List TNote) (old cut new : List Slot) (slot : Slot) (below : ℕ) (i : Item) → p ≡ put.Item s ns → below ≡ s.level + 1
+    → slot_of file slot ≡ slot_at below (slots_of file old) → slots_of file cut ≡ take below (slots_of file old)
+    → i ≡ build.item_with file (item_kind_of s.kind) s.line (option_map key_of s.key) (shape_of s.written) (befores_of file ns) (slot_of file slot)
+    → slots_of file new ≡ changed s.level (build.with_part (a_node i)) (slots_of file cut) → slots_of file new ≡ built_step file (put_of file p) (slots_of file old)
+front_item file p s ns old cut new slot below i e b h k j m =
+    let same = one_more s.level below b in
+    let made = ap (build.item_with file (item_kind_of s.kind) s.line (option_map key_of s.key) (shape_of s.written) (befores_of file ns)) (h ∙ ap (λ d. slot_at d (slots_of file old)) same) in
+    m ∙ (λ x. changed s.level (build.with_part (a_node ((j ∙ made) x))) ((k ∙ ap (λ d. take d (slots_of file old)) same) x)) ∙ ap (λ (q : Put). built_step file (put_of file q) (slots_of file old)) (sym e)
+
+pub front_beside : (file : ℕ) (p : Put) (level line : ℕ) (comment : Comment) (old new : List Slot) (below : ℕ) → p ≡ put.Beside level line comment → below ≡ level + 1
+    → slots_of file new ≡ changed below (build.with_beside file line (said_of file comment)) (slots_of file old) → slots_of file new ≡ built_step file (put_of file p) (slots_of file old)
+front_beside file p level line comment old new below e b m =
+    m ∙ ap (λ d. changed d (build.with_beside file line (said_of file comment)) (slots_of file old)) (one_more level below b) ∙ ap (λ (q : Put). built_step file (put_of file q) (slots_of file old)) (sym e)

@@ -9,7 +9,7 @@ mod blocks;
 mod faults;
 mod first;
 mod nest;
-mod place;
+mod placing;
 mod put;
 mod slots;
 mod statements;
@@ -17,5 +17,5 @@ mod tree;
 mod walk;
 mod wrong;
 
-pub use place::place;
+pub use placing::place;
 pub use tree::{TBranches, TContent, TItem, TItems, TNode, TNote, TNotes, Template};

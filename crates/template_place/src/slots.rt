@@ -122,12 +122,12 @@ fn put_beside(
             notes.push(TNote { name, args, line })?;
             put_notes(alloc, slots, level, notes)
         }
-        Comment::Code(_)
-        | Comment::Open(_, _)
-        | Comment::Else
-        | Comment::Elif(_)
-        | Comment::End
-        | Comment::Ignored => put_none(alloc, slots, level),
+        Comment::Code(_) => put_none(alloc, slots, level),
+        Comment::Open(_, _) => put_none(alloc, slots, level),
+        Comment::Else => put_none(alloc, slots, level),
+        Comment::Elif(_) => put_none(alloc, slots, level),
+        Comment::End => put_none(alloc, slots, level),
+        Comment::Ignored => put_none(alloc, slots, level),
     }
 }
 

@@ -1,0 +1,14 @@
+use Rattle.std.proofs.lemmas.Result.{err_from_is_err_and}
+use Rattle.yaml_noted.specs.View.{documents_of}
+use Rattle.template_place.proofs.Placings.{gives_placed, gives_unread}
+use Rattle.template_place.proofs.placing.place.Goals as goal
+
+pub returns-in_err-rows-clause-template : goal.returns-in_err-rows-clause-template
+returns-in_err-rows-clause-template c = λ r reads.
+    let p = err_from_is_err_and c.from_residual.result c.from_residual.ensures.1 in
+    let s = c.in_err-rows.field-0.0 in
+    rw (p.1, p.2) (gives_unread r c.args.ignore_unknown c.args.file (documents_of c.args.docs.now) s (c.in_err-rows.ensures.events r reads))
+
+pub returns-clause-template : goal.returns-clause-template
+returns-clause-template c = λ r reads.
+    gives_placed r c.args.ignore_unknown c.args.file (documents_of c.args.docs.now) c.in_ok-rows.rows c.place_rows.result (c.in_ok-rows.ensures.events r reads) c.place_rows.ensures.template
