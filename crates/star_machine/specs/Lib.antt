@@ -1,0 +1,4 @@
+pub mod View
+pub mod Meets
+pub mod SoFar
+pub mod Frames

@@ -1,0 +1,59 @@
+// Names.
+ghost use Rattle.std.specs.Prelude.{◌≡◌};
+ghost use Rattle.ytt_base.specs.declared.fault.Stop.TheVariants as stop;
+ghost use Rattle.star_spec.specs.Names.{box_of, read_name};
+ghost use Rattle.star_spec.specs.Outcomes.{fail_with};
+ghost use Rattle.star_machine.specs.Meets.{Meets, Tells, state_of};
+ghost use Rattle.star_machine.specs.View.{env_of, value_of};
+
+use crate::session::{Bound, Session};
+use crate::value::Value;
+use std::alloc::Global;
+use ytt_base::fault::{Fault, FaultKind, Place, Stop};
+use ytt_base::text::Text;
+
+/// The position of the box of a name.
+pub(crate) fn find(env: &[Bound], name: &str) -> Option<usize>
+    ensures { result ≡ box_of name.now (env_of env.now) }
+{
+    for bound in env {
+        if bound.name.as_str() == name {
+            return Some(bound.position);
+        }
+    }
+    None
+}
+
+/// The refusal of a name.
+pub(crate) fn refused(kind: FaultKind, place: Place, name: &Text) -> Result<Value, Stop>
+    ensures { Tells value_of result (fail_with kind place name.now) }
+{
+    let detail = name.copy()?;
+    Err(Stop::Fault(Fault {
+        kind,
+        place: Some(place),
+        detail,
+    }))
+}
+
+/// The value of a name: `NameUnknown` where it has no box, `NameUnset` where its box has no value.
+pub(crate) fn read(
+    session: &Session,
+    place: Place,
+    name: &Text,
+    position: Option<usize>,
+) -> Result<Value, Stop>
+    ensures { Meets value_of result (state_of session.now) (read_name place name.now position (state_of session.now)) }
+{
+    let position = match position {
+        None => return refused(FaultKind::NameUnknown, place, name),
+        Some(position) => position,
+    };
+    match session.store.get(position) {
+        None => refused(FaultKind::NameUnset, place, name),
+        Some(slot) => match &slot.value {
+            None => refused(FaultKind::NameUnset, place, name),
+            Some(value) => Ok(value.copy()?),
+        },
+    }
+}
