@@ -1,3 +1,9 @@
 pub mod Nodes
-pub mod Steps
+pub mod Opening
 pub mod Scopes
+pub mod Passing
+pub mod Floor
+pub mod Shortage
+pub mod Copies
+pub mod Truths
+pub mod Rows

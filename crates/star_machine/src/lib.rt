@@ -3,9 +3,16 @@
 
 mod eval;
 mod frame;
+mod give;
+mod kinds;
+mod looped;
 mod machine;
 mod names;
+mod numbers;
+mod operate;
 mod session;
+mod steps;
+mod texts;
 mod value;
 
 pub use session::{Bound, Session, Slot};
