@@ -7,3 +7,4 @@ pub mod Shortage
 pub mod Copies
 pub mod Truths
 pub mod Rows
+pub mod Built

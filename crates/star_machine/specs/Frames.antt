@@ -67,6 +67,10 @@ pub record Goes (m : Machine) (c : Control) (before : Final) (left : ℕ) : Type
 
 -- ---- the end
 
+-- how the expression ended
+abbrev pub ends : Final → Ending Here plain.Value
+ends (value_end r) = r
+
 -- there is more to do
 abbrev pub is_active : Machine → Control → Bool
 is_active m (control.Eval e) = true

@@ -83,3 +83,34 @@ acted p e env = not_built p
 abbrev pub after_step : {H : Type 0} → Option Place → Expr → Env → Computation H Value
 after_step None e env = ill_formed
 after_step (Some p) e env = paid p (acted p e env)
+
+-- ---- the forms that are built
+
+abbrev mutual
+  pub is_built : Expr → Bool
+  is_built (int p z) = true
+  is_built (text p t) = true
+  is_built (name p x) = true
+  is_built (tuple p es) = are_built es
+  is_built (unary p o a) = is_built a
+  is_built (binary p o a b) = is_built a && is_built b
+  is_built (conjunction p a b) = is_built a && is_built b
+  is_built (disjunction p a b) = is_built a && is_built b
+  is_built (conditional p c a b) = is_built c && (is_built a && is_built b)
+  is_built (named p x e) = true
+  is_built (starred p e) = true
+  is_built (double_starred p e) = true
+  is_built (list p es) = false
+  is_built (dict p es) = false
+  is_built (call p f es) = false
+  is_built (index p a i) = false
+  is_built (slice p a i j k) = false
+  is_built (attribute p a x) = false
+  is_built (lambda p n ps e) = false
+  is_built (list_comprehension p e cs) = false
+  is_built (dict_comprehension p k v cs) = false
+  is_built (text_template p ps) = false
+
+  pub are_built : Exprs → Bool
+  are_built no_exprs = true
+  are_built (an_expr e es) = is_built e && are_built es

@@ -15,5 +15,6 @@ mod steps;
 mod texts;
 mod value;
 
+pub use looped::{Ended, evaluate};
 pub use session::{Bound, Session, Slot};
 pub use value::Value;
