@@ -8,3 +8,6 @@ pub mod Copies
 pub mod Truths
 pub mod Rows
 pub mod Built
+pub mod Boxes
+pub mod Loops
+pub mod Onward

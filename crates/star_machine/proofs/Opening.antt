@@ -3,6 +3,8 @@ use Rattle.std.proofs.Common.{◌≡◌, refl}
 use Rattle.star_spec.specs.Code as plain
 use Rattle.star_spec.specs.Outcomes.{State, Ending, Computation, done, bad, then_do}
 use Rattle.star_spec.specs.Values.{Env}
+use Rattle.star_spec.specs.Blocks.{Op, op_part, op_statement, op_if, op_for, op_def}
+use Rattle.star_machine.specs.PartsSoFar.{op_place, part_after_step, part_so_far}
 use Rattle.star_machine.specs.SoFar.{after_step, place_in, value_so_far}
 
 -- an expression is its step and what it does after it
@@ -34,3 +36,11 @@ steps_first (plain.text_template p ps) env s = refl
 pub in_a_row : {H A B C : Type 0} (r : Ending H A) (f : A → Computation H B) (g : B → Computation H C) → then_do (then_do r f) g ≡ then_do r (λ a s. then_do (f a s) g)
 in_a_row (done a s) f g = refl
 in_a_row (bad e s) f g = refl
+
+-- a part is its step and what it does after it
+pub part_steps_first : {H K : Type 0} (o : Op) (env : Env) (k : K) (s : State H) → part_so_far o env k s ≡ part_after_step (op_place o) o env k s
+part_steps_first (op_part o) env k s = refl
+part_steps_first (op_statement x) env k s = refl
+part_steps_first (op_if p bs) env k s = refl
+part_steps_first (op_for p x e os) env k s = refl
+part_steps_first (op_def p n fragment x ps os) env k s = refl

@@ -3,16 +3,19 @@ ghost use Rattle.std.specs.Prelude.{◌≡◌, ◌∷◌, [], reverse, IfOk, Lis
 ghost use Rattle.star_spec.specs.Operators.{binary_row, unary_row};
 ghost use Rattle.star_tree.specs.Whole.{binary_operator_of, unary_operator_of};
 ghost use Rattle.star_machine.specs.declared.frame.Control.TheVariants as control;
-ghost use Rattle.star_machine.specs.Frames.{Goes, around_value, budget, inside};
+ghost use Rattle.star_machine.specs.Frames.{Goes, around_flow, around_value, budget, inside, statement_goes, value_goes};
 ghost use Rattle.star_machine.specs.Meets.{state_of};
-ghost use Rattle.star_machine.specs.View.{value_of};
+ghost use Rattle.star_machine.specs.View.{env_of, value_of};
 
+use crate::assign::{assign_to, augmented};
 use crate::eval::values_from;
-use crate::frame::{Control, Frame, Machine};
+use crate::frame::{Control, Flow, Frame, InStatement, InValue, Machine};
 use crate::kinds::truth;
-use crate::machine::push;
+use crate::machine::{ill_flow, push};
 use crate::operate::{operate, operate_on};
+use crate::run::choose;
 use crate::value::Value;
+use crate::walk::walk;
 use star_tree::code::{BinOp, UnOp};
 use std::alloc::Global;
 use ytt_base::fault::{Place, Stop};
@@ -28,36 +31,80 @@ pub(crate) fn give<'p>(
     ensures { IfOk result (λ c. Goes m.new c (inside m.old (frame.entry ∷ reverse m.old.frames) (control.Gave value)) (budget m.old 10)) }
 {
     match frame {
-        Frame::Right(place, op, right) => {
-            push(m, Frame::Operate(place, op, value), Control::Eval(right))
+        Frame::Value(inner) => give_value(alloc, m, inner, value),
+        Frame::Statement(inner) => give_statement(alloc, m, inner, value),
+        Frame::Block(_inner) => Ok(ill_flow(alloc)),
+    }
+}
+
+/// A value in an expression.
+fn give_value<'p>(
+    alloc: Global,
+    m: &mut Machine<'p>,
+    frame: InValue<'p>,
+    value: Value,
+) -> Result<Control<'p>, Memory>
+    ensures { IfOk result (λ c. Goes m.new c (around_value m.old (reverse m.old.frames) (value_goes m.old.file (env_of m.old.env) frame.entry (value_of value) (state_of m.old.session))) (budget m.old 10)) }
+{
+    match frame {
+        InValue::Right(place, op, right) => {
+            let frame = Frame::Value(InValue::Operate(place, op, value));
+            push(m, frame, Control::Eval(right))
         }
-        Frame::Operate(place, op, left) => operated(alloc, m, place, op, &left, &value),
-        Frame::OperateOn(place, op) => operated_on(alloc, m, place, op, &value),
-        Frame::Member(rest, mut values) => {
+        InValue::Operate(place, op, left) => operated(alloc, m, place, op, &left, &value),
+        InValue::OperateOn(place, op) => operated_on(alloc, m, place, op, &value),
+        InValue::Member(rest, mut values) => {
             values.push(value)?;
             values_from(alloc, m, rest, values)
         }
-        Frame::AndThen(other) => {
+        InValue::AndThen(other) => {
             if truth(&value) {
                 Ok(Control::Eval(other))
             } else {
                 Ok(Control::Gave(value))
             }
         }
-        Frame::OrElse(other) => {
+        InValue::OrElse(other) => {
             if truth(&value) {
                 Ok(Control::Gave(value))
             } else {
                 Ok(Control::Eval(other))
             }
         }
-        Frame::Choose(yes, no) => {
+        InValue::Choose(yes, no) => {
             if truth(&value) {
                 Ok(Control::Eval(yes))
             } else {
                 Ok(Control::Eval(no))
             }
         }
+    }
+}
+
+/// A value in a statement.
+fn give_statement<'p>(
+    alloc: Global,
+    m: &mut Machine<'p>,
+    frame: InStatement<'p>,
+    value: Value,
+) -> Result<Control<'p>, Memory>
+    ensures { IfOk result (λ c. Goes m.new c (around_flow m.old (reverse m.old.frames) (statement_goes m.old.file (env_of m.old.env) frame.entry (value_of value) (state_of m.old.session))) (budget m.old 10)) }
+{
+    match frame {
+        InStatement::Discard => Ok(Control::Went(Flow::On)),
+        InStatement::AssignTo(place, target) => assign_to(alloc, m, place, target, value),
+        InStatement::Augment(place, op, at, name, old) => {
+            augmented(alloc, m, place, op, at, name, &old, &value)
+        }
+        InStatement::Return => Ok(Control::Went(Flow::Return(value))),
+        InStatement::Branch(body, more) => {
+            if truth(&value) {
+                Ok(Control::Run(body))
+            } else {
+                choose(m, more)
+            }
+        }
+        InStatement::Walk(place, target, body) => walk(alloc, m, place, target, body, value),
     }
 }
 

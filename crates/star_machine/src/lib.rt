@@ -1,6 +1,8 @@
 //! What code does: one loop over a stack of frames.
 #![tactic(auto)]
 
+mod assign;
+mod block;
 mod eval;
 mod frame;
 mod give;
@@ -10,11 +12,16 @@ mod machine;
 mod names;
 mod numbers;
 mod operate;
+mod run;
 mod session;
 mod steps;
 mod texts;
 mod value;
+mod walk;
+mod went;
 
-pub use looped::{Ended, evaluate};
+pub use block::{Arm, Block, Op};
+pub use frame::Flow;
+pub use looped::{Ended, Finished, evaluate, run_block};
 pub use session::{Bound, Session, Slot};
 pub use value::Value;

@@ -43,3 +43,25 @@ pub(crate) fn ill_formed<'p>(alloc: Global) -> Control<'p>
         detail: Text::new(alloc),
     })
 }
+
+/// The same in the place of the end of a block.
+pub(crate) fn ill_flow<'p>(alloc: Global) -> Control<'p>
+    ensures { result ≡ control.Left (fault_of kind.CodeForm) }
+{
+    Control::Left(Fault {
+        kind: FaultKind::CodeForm,
+        place: None,
+        detail: Text::new(alloc),
+    })
+}
+
+/// A fault of this kind at a place, in the place of the end of a block.
+pub(crate) fn left<'p>(alloc: Global, kind: FaultKind, place: Place) -> Control<'p>
+    ensures { result ≡ control.Left (fault_at kind place) }
+{
+    Control::Left(Fault {
+        kind,
+        place: Some(place),
+        detail: Text::new(alloc),
+    })
+}

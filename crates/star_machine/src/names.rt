@@ -1,12 +1,14 @@
 // Names.
-ghost use Rattle.std.specs.Prelude.{◌≡◌};
+ghost use Rattle.std.specs.Prelude.{◌≡◌, Some};
 ghost use Rattle.ytt_base.specs.declared.fault.Stop.TheVariants as stop;
-ghost use Rattle.star_spec.specs.Names.{box_of, read_name};
+ghost use Rattle.star_spec.specs.Names.{box_of, read_name, write_name};
 ghost use Rattle.star_spec.specs.Outcomes.{fail_with};
+ghost use Rattle.star_spec.specs.Store.{change, with_contents};
+ghost use Rattle.star_spec.specs.Values.{of_box};
 ghost use Rattle.star_machine.specs.Meets.{Meets, Tells, state_of};
-ghost use Rattle.star_machine.specs.View.{env_of, value_of};
+ghost use Rattle.star_machine.specs.View.{env_of, store_of, value_of};
 
-use crate::session::{Bound, Session};
+use crate::session::{Bound, Session, Slot};
 use crate::value::Value;
 use std::alloc::Global;
 use ytt_base::fault::{Fault, FaultKind, Place, Stop};
@@ -55,5 +57,43 @@ pub(crate) fn read(
             None => refused(FaultKind::NameUnset, place, name),
             Some(value) => Ok(value.copy()?),
         },
+    }
+}
+
+/// A name gets a value: `NameUnknown` where it has no box.
+pub(crate) fn write(
+    session: &mut Session,
+    place: Place,
+    name: &Text,
+    position: Option<usize>,
+    value: Value,
+) -> Result<(), Stop>
+    ensures meaning { Meets (λ u. u) result (state_of session.new) (write_name place name.now (value_of value) position (state_of session.old)) }
+    ensures steps { session.new.steps ≡ session.old.steps }
+{
+    let position = match position {
+        None => {
+            let detail = name.copy()?;
+            return Err(Stop::Fault(Fault {
+                kind: FaultKind::NameUnknown,
+                place: Some(place),
+                detail,
+            }));
+        }
+        Some(position) => position,
+    };
+    fill(session, position, value);
+    Ok(())
+}
+
+/// A box gets a value.
+#[tactic(auto, using(crate::proofs::Boxes::filled, crate::proofs::Boxes::not_there))]
+fn fill(session: &mut Session, position: usize, value: Value)
+    ensures store { store_of session.new.store ≡ change (with_contents (of_box (Some (value_of value)))) position (store_of session.old.store) }
+    ensures steps { session.new.steps ≡ session.old.steps }
+{
+    if position < session.store.len() {
+        let slot = Slot { value: Some(value) };
+        session.store.set(position, slot);
     }
 }

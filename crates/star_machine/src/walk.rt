@@ -1,0 +1,117 @@
+// Loops.
+ghost use Rattle.std.specs.Prelude.{◌≡◌, ◌∷◌, drop, reverse, IfOk, List};
+ghost use Rattle.star_spec.specs.Flow.{next_turn, turns};
+ghost use Rattle.star_spec.specs.Outcomes.{then_do};
+ghost use Rattle.star_tree.specs.Whole.{expr_of};
+ghost use Rattle.star_machine.specs.Frames.{Goes, around_flow, budget, turn_of};
+ghost use Rattle.star_machine.specs.Meets.{state_of};
+ghost use Rattle.star_machine.specs.Nested.{ops_of};
+ghost use Rattle.star_machine.specs.PartsSoFar.{looped, parts_so_far};
+ghost use Rattle.star_machine.specs.View.{env_of, value_of, values_of};
+
+use crate::assign::assign;
+use crate::block::Op;
+use crate::frame::{Control, Flow, Frame, InBlock, Machine};
+use crate::machine::{left, push};
+use crate::value::Value;
+use sqlite_items::Items;
+use star_tree::code::Expr;
+use std::alloc::Global;
+use std::rc::Rc;
+use ytt_base::fault::{FaultKind, Place, Stop};
+use ytt_base::text::Memory;
+
+/// A loop over this value.
+pub(crate) fn walk<'p>(
+    alloc: Global,
+    m: &mut Machine<'p>,
+    place: Place,
+    target: &'p Expr,
+    body: &'p [Op],
+    value: Value,
+) -> Result<Control<'p>, Memory>
+    ensures { IfOk result (λ c. Goes m.new c (around_flow m.old (reverse m.old.frames) (looped place (expr_of m.old.file target.now) (env_of m.old.env) (parts_so_far (ops_of m.old.file body.now) (env_of m.old.env)) (value_of value) tt (state_of m.old.session))) (budget m.old 10)) }
+{
+    let members = match value {
+        Value::Nothing => return Ok(left(alloc, FaultKind::ValueKind, place)),
+        Value::Bool(_) => return Ok(left(alloc, FaultKind::ValueKind, place)),
+        Value::Int(_) => return Ok(left(alloc, FaultKind::ValueKind, place)),
+        Value::Text(_text) => return Ok(left(alloc, FaultKind::ValueKind, place)),
+        Value::Tuple(members) => members,
+    };
+    turn(alloc, m, place, target, body, members, 0)
+}
+
+/// The turn of a loop for the member with this index, or its end.
+pub(crate) fn turn<'p>(
+    alloc: Global,
+    m: &mut Machine<'p>,
+    place: Place,
+    target: &'p Expr,
+    body: &'p [Op],
+    members: Rc<Items<Value>>,
+    index: usize,
+) -> Result<Control<'p>, Memory>
+    ensures { IfOk result (λ c. Goes m.new c (around_flow m.old (reverse m.old.frames) (turns place (turn_of m.old.file (env_of m.old.env) place target.now body.now) (values_of (drop index members.value)) tt (state_of m.old.session))) (budget m.old 7)) }
+{
+    let value = match members.get(index) {
+        None => return Ok(Control::Went(Flow::On)),
+        Some(value) => value.copy()?,
+    };
+    let next = match index.checked_add(1) {
+        None => return Err(Memory),
+        Some(next) => next,
+    };
+    one_turn(alloc, m, place, target, body, members, next, value)
+}
+
+/// The turn for a value, and then those from the member with this index on.
+fn one_turn<'p>(
+    alloc: Global,
+    m: &mut Machine<'p>,
+    place: Place,
+    target: &'p Expr,
+    body: &'p [Op],
+    members: Rc<Items<Value>>,
+    next: usize,
+    value: Value,
+) -> Result<Control<'p>, Memory>
+    ensures { IfOk result (λ c. Goes m.new c (around_flow m.old (reverse m.old.frames) (turns place (turn_of m.old.file (env_of m.old.env) place target.now body.now) (value_of value ∷ values_of (drop next members.value)) tt (state_of m.old.session))) (budget m.old 7)) }
+{
+    if m.session.steps == 0 {
+        return Ok(left(alloc, FaultKind::Steps, place));
+    }
+    m.session.steps -= 1;
+    enter(alloc, m, place, target, body, members, next, value)
+}
+
+/// The same after the step of the turn.
+fn enter<'p>(
+    alloc: Global,
+    m: &mut Machine<'p>,
+    place: Place,
+    target: &'p Expr,
+    body: &'p [Op],
+    members: Rc<Items<Value>>,
+    next: usize,
+    value: Value,
+) -> Result<Control<'p>, Memory>
+    ensures { IfOk result (λ c. Goes m.new c (around_flow m.old (reverse m.old.frames) (then_do (turn_of m.old.file (env_of m.old.env) place target.now body.now (value_of value) tt (state_of m.old.session)) (next_turn (turns place (turn_of m.old.file (env_of m.old.env) place target.now body.now) (values_of (drop next members.value)))))) (budget m.old 11)) }
+{
+    match assign(
+        alloc,
+        m.file,
+        m.env.as_slice(),
+        &mut m.session,
+        place,
+        target,
+        value,
+    ) {
+        Ok(_) => {
+            let frame = Frame::Block(InBlock::Turn(place, target, body, members, next));
+            push(m, frame, Control::Run(body))
+        }
+        Err(Stop::Fault(fault)) => Ok(Control::Left(fault)),
+        Err(Stop::Memory) => Err(Memory),
+    }
+}
