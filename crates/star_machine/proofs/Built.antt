@@ -8,10 +8,10 @@ use Rattle.star_spec.specs.Outcomes.{Computation, paid, give, ◌>>=◌}
 use Rattle.star_spec.specs.Values.{Value, tuple_value, values_from, Env}
 use Rattle.star_machine.specs.SoFar.{value_so_far, values_so_far, is_built, are_built}
 
-never : false ≡ true → ⊥
+pub never : false ≡ true → ⊥
 never h = search (rules, h)
 
-both : (a b : Bool) → IsTrue (a && b) → IsTrue a × IsTrue b
+pub both : (a b : Bool) → IsTrue (a && b) → IsTrue a × IsTrue b
 both true b h = (refl, h)
 both false b h = absurd (never h)
 

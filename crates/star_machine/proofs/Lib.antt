@@ -11,3 +11,5 @@ pub mod Built
 pub mod Boxes
 pub mod Loops
 pub mod Onward
+pub mod Carried
+pub mod PartsBuilt

@@ -1,17 +1,17 @@
 -- Statements and blocks as far as the machine runs them. What they do for programs of the forms that are built is what
 -- the language says; each other form is NotBuilt.
-use Rattle.std.specs.Prelude.{Option, Some, None, if◌then◌else◌}
+use Rattle.std.specs.Prelude.{Bool, true, false, ◌&&◌, Option, Some, None, if◌then◌else◌}
 use Rattle.ytt_base.specs.declared.fault.Place.{Place}
 use Rattle.star_spec.specs.Code as plain
 use Rattle.star_spec.specs.Code.{Expr, name, index, BinaryOperator, Statement, evaluate, assign, augment, load, return, break, continue, pass}
 use Rattle.star_spec.specs.Values.{Value, Env}
-use Rattle.star_spec.specs.Outcomes.{Computation, paid, give, not_built, ill_formed, ◌>>=◌}
+use Rattle.star_spec.specs.Outcomes.{Ending, then_do, Computation, paid, give, not_built, ill_formed, ◌>>=◌}
 use Rattle.star_spec.specs.Names.{box_of, read_name, write_name}
 use Rattle.star_spec.specs.Eval.{augment_row, members_of, truth_of}
 use Rattle.star_spec.specs.Language.{breaks, continues, returns}
 use Rattle.star_spec.specs.Flow.{Flow, on, out, Part, in_turn, over_members}
 use Rattle.star_spec.specs.Blocks.{Op, op_part, op_statement, op_if, op_for, op_def, Ops, no_ops, an_op, Arms, no_arm, else_arm, arm}
-use Rattle.star_machine.specs.SoFar.{value_so_far}
+use Rattle.star_machine.specs.SoFar.{is_built, value_so_far}
 
 -- a value to a target, in a statement at a place; so far to a name
 abbrev pub assigned : {H : Type 0} → Place → Expr → Value → Env → Computation H (Unit {0})
@@ -88,3 +88,45 @@ done_after p (op_def q number fragment x ps body) env k = not_built p
 abbrev pub part_after_step : {H K : Type 0} → Option Place → Op → Env → Part H K
 part_after_step None o env k = ill_formed
 part_after_step (Some p) o env k = paid p (done_after p o env k)
+
+-- ---- the forms that are built
+
+abbrev pub is_target : Expr → Bool
+is_target (name q x) = true
+is_target _ = false
+
+abbrev pub is_built_statement : Statement → Bool
+is_built_statement (evaluate p e) = is_built e
+is_built_statement (assign p x e) = is_target x && is_built e
+is_built_statement (augment p o q x e) = is_target x && is_built e
+is_built_statement (load p path xs) = true
+is_built_statement (return p e) = is_built e
+is_built_statement (break p) = true
+is_built_statement (continue p) = true
+is_built_statement (pass p) = true
+
+abbrev mutual
+  pub is_built_part : Op → Bool
+  is_built_part (op_part o) = false
+  is_built_part (op_statement s) = is_built_statement s
+  is_built_part (op_if p branches) = are_built_arms branches
+  is_built_part (op_for p x e body) = is_target x && (is_built e && are_built_parts body)
+  is_built_part (op_def p number fragment x ps body) = false
+
+  pub are_built_parts : Ops → Bool
+  are_built_parts no_ops = true
+  are_built_parts (an_op o os) = is_built_part o && are_built_parts os
+
+  pub are_built_arms : Arms → Bool
+  are_built_arms no_arm = true
+  are_built_arms (else_arm os) = are_built_parts os
+  are_built_arms (arm e os more) = is_built e && (are_built_parts os && are_built_arms more)
+
+-- ---- what is built so far, which goes through code that builds nothing
+
+abbrev pub carry : {K : Type 0} → K → Flow (Unit {0}) → Flow K
+carry k (on u) = on k
+carry k (out w u) = out w k
+
+abbrev pub carried : {H K : Type 0} → K → Ending H (Flow (Unit {0})) → Ending H (Flow K)
+carried k r = then_do r (λ w. give (carry k w))

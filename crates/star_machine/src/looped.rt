@@ -1,14 +1,15 @@
 // The loop.
-ghost use Rattle.std.specs.Prelude.{◌≡◌, ◌∷◌, [], reverse, IfOk, IsTrue, true, false};
+ghost use Rattle.std.specs.Prelude.{◌≡◌, ◌∷◌, [], reverse, List, IfOk, IsTrue, true, false};
 ghost use Rattle.ytt_base.specs.declared.fault.FaultKind.TheVariants as kind;
 ghost use Rattle.ytt_base.specs.Outcomes.{fault_of};
-ghost use Rattle.star_spec.specs.Eval.{eval};
+ghost use Rattle.star_spec.specs.Eval.{eval, starlark};
 ghost use Rattle.star_spec.specs.Language.{Call};
 ghost use Rattle.star_tree.specs.Whole.{expr_of};
+ghost use Rattle.template_spec.specs.Run.{Node, runs};
 ghost use Rattle.star_machine.specs.Frames.{Goes, ending_of, ends, flow_ending_of, flow_ends, inside, is_active, means, work};
 ghost use Rattle.star_machine.specs.Meets.{Here, state_of};
 ghost use Rattle.star_machine.specs.Nested.{ops_of};
-ghost use Rattle.star_machine.specs.PartsSoFar.{parts_so_far};
+ghost use Rattle.star_machine.specs.PartsSoFar.{are_built_parts, carried, parts_so_far};
 ghost use Rattle.star_machine.specs.SoFar.{is_built, value_so_far};
 ghost use Rattle.star_machine.specs.View.{env_of};
 
@@ -184,6 +185,7 @@ pub fn run_block(
     session: Session,
 ) -> Result<Finished, Memory>
     ensures exactly { IfOk result (λ e. flow_ending_of e.result (state_of e.session) ≡ parts_so_far (ops_of file block.now) (env_of env) tt (state_of session)) }
+    ensures language { IfOk result (λ e. (call : Call Here) (nodes : List Node) → IsTrue (are_built_parts (ops_of file block.now)) → carried nodes (flow_ending_of e.result (state_of e.session)) ≡ runs starlark call (ops_of file block.now) (env_of env) nodes (state_of session)) }
 {
     let machine = Machine {
         file,
