@@ -1,11 +1,11 @@
 -- For the forms that are built, what the machine does is what the language says.
-use Rattle.std.proofs.Common.{◌≡◌, Bool, true, false, ◌&&◌, IsTrue, List, ◌∷◌, if◌then◌else◌, refl, rules}
+use Rattle.std.proofs.Common.{◌≡◌, Bool, true, false, ◌&&◌, IsTrue, ◌∷◌, if◌then◌else◌, refl, rules}
 use Rattle.star_spec.specs.Code as plain
 use Rattle.star_spec.specs.Eval.{eval, eval_all, truth_of}
 use Rattle.star_spec.specs.Language.{Call}
 use Rattle.star_spec.specs.Operators.{unary_row, binary_row}
-use Rattle.star_spec.specs.Outcomes.{Computation, paid, give, ◌>>=◌}
-use Rattle.star_spec.specs.Values.{Value, tuple_value, values_from, Env}
+use Rattle.star_spec.specs.Outcomes.{paid, give, ◌>>=◌}
+use Rattle.star_spec.specs.Values.{tuple_value, values_from, Env}
 use Rattle.star_machine.specs.SoFar.{value_so_far, values_so_far, is_built, are_built}
 
 pub never : false ≡ true → ⊥

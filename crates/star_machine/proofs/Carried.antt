@@ -5,9 +5,9 @@ use Rattle.star_spec.specs.Code as plain
 use Rattle.star_spec.specs.Blocks.{Op, op_part, op_statement, op_if, op_for, op_def, Ops, no_ops, an_op, Arms, no_arm, else_arm, arm}
 use Rattle.star_spec.specs.Eval.{augment_row, members_of, truth_of}
 use Rattle.star_spec.specs.Names.{box_of, read_name, write_name}
-use Rattle.star_spec.specs.Flow.{Flow, on, out, Part, go_on, next_turn, turns, walk}
+use Rattle.star_spec.specs.Flow.{Flow, on, out, Part, go_on, next_turn, turns}
 use Rattle.star_spec.specs.Language.{breaks, continues, returns}
-use Rattle.star_spec.specs.Outcomes.{State, Ending, done, bad, Computation, then_do, give, paid, take_steps, finally, on_store, ◌>>=◌}
+use Rattle.star_spec.specs.Outcomes.{State, Ending, done, bad, Computation, then_do, paid, take_steps, finally, on_store, ◌>>=◌}
 use Rattle.star_spec.specs.Store.{begin_loop, end_loop}
 use Rattle.star_spec.specs.Members.{walked_in}
 use Rattle.star_spec.specs.Values.{Value, Env}

@@ -1,5 +1,4 @@
-pub mod Nodes
-pub mod Opening
+pub mod Chaining
 pub mod Scopes
 pub mod Passing
 pub mod Floor

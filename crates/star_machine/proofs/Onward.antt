@@ -1,5 +1,5 @@
 -- What went on from one thing goes on from what is the same.
-use Rattle.std.proofs.Common.{◌≡◌, ◌≤◌, ◌<◌, ◌+◌, ◌*◌, ℕ, length, Result, Ok, Err, IfOk, ◌∙◌, arith}
+use Rattle.std.proofs.Common.{◌≡◌, ◌≤◌, ℕ, Result, Ok, Err, IfOk, ◌∙◌, arith}
 use Rattle.star_machine.specs.declared.frame.Control.{Control}
 use Rattle.star_machine.specs.declared.frame.Machine.{Machine}
 use Rattle.star_machine.specs.Frames.{Final, Goes, budget}

@@ -4,16 +4,16 @@ use Rattle.ytt_base.specs.declared.fault.Place.{Place}
 use Rattle.star_spec.specs.Code as plain
 use Rattle.star_spec.specs.Blocks.{Op, op_part, op_statement, op_if, op_for, op_def, Ops, no_ops, an_op, Arms, no_arm, else_arm, arm}
 use Rattle.star_spec.specs.Eval.{eval, assign_to, augment_row, augment_to, members_of, starlark, truth_of}
-use Rattle.star_spec.specs.Flow.{Flow, on, Part, in_turn, over_members, plain as as_part, when, worded}
+use Rattle.star_spec.specs.Flow.{Flow, on, Part, in_turn, over_members, plain as as_part, worded}
 use Rattle.star_spec.specs.Language.{Call, Word, breaks, continues, returns, execute}
 use Rattle.star_spec.specs.Names.{box_of, read_name, write_name}
-use Rattle.star_spec.specs.Outcomes.{State, Computation, give, paid, take_steps, ◌>>=◌}
+use Rattle.star_spec.specs.Outcomes.{Computation, give, paid, take_steps, ◌>>=◌}
 use Rattle.star_spec.specs.Values.{Value, Env}
 use Rattle.template_spec.specs.Run.{Node, run, runs, run_arms}
 use Rattle.star_machine.specs.PartsSoFar.{assigned, augmented, stated, statement_place, part_so_far, parts_so_far, arms_so_far, is_target, is_built_statement, is_built_part, are_built_parts, are_built_arms}
-use Rattle.star_machine.specs.SoFar.{is_built, value_so_far}
+use Rattle.star_machine.specs.SoFar.{is_built}
 use Rattle.star_machine.proofs.Built.{both, never, value_is}
-use Rattle.star_machine.proofs.Opening.{in_a_row}
+use Rattle.star_machine.proofs.Chaining.{in_a_row}
 
 module _ {H : Type 0} where
   chained : {A B C : Type 0} (m : Computation H A) (f : A → Computation H B) (g : B → Computation H C) → ((m >>= f) >>= g) ≡ (m >>= λ a. f a >>= g)
@@ -42,9 +42,9 @@ module _ {H : Type 0} (call : Call H) (env : Env) where
   augmented_is p o q (plain.name r x) e k h b =
       (λ i. read_name r x (box_of x env) >>= λ old. value_is call env e b i >>= λ v. augment_row q o old v >>= λ w. write_name r x w (box_of x env) >>= λ u. give (on k))
       ∙ sym (
-        chained (read_name r x (box_of x env)) (λ old. eval call e env >>= λ v. augment_row q o old v >>= λ w. write_name r x w (box_of x env)) (λ u. give (on k))
-        ∙ (λ i. read_name r x (box_of x env) >>= λ old. chained (eval call e env) (λ v. augment_row q o old v >>= λ w. write_name r x w (box_of x env)) (λ u. give (on k)) i)
-        ∙ (λ i. read_name r x (box_of x env) >>= λ old. eval call e env >>= λ v. chained (augment_row q o old v) (λ w. write_name r x w (box_of x env)) (λ u. give (on k)) i))
+      chained (read_name r x (box_of x env)) (λ old. eval call e env >>= λ v. augment_row q o old v >>= λ w. write_name r x w (box_of x env)) (λ u. give (on k))
+      ∙ (λ i. read_name r x (box_of x env) >>= λ old. chained (eval call e env) (λ v. augment_row q o old v >>= λ w. write_name r x w (box_of x env)) (λ u. give (on k)) i)
+      ∙ (λ i. read_name r x (box_of x env) >>= λ old. eval call e env >>= λ v. chained (augment_row q o old v) (λ w. write_name r x w (box_of x env)) (λ u. give (on k)) i))
   augmented_is p o q _ e k h b = absurd (never h)
 
   -- what follows from one value, in a statement

@@ -1,5 +1,5 @@
 -- Boxes of names.
-use Rattle.std.proofs.Common.{◌≡◌, ℕ, ◌+◌, ◌<◌, true, false, List, length, drop, get_or, Option, Some, bytes_eq, if◌then◌else◌, sym, ap, ◌∙◌}
+use Rattle.std.proofs.Common.{◌≡◌, ℕ, ◌+◌, ◌<◌, true, false, List, length, drop, get_or, Some, bytes_eq, if◌then◌else◌, sym, ap, ◌∙◌}
 use Rattle.ytt_laws.proofs.Lists.{dropped}
 use Rattle.star_spec.specs.Names.{box_of}
 use Rattle.star_machine.specs.declared.session.Bound.{Bound}

@@ -1,5 +1,5 @@
 -- What the machine stands for: what comes of a control in its frames.
-use Rattle.std.specs.Prelude.{◌≡◌, ◌<◌, ◌+◌, ◌*◌, ℕ, Bool, true, false, not, List, [], ◌∷◌, ◌++◌, drop, reverse, length, Result, Ok, Err, if◌then◌else◌}
+use Rattle.std.specs.Prelude.{◌≡◌, ◌<◌, ◌+◌, ◌*◌, ℕ, Bool, true, not, List, [], ◌∷◌, ◌++◌, drop, reverse, length, Result, Ok, Err, if◌then◌else◌}
 use Rattle.ytt_base.specs.declared.fault.Fault.{Fault}
 use Rattle.ytt_base.specs.declared.fault.Place.{Place}
 use Rattle.star_spec.specs.Values as plain

@@ -85,10 +85,6 @@ done_after p (op_if q branches) env k = arms_so_far branches env k
 done_after p (op_for q x e body) env k = value_so_far e env >>= λ v. looped p x env (parts_so_far body env) v k
 done_after p (op_def q number fragment x ps body) env k = not_built p
 
-abbrev pub part_after_step : {H K : Type 0} → Option Place → Op → Env → Part H K
-part_after_step None o env k = ill_formed
-part_after_step (Some p) o env k = paid p (done_after p o env k)
-
 -- ---- the forms that are built
 
 abbrev pub is_target : Expr → Bool

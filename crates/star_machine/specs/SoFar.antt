@@ -80,10 +80,6 @@ acted p (disjunction q a b) env = value_so_far a env >>= λ x. truth_of x >>= λ
 acted p (conditional q c a b) env = value_so_far c env >>= λ x. truth_of x >>= λ holds. if holds then value_so_far a env else value_so_far b env
 acted p e env = not_built p
 
-abbrev pub after_step : {H : Type 0} → Option Place → Expr → Env → Computation H Value
-after_step None e env = ill_formed
-after_step (Some p) e env = paid p (acted p e env)
-
 -- ---- the forms that are built
 
 abbrev mutual

@@ -87,14 +87,34 @@ fn act<'p>(
         Expr::Text(_, text) => Ok(Control::Gave(Value::Text(Rc::new(alloc, text.copy()?)?))),
         Expr::Name(_, name) => variable(m, place, name),
         Expr::Tuple(_, members) => values_from(alloc, m, members.as_slice(), Items::new(alloc)),
-        Expr::Unary(_, op, a) => push(m, Frame::Value(InValue::OperateOn(place, *op)), Control::Eval(a.get())),
+        Expr::Unary(_, op, a) => push(
+            m,
+            Frame::Value(InValue::OperateOn(place, *op)),
+            Control::Eval(a.get()),
+        ),
         Expr::Binary(_, op, a, b) => {
-            push(m, Frame::Value(InValue::Right(place, *op, b.get())), Control::Eval(a.get()))
+            push(
+                m,
+                Frame::Value(InValue::Right(place, *op, b.get())),
+                Control::Eval(a.get()),
+            )
         }
-        Expr::And(_, a, b) => push(m, Frame::Value(InValue::AndThen(b.get())), Control::Eval(a.get())),
-        Expr::Or(_, a, b) => push(m, Frame::Value(InValue::OrElse(b.get())), Control::Eval(a.get())),
+        Expr::And(_, a, b) => push(
+            m,
+            Frame::Value(InValue::AndThen(b.get())),
+            Control::Eval(a.get()),
+        ),
+        Expr::Or(_, a, b) => push(
+            m,
+            Frame::Value(InValue::OrElse(b.get())),
+            Control::Eval(a.get()),
+        ),
         Expr::If(_, test, a, b) => {
-            push(m, Frame::Value(InValue::Choose(a.get(), b.get())), Control::Eval(test.get()))
+            push(
+                m,
+                Frame::Value(InValue::Choose(a.get(), b.get())),
+                Control::Eval(test.get()),
+            )
         }
         Expr::List(_, _) => Ok(failed(alloc, FaultKind::NotBuilt, place)),
         Expr::Dict(_, _) => Ok(failed(alloc, FaultKind::NotBuilt, place)),
@@ -134,7 +154,11 @@ pub(crate) fn values_from<'p>(
     ensures { IfOk result (λ c. Goes m.new c (around_value m.old (reverse m.old.frames) (then_do (values_so_far (exprs_of m.old.file members.now) (env_of m.old.env) (state_of m.old.session)) (λ ws. give (tuple_value (values_from (values_of values ++ ws)))))) (budget m.old 10)) }
 {
     match members.split_first() {
-        Some((member, rest)) => push(m, Frame::Value(InValue::Member(rest, values)), Control::Eval(member)),
+        Some((member, rest)) => push(
+            m,
+            Frame::Value(InValue::Member(rest, values)),
+            Control::Eval(member),
+        ),
         None => Ok(Control::Gave(Value::Tuple(Rc::new(alloc, values)?))),
     }
 }

@@ -49,11 +49,7 @@ fn goes_on<'p>(m: &Machine<'p>, control: &Control<'p>) -> bool
 }
 
 /// One step, where there is more to do.
-fn step<'p>(
-    alloc: Global,
-    m: &mut Machine<'p>,
-    control: Control<'p>,
-) -> Result<Control<'p>, Memory>
+fn step<'p>(alloc: Global, m: &mut Machine<'p>, control: Control<'p>) -> Result<Control<'p>, Memory>
     requires { is_active m.old control ≡ true }
     ensures { IfOk result (λ c. Goes m.new c (means m.old control.entry) (work m.old control.entry)) }
 {

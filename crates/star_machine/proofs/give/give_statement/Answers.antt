@@ -16,6 +16,6 @@ returns-in-Branch c =
     let no : truth_in (store_of m.session.store) (value_of c.args.value) ≡ false = sym (c.truth.ensures (store_of m.session.store)) ∙ fails in
     goes c.choose.result c.choose.new.m
     (ap (around_flow m (reverse m.frames)) (sym (
-        ap (λ f. statement_goes m.file (env_of m.env) f (value_of c.args.value) s) c.in-Branch.is
-        ∙ ap (λ b. (if b then parts_so_far (ops_of m.file c.in-Branch.body.now) (env_of m.env) tt else arms_so_far (arms_of m.file c.in-Branch.more.now) (env_of m.env) tt) s) no)))
+    ap (λ f. statement_goes m.file (env_of m.env) f (value_of c.args.value) s) c.in-Branch.is
+    ∙ ap (λ b. (if b then parts_so_far (ops_of m.file c.in-Branch.body.now) (env_of m.env) tt else arms_so_far (arms_of m.file c.in-Branch.more.now) (env_of m.env) tt) s) no)))
     (tens m) c.choose.ensures

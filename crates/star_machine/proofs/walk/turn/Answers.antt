@@ -1,4 +1,4 @@
-use Rattle.std.proofs.Common.{◌≡◌, ◌+◌, ℕ, slice_get, reverse, Some, None, ap, rules, arith}
+use Rattle.std.proofs.Common.{◌≡◌, ◌+◌, slice_get, reverse, Some, None, ap, rules, arith}
 use Rattle.star_machine.specs.Frames.{around_flow, turn_of}
 use Rattle.star_machine.specs.Meets.{state_of}
 use Rattle.star_machine.specs.View.{env_of, value_of}
