@@ -1,5 +1,5 @@
 -- What the machine stands for: what comes of a control in its frames.
-use Rattle.std.specs.Prelude.{◌≡◌, ◌<◌, ◌+◌, ◌*◌, ℕ, Bool, true, not, List, [], ◌∷◌, ◌++◌, drop, reverse, length, Result, Ok, Err, if◌then◌else◌}
+use Rattle.std.specs.Prelude.{◌≡◌, ◌<◌, ◌+◌, ◌*◌, ℕ, Bool, true, not, List, [], ◌∷◌, ◌++◌, drop, reverse, length, Result, Ok, Err, IfOk, if◌then◌else◌}
 use Rattle.ytt_base.specs.declared.fault.Fault.{Fault}
 use Rattle.ytt_base.specs.declared.fault.Place.{Place}
 use Rattle.star_spec.specs.Values as plain
@@ -129,6 +129,13 @@ work m c = budget m (weight c)
 pub record Goes (m : Machine) (c : Control) (before : Final) (left : ℕ) : Type 0 where
   pub same : means m c ≡ before
   pub less : work m c < left
+
+-- a call goes on to what comes of a value's computation, or of a part of a block, in the frames that there were
+abbrev pub GoesToValue : {E : Type 0} → Result Control E → (after before : Machine) → Computation Here plain.Value → Type 0
+GoesToValue r n m f = IfOk r (λ c. Goes n c (around_value m (reverse m.frames) (f (state_of m.session))) (budget m 10))
+
+abbrev pub GoesToFlow : {E : Type 0} → Result Control E → (after before : Machine) → Computation Here (Flow Here) → Type 0
+GoesToFlow r n m f = IfOk r (λ c. Goes n c (around_flow m (reverse m.frames) (f (state_of m.session))) (budget m 10))
 
 -- ---- the end
 

@@ -6,7 +6,7 @@ ghost use Rattle.star_spec.specs.Outcomes.{give, then_do};
 ghost use Rattle.star_spec.specs.Values.{tuple_value, values_from};
 ghost use Rattle.star_tree.specs.Whole.{expr_of, exprs_of};
 ghost use Rattle.star_machine.specs.declared.frame.Control.TheVariants as control;
-ghost use Rattle.star_machine.specs.Frames.{Goes, around_value, budget, means, work};
+ghost use Rattle.star_machine.specs.Frames.{Goes, GoesToValue, around_value, budget, means, work};
 ghost use Rattle.star_machine.specs.Meets.{state_of};
 ghost use Rattle.star_machine.specs.SoFar.{acted, place_in, values_so_far};
 ghost use Rattle.star_machine.specs.View.{env_of, values_of};
@@ -80,7 +80,7 @@ fn act<'p>(
     place: Place,
     expr: &'p Expr,
 ) -> Result<Control<'p>, Memory>
-    ensures { IfOk result (λ c. Goes m.new c (around_value m.old (reverse m.old.frames) (acted place (expr_of m.old.file expr.now) (env_of m.old.env) (state_of m.old.session))) (budget m.old 10)) }
+    ensures { GoesToValue result m.new m.old (acted place (expr_of m.old.file expr.now) (env_of m.old.env)) }
 {
     match expr {
         Expr::Int(_, n) => Ok(Control::Gave(Value::Int(*n))),
@@ -134,7 +134,7 @@ fn act<'p>(
 
 /// The value of a name.
 fn variable<'p>(m: &Machine<'p>, place: Place, name: &Text) -> Result<Control<'p>, Memory>
-    ensures { IfOk result (λ c. Goes m.now c (around_value m.now (reverse m.now.frames) (read_name place name.now (box_of name.now (env_of m.now.env)) (state_of m.now.session))) (budget m.now 10)) }
+    ensures { GoesToValue result m.now m.now (read_name place name.now (box_of name.now (env_of m.now.env))) }
 {
     let position = find(m.env.as_slice(), name.as_str());
     match read(&m.session, place, name, position) {

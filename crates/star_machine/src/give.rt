@@ -3,7 +3,7 @@ ghost use Rattle.std.specs.Prelude.{◌≡◌, ◌∷◌, [], reverse, IfOk, Lis
 ghost use Rattle.star_spec.specs.Operators.{binary_row, unary_row};
 ghost use Rattle.star_tree.specs.Whole.{binary_operator_of, unary_operator_of};
 ghost use Rattle.star_machine.specs.declared.frame.Control.TheVariants as control;
-ghost use Rattle.star_machine.specs.Frames.{Goes, around_flow, around_value, budget, inside, statement_goes, value_goes};
+ghost use Rattle.star_machine.specs.Frames.{Goes, GoesToFlow, GoesToValue, around_flow, around_value, budget, inside, statement_goes, value_goes};
 ghost use Rattle.star_machine.specs.Meets.{state_of};
 ghost use Rattle.star_machine.specs.View.{env_of, value_of};
 
@@ -44,7 +44,7 @@ fn give_value<'p>(
     frame: InValue<'p>,
     value: Value,
 ) -> Result<Control<'p>, Memory>
-    ensures { IfOk result (λ c. Goes m.new c (around_value m.old (reverse m.old.frames) (value_goes m.old.file (env_of m.old.env) frame.entry (value_of value) (state_of m.old.session))) (budget m.old 10)) }
+    ensures { GoesToValue result m.new m.old (value_goes m.old.file (env_of m.old.env) frame.entry (value_of value)) }
 {
     match frame {
         InValue::Right(place, op, right) => {
@@ -88,7 +88,7 @@ fn give_statement<'p>(
     frame: InStatement<'p>,
     value: Value,
 ) -> Result<Control<'p>, Memory>
-    ensures { IfOk result (λ c. Goes m.new c (around_flow m.old (reverse m.old.frames) (statement_goes m.old.file (env_of m.old.env) frame.entry (value_of value) (state_of m.old.session))) (budget m.old 10)) }
+    ensures { GoesToFlow result m.new m.old (statement_goes m.old.file (env_of m.old.env) frame.entry (value_of value)) }
 {
     match frame {
         InStatement::Discard => Ok(Control::Went(Flow::On)),
@@ -117,7 +117,7 @@ fn operated<'p>(
     left: &Value,
     right: &Value,
 ) -> Result<Control<'p>, Memory>
-    ensures { IfOk result (λ c. Goes m.new c (around_value m.old (reverse m.old.frames) (binary_row place (binary_operator_of op) (value_of left.now) (value_of right.now) (state_of m.old.session))) (budget m.old 10)) }
+    ensures { GoesToValue result m.new m.old (binary_row place (binary_operator_of op) (value_of left.now) (value_of right.now)) }
 {
     match operate(alloc, place, op, left, right, &mut m.session) {
         Ok(value) => Ok(Control::Gave(value)),
@@ -134,7 +134,7 @@ fn operated_on<'p>(
     op: UnOp,
     operand: &Value,
 ) -> Result<Control<'p>, Memory>
-    ensures { IfOk result (λ c. Goes m.now c (around_value m.now (reverse m.now.frames) (unary_row place (unary_operator_of op) (value_of operand.now) (state_of m.now.session))) (budget m.now 10)) }
+    ensures { GoesToValue result m.now m.now (unary_row place (unary_operator_of op) (value_of operand.now)) }
 {
     match operate_on(alloc, place, op, operand) {
         Ok(value) => Ok(Control::Gave(value)),

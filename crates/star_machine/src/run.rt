@@ -5,7 +5,7 @@ ghost use Rattle.star_spec.specs.Code as plain;
 ghost use Rattle.star_spec.specs.Outcomes.{then_do};
 ghost use Rattle.star_tree.specs.Whole.{binary_operator_of, expr_of};
 ghost use Rattle.star_machine.specs.declared.frame.Control.TheVariants as control;
-ghost use Rattle.star_machine.specs.Frames.{Goes, around_flow, budget, means, statement_goes, work};
+ghost use Rattle.star_machine.specs.Frames.{Goes, GoesToFlow, around_flow, budget, means, statement_goes, work};
 ghost use Rattle.star_machine.specs.Meets.{state_of};
 ghost use Rattle.star_machine.specs.Nested.{arms_of, op_of};
 ghost use Rattle.star_machine.specs.PartsSoFar.{arms_so_far, augmented, done_after, op_place, part_so_far};
@@ -76,7 +76,7 @@ fn act<'p>(
     place: Place,
     op: &'p Op,
 ) -> Result<Control<'p>, Memory>
-    ensures { IfOk result (λ c. Goes m.new c (around_flow m.old (reverse m.old.frames) (done_after place (op_of m.old.file op.now) (env_of m.old.env) tt (state_of m.old.session))) (budget m.old 10)) }
+    ensures { GoesToFlow result m.new m.old (done_after place (op_of m.old.file op.now) (env_of m.old.env) tt) }
 {
     match op {
         Op::Expr(_, expr) => within(m, InStatement::Discard, expr.get()),
@@ -124,7 +124,7 @@ fn augment<'p>(
     target: &'p Expr,
     expr: &'p Expr,
 ) -> Result<Control<'p>, Memory>
-    ensures { IfOk result (λ c. Goes m.new c (around_flow m.old (reverse m.old.frames) (augmented (binary_operator_of op) place (expr_of m.old.file target.now) (expr_of m.old.file expr.now) (env_of m.old.env) tt (state_of m.old.session))) (budget m.old 10)) }
+    ensures { GoesToFlow result m.new m.old (augmented (binary_operator_of op) place (expr_of m.old.file target.now) (expr_of m.old.file expr.now) (env_of m.old.env) tt) }
 {
     let (line, name) = match target {
         Expr::Name(line, name) => (*line, name),
@@ -169,7 +169,7 @@ fn augment_name<'p>(
     name: &'p Text,
     expr: &'p Expr,
 ) -> Result<Control<'p>, Memory>
-    ensures { IfOk result (λ c. Goes m.new c (around_flow m.old (reverse m.old.frames) (augmented (binary_operator_of op) place (plain.name at name.now) (expr_of m.old.file expr.now) (env_of m.old.env) tt (state_of m.old.session))) (budget m.old 10)) }
+    ensures { GoesToFlow result m.new m.old (augmented (binary_operator_of op) place (plain.name at name.now) (expr_of m.old.file expr.now) (env_of m.old.env) tt) }
 {
     let position = find(m.env.as_slice(), name.as_str());
     match read(&m.session, at, name, position) {
@@ -181,7 +181,7 @@ fn augment_name<'p>(
 
 /// The first of these branches whose test holds.
 pub(crate) fn choose<'p>(m: &mut Machine<'p>, arms: &'p [Arm]) -> Result<Control<'p>, Memory>
-    ensures { IfOk result (λ c. Goes m.new c (around_flow m.old (reverse m.old.frames) (arms_so_far (arms_of m.old.file arms.now) (env_of m.old.env) tt (state_of m.old.session))) (budget m.old 10)) }
+    ensures { GoesToFlow result m.new m.old (arms_so_far (arms_of m.old.file arms.now) (env_of m.old.env) tt) }
 {
     match arms.split_first() {
         None => Ok(Control::Went(Flow::On)),

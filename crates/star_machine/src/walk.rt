@@ -3,7 +3,7 @@ ghost use Rattle.std.specs.Prelude.{◌≡◌, ◌∷◌, drop, reverse, IfOk, L
 ghost use Rattle.star_spec.specs.Flow.{next_turn, turns};
 ghost use Rattle.star_spec.specs.Outcomes.{then_do};
 ghost use Rattle.star_tree.specs.Whole.{expr_of};
-ghost use Rattle.star_machine.specs.Frames.{Goes, around_flow, budget, turn_of};
+ghost use Rattle.star_machine.specs.Frames.{Goes, GoesToFlow, around_flow, budget, turn_of};
 ghost use Rattle.star_machine.specs.Meets.{state_of};
 ghost use Rattle.star_machine.specs.Nested.{ops_of};
 ghost use Rattle.star_machine.specs.PartsSoFar.{looped, parts_so_far};
@@ -30,7 +30,7 @@ pub(crate) fn walk<'p>(
     body: &'p [Op],
     value: Value,
 ) -> Result<Control<'p>, Memory>
-    ensures { IfOk result (λ c. Goes m.new c (around_flow m.old (reverse m.old.frames) (looped place (expr_of m.old.file target.now) (env_of m.old.env) (parts_so_far (ops_of m.old.file body.now) (env_of m.old.env)) (value_of value) tt (state_of m.old.session))) (budget m.old 10)) }
+    ensures { GoesToFlow result m.new m.old (looped place (expr_of m.old.file target.now) (env_of m.old.env) (parts_so_far (ops_of m.old.file body.now) (env_of m.old.env)) (value_of value) tt) }
 {
     let members = match value {
         Value::Nothing => return Ok(left(alloc, FaultKind::ValueKind, place)),
