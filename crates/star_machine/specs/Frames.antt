@@ -43,6 +43,10 @@ pub data Final : Type 0 where
 abbrev pub turn_of : (file : ℕ) → Env → Place → (target : tree.Expr) → List Op → plain.Value → Part Here Here
 turn_of file env p x body v k = assigned p (expr_of file x) v env >>= λ u. parts_so_far (ops_of file body) env k
 
+-- the turns of a loop for the members from one on
+abbrev pub turns_from : (file : ℕ) → Env → Place → (target : tree.Expr) → List Op → List Value → (next : ℕ) → Part Here Here
+turns_from file env p x body vs n = turns p (turn_of file env p x body) (values_of (drop n vs))
+
 -- what comes of a value in an expression around it
 abbrev pub value_goes : (file : ℕ) → Env → InValue → plain.Value → Computation Here plain.Value
 value_goes file env (in_value.Right p o b) x = value_so_far (expr_of file b.now) env >>= binary_row p (binary_operator_of o) x
@@ -64,7 +68,7 @@ statement_goes file env (in_statement.Walk p x os) v = looped p (expr_of file x.
 
 -- what comes of the end of a part in a block or in a loop
 abbrev pub block_goes : (file : ℕ) → Env → InBlock → Flow Here → Computation Here (Flow Here)
-block_goes file env (in_block.Turn p x os vs n) w = next_turn (turns p (turn_of file env p x.now os.now) (values_of (drop n vs.value))) w
+block_goes file env (in_block.Turn p x os vs n) w = next_turn (turns_from file env p x.now os.now vs.value n) w
 block_goes file env (in_block.Rest os) w = go_on (parts_so_far (ops_of file os.now) env) w
 
 -- What comes of frames around a value, or around the end of a block, the innermost one first. Where the other one comes,
@@ -134,8 +138,11 @@ pub record Goes (m : Machine) (c : Control) (before : Final) (left : ℕ) : Type
 abbrev pub GoesToValue : {E : Type 0} → Result Control E → (after before : Machine) → Computation Here plain.Value → Type 0
 GoesToValue r n m f = IfOk r (λ c. Goes n c (around_value m (reverse m.frames) (f (state_of m.session))) (budget m 10))
 
+abbrev pub GoesToFlowBy : {E : Type 0} → ℕ → Result Control E → (after before : Machine) → Computation Here (Flow Here) → Type 0
+GoesToFlowBy l r n m f = IfOk r (λ c. Goes n c (around_flow m (reverse m.frames) (f (state_of m.session))) (budget m l))
+
 abbrev pub GoesToFlow : {E : Type 0} → Result Control E → (after before : Machine) → Computation Here (Flow Here) → Type 0
-GoesToFlow r n m f = IfOk r (λ c. Goes n c (around_flow m (reverse m.frames) (f (state_of m.session))) (budget m 10))
+GoesToFlow r n m f = GoesToFlowBy 10 r n m f
 
 -- ---- the end
 

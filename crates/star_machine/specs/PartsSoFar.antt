@@ -21,6 +21,10 @@ assigned p (plain.tuple q es) v env = not_built p
 assigned p (index q a i) v env = not_built p
 assigned p _ v env = ill_formed
 
+-- the end of a statement after what it does
+abbrev pub concluded : {H : Type 0} → Computation H (Unit {0}) → Computation H (Flow (Unit {0}))
+concluded m = m >>= λ u. give (on tt)
+
 -- what a name had, then the value, and then what both give
 abbrev pub augmented : {H K : Type 0} → BinaryOperator → (operator_place : Place) → (target value : Expr) → Env → Part H K
 augmented o q (name r x) e env k = read_name r x (box_of x env) >>= λ old. value_so_far e env >>= λ v. augment_row q o old v >>= λ w. write_name r x w (box_of x env) >>= λ u. give (on k)

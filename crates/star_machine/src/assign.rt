@@ -8,9 +8,9 @@ ghost use Rattle.star_spec.specs.Flow.{on};
 ghost use Rattle.star_spec.specs.Names.{box_of, write_name};
 ghost use Rattle.star_spec.specs.Outcomes.{give, then_do};
 ghost use Rattle.star_tree.specs.Whole.{binary_operator_of, expr_of};
-ghost use Rattle.star_machine.specs.Frames.{Goes, around_flow, budget};
+ghost use Rattle.star_machine.specs.Frames.{GoesToFlow};
 ghost use Rattle.star_machine.specs.Meets.{Meets, state_of};
-ghost use Rattle.star_machine.specs.PartsSoFar.{assigned};
+ghost use Rattle.star_machine.specs.PartsSoFar.{assigned, concluded};
 ghost use Rattle.star_machine.specs.View.{env_of, value_of};
 
 use crate::frame::{Control, Flow, Machine};
@@ -86,7 +86,7 @@ pub(crate) fn assign_to<'p>(
     target: &Expr,
     value: Value,
 ) -> Result<Control<'p>, Memory>
-    ensures { IfOk result (λ c. Goes m.new c (around_flow m.old (reverse m.old.frames) (then_do (assigned place (expr_of m.old.file target.now) (value_of value) (env_of m.old.env) (state_of m.old.session)) (λ u. give (on tt)))) (budget m.old 10)) }
+    ensures { GoesToFlow result m.new m.old (concluded (assigned place (expr_of m.old.file target.now) (value_of value) (env_of m.old.env))) }
 {
     match assign(
         alloc,
@@ -131,7 +131,7 @@ fn name_gets<'p>(
     name: &Text,
     value: Value,
 ) -> Result<Control<'p>, Memory>
-    ensures { IfOk result (λ c. Goes m.new c (around_flow m.old (reverse m.old.frames) (then_do (write_name place name.now (value_of value) (box_of name.now (env_of m.old.env)) (state_of m.old.session)) (λ u. give (on tt)))) (budget m.old 10)) }
+    ensures { GoesToFlow result m.new m.old (concluded (write_name place name.now (value_of value) (box_of name.now (env_of m.old.env)))) }
 {
     let position = find(m.env.as_slice(), name.as_str());
     match write(&mut m.session, place, name, position, value) {
@@ -152,7 +152,7 @@ pub(crate) fn augmented<'p>(
     old: &Value,
     value: &Value,
 ) -> Result<Control<'p>, Memory>
-    ensures { IfOk result (λ c. Goes m.new c (around_flow m.old (reverse m.old.frames) (then_do (augment_row place (binary_operator_of op) (value_of old.now) (value_of value.now) (state_of m.old.session)) (λ w s. then_do (write_name at name.now w (box_of name.now (env_of m.old.env)) s) (λ u. give (on tt))))) (budget m.old 10)) }
+    ensures { GoesToFlow result m.new m.old (λ s. then_do (augment_row place (binary_operator_of op) (value_of old.now) (value_of value.now) s) (λ w. concluded (write_name at name.now w (box_of name.now (env_of m.old.env))))) }
 {
     match augment(alloc, place, op, old, value, &mut m.session) {
         Ok(changed) => name_gets(m, at, name, changed),

@@ -151,7 +151,7 @@ pub(crate) fn values_from<'p>(
     members: &'p [Expr],
     values: Items<Value>,
 ) -> Result<Control<'p>, Memory>
-    ensures { IfOk result (λ c. Goes m.new c (around_value m.old (reverse m.old.frames) (then_do (values_so_far (exprs_of m.old.file members.now) (env_of m.old.env) (state_of m.old.session)) (λ ws. give (tuple_value (values_from (values_of values ++ ws)))))) (budget m.old 10)) }
+    ensures { GoesToValue result m.new m.old (λ s. then_do (values_so_far (exprs_of m.old.file members.now) (env_of m.old.env) s) (λ ws. give (tuple_value (values_from (values_of values ++ ws))))) }
 {
     match members.split_first() {
         Some((member, rest)) => push(

@@ -5,7 +5,7 @@ ghost use Rattle.star_spec.specs.Code as plain;
 ghost use Rattle.star_spec.specs.Outcomes.{then_do};
 ghost use Rattle.star_tree.specs.Whole.{binary_operator_of, expr_of};
 ghost use Rattle.star_machine.specs.declared.frame.Control.TheVariants as control;
-ghost use Rattle.star_machine.specs.Frames.{Goes, GoesToFlow, around_flow, budget, means, statement_goes, work};
+ghost use Rattle.star_machine.specs.Frames.{GoesToFlowBy, Goes, GoesToFlow, around_flow, budget, means, statement_goes, work};
 ghost use Rattle.star_machine.specs.Meets.{state_of};
 ghost use Rattle.star_machine.specs.Nested.{arms_of, op_of};
 ghost use Rattle.star_machine.specs.PartsSoFar.{arms_so_far, augmented, done_after, op_place, part_so_far};
@@ -59,7 +59,7 @@ pub(crate) fn run<'p>(
 }
 
 fn begin<'p>(alloc: Global, m: &mut Machine<'p>, op: &'p Op) -> Result<Control<'p>, Memory>
-    ensures { IfOk result (λ c. Goes m.new c (around_flow m.old (reverse m.old.frames) (part_so_far (op_of m.old.file op.now) (env_of m.old.env) tt (state_of m.old.session))) (budget m.old 1)) }
+    ensures { GoesToFlowBy 1 result m.new m.old (part_so_far (op_of m.old.file op.now) (env_of m.old.env) tt) }
 {
     let place = place_of(m.file, op);
     if m.session.steps == 0 {
@@ -110,7 +110,7 @@ fn within<'p>(
     frame: InStatement<'p>,
     expr: &'p Expr,
 ) -> Result<Control<'p>, Memory>
-    ensures { IfOk result (λ c. Goes m.new c (around_flow m.old (reverse m.old.frames) (then_do (value_so_far (expr_of m.old.file expr.now) (env_of m.old.env) (state_of m.old.session)) (statement_goes m.old.file (env_of m.old.env) frame.entry))) (budget m.old 10)) }
+    ensures { GoesToFlow result m.new m.old (λ s. then_do (value_so_far (expr_of m.old.file expr.now) (env_of m.old.env) s) (statement_goes m.old.file (env_of m.old.env) frame.entry)) }
 {
     push(m, Frame::Statement(frame), Control::Eval(expr))
 }

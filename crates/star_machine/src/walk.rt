@@ -3,7 +3,7 @@ ghost use Rattle.std.specs.Prelude.{◌≡◌, ◌∷◌, drop, reverse, IfOk, L
 ghost use Rattle.star_spec.specs.Flow.{next_turn, turns};
 ghost use Rattle.star_spec.specs.Outcomes.{then_do};
 ghost use Rattle.star_tree.specs.Whole.{expr_of};
-ghost use Rattle.star_machine.specs.Frames.{Goes, GoesToFlow, around_flow, budget, turn_of};
+ghost use Rattle.star_machine.specs.Frames.{GoesToFlow, GoesToFlowBy, turn_of, turns_from};
 ghost use Rattle.star_machine.specs.Meets.{state_of};
 ghost use Rattle.star_machine.specs.Nested.{ops_of};
 ghost use Rattle.star_machine.specs.PartsSoFar.{looped, parts_so_far};
@@ -52,7 +52,7 @@ pub(crate) fn turn<'p>(
     members: Rc<Items<Value>>,
     index: usize,
 ) -> Result<Control<'p>, Memory>
-    ensures { IfOk result (λ c. Goes m.new c (around_flow m.old (reverse m.old.frames) (turns place (turn_of m.old.file (env_of m.old.env) place target.now body.now) (values_of (drop index members.value)) tt (state_of m.old.session))) (budget m.old 7)) }
+    ensures { GoesToFlowBy 7 result m.new m.old (turns_from m.old.file (env_of m.old.env) place target.now body.now members.value index tt) }
 {
     let value = match members.get(index) {
         None => return Ok(Control::Went(Flow::On)),
@@ -76,7 +76,7 @@ fn one_turn<'p>(
     next: usize,
     value: Value,
 ) -> Result<Control<'p>, Memory>
-    ensures { IfOk result (λ c. Goes m.new c (around_flow m.old (reverse m.old.frames) (turns place (turn_of m.old.file (env_of m.old.env) place target.now body.now) (value_of value ∷ values_of (drop next members.value)) tt (state_of m.old.session))) (budget m.old 7)) }
+    ensures { GoesToFlowBy 7 result m.new m.old (turns place (turn_of m.old.file (env_of m.old.env) place target.now body.now) (value_of value ∷ values_of (drop next members.value)) tt) }
 {
     if m.session.steps == 0 {
         return Ok(left(alloc, FaultKind::Steps, place));
@@ -96,7 +96,7 @@ fn enter<'p>(
     next: usize,
     value: Value,
 ) -> Result<Control<'p>, Memory>
-    ensures { IfOk result (λ c. Goes m.new c (around_flow m.old (reverse m.old.frames) (then_do (turn_of m.old.file (env_of m.old.env) place target.now body.now (value_of value) tt (state_of m.old.session)) (next_turn (turns place (turn_of m.old.file (env_of m.old.env) place target.now body.now) (values_of (drop next members.value)))))) (budget m.old 11)) }
+    ensures { GoesToFlowBy 11 result m.new m.old (λ s. then_do (turn_of m.old.file (env_of m.old.env) place target.now body.now (value_of value) tt s) (next_turn (turns_from m.old.file (env_of m.old.env) place target.now body.now members.value next))) }
 {
     match assign(
         alloc,

@@ -1,7 +1,7 @@
 // What goes on from the end of a block, or from a fault.
 ghost use Rattle.std.specs.Prelude.{◌≡◌, ◌∷◌, [], reverse, IfOk, List};
 ghost use Rattle.star_machine.specs.declared.frame.Control.TheVariants as control;
-ghost use Rattle.star_machine.specs.Frames.{Goes, around_flow, block_goes, budget, flow_of, inside};
+ghost use Rattle.star_machine.specs.Frames.{Goes, GoesToFlowBy, block_goes, budget, flow_of, inside};
 ghost use Rattle.star_machine.specs.Meets.{state_of};
 ghost use Rattle.star_machine.specs.View.{env_of};
 
@@ -35,7 +35,7 @@ fn go_on<'p>(
     frame: InBlock<'p>,
     flow: Flow,
 ) -> Result<Control<'p>, Memory>
-    ensures { IfOk result (λ c. Goes m.new c (around_flow m.old (reverse m.old.frames) (block_goes m.old.file (env_of m.old.env) frame.entry (flow_of flow) (state_of m.old.session))) (budget m.old 7)) }
+    ensures { GoesToFlowBy 7 result m.new m.old (block_goes m.old.file (env_of m.old.env) frame.entry (flow_of flow)) }
 {
     match frame {
         InBlock::Rest(rest) => match flow {
