@@ -2,4 +2,5 @@ pub mod CallsKeep
 pub mod Computations
 pub mod EvalKeeps
 pub mod Keeping
+pub mod OperatorExamples
 pub mod RowsHeld

@@ -1,20 +1,25 @@
 -- Each row of the operators gives what the program holds where its operands are so.
-use Rattle.std.proofs.Common.{◌≡◌, ℤ, pos, negsuc, ℕ, zero, suc, ◌+◌, ◌*◌, Bool, true, List, [], ◌∷◌, ◌++◌, length, Option, Some, None, FitsSigned, IsUtf8, refl, ltb-true}
-use Rattle.std.specs.Int.{w128}
+use Rattle.std.proofs.Common.{◌≡◌, ℤ, pos, negsuc, ℕ, zero, suc, ◌+◌, ◌*◌, nat_lt, ◌==◌, Bool, true, false, not, if◌then◌else◌, List, [], ◌∷◌, ◌++◌, length, Option, Some, None, FitsSigned, IsUtf8, refl, ltb-true}
+use Rattle.std.specs.Int.{w128, int_bit_and, int_bit_or, int_bit_xor}
 use Rattle.std.specs.Prelude.{neg_ℤ, ◌+ℤ◌, ◌-ℤ◌, ◌*ℤ◌}
+use Rattle.std.proofs.Math.Facts.{Fits-and, Fits-of_z, Fits-or, Fits-xor, sfits_to_z}
 use Rattle.std.proofs.lemmas.Str.{IsUtf8-nil, IsUtf8-append}
 use Rattle.ytt_base.specs.declared.fault.Place.{Place}
+use Rattle.ytt_base.specs.Trees.{max_depth}
 use Rattle.ytt_base.specs.declared.fault.FaultKind.{FaultKind}
 use Rattle.ytt_base.specs.declared.fault.FaultKind.TheVariants as kind
 use Rattle.star_spec.specs.Code.{UnaryOperator, negation, positive, inversion, logical_not, BinaryOperator, addition, subtraction, multiplication, floor_division, remainder, bit_and, bit_or, bit_xor, shift_left, shift_right, equal, unequal, less, greater, at_most, at_least, contained, not_contained}
-use Rattle.star_spec.specs.Held.{HeldValue}
+use Rattle.star_spec.specs.Equality.{kind_number, equal_texts, equal_pairs, equal_by, equal_within, equality, among}
+use Rattle.star_spec.specs.Held.{HeldValue, HeldValues, HeldList}
 use Rattle.star_spec.specs.Keys.{text_cost}
-use Rattle.star_spec.specs.Members.{as_int, as_text}
-use Rattle.star_spec.specs.Numbers.{at_least_zero, fits, floor_quotient, is_zero}
-use Rattle.star_spec.specs.Operators.{if_one, if_both, int_of, copies, repeated, join_texts, repeat_text, unary_row, sum_row, difference_row, product_row, quotient_row, binary_row}
+use Rattle.star_spec.specs.Members.{as_int, as_text, as_tuple, truth_in}
+use Rattle.star_spec.specs.Numbers.{at_least_zero, fits, complement, floor_quotient, floor_remainder, is_negative, is_zero, shifted_left, shifted_right}
+use Rattle.star_spec.specs.Operators.{if_one, if_both, int_of, copies, repeated, tuple_of, cost_in, not_row, join_texts, join_tuples, repeat_text, repeat_tuple, repeat_row, unary_row, sum_row, difference_row, product_row, divided, bits_row, shifted, shift_row, is_part, part_of_text, contained_in, answered, denied, compared, binary_row}
+use Rattle.star_spec.specs.Order.{Comparison, is_below, is_above, rank, are_comparable, each_sized, sized_by, sized_within, sized, order, comparison}
 use Rattle.star_spec.specs.Outcomes.{Computation, give, fail}
-use Rattle.star_spec.specs.Values.{Value, int_value, text_value}
-use Rattle.star_spec.proofs.Keeping.{Keeps, keeps_give, keeps_fail, keeps_paid, keeps_if}
+use Rattle.star_spec.specs.Store.{list_at}
+use Rattle.star_spec.specs.Values.{Value, none_value, bool_value, int_value, text_value, tuple_value, list_value, Values, no_values, a_value, values_in, values_from}
+use Rattle.star_spec.proofs.Keeping.{Keeps, Anything, keeps_then, keeps_give, keeps_fail, keeps_need, keeps_paid, keeps_steps, keeps_if, keeps_reads}
 
 -- ---- what is read of operands
 
@@ -35,6 +40,19 @@ text_held : (v : Value) (t : List ℕ) → as_text v ≡ Some t → HeldValue v 
 text_held (text_value a) t e h = let same : a ≡ t = cc in rw (← same) h
 text_held _ t e h = cc
 
+-- the members of a tuple, and a tuple of members
+members_of_held : (vs : Values) → HeldValues vs → HeldList (values_in vs)
+members_of_held no_values h = tt
+members_of_held (a_value v vs) h = (h.0, members_of_held vs h.1)
+
+from_members_held : (vs : List Value) → HeldList vs → HeldValues (values_from vs)
+from_members_held [] h = tt
+from_members_held (v ∷ vs) h = (h.0, from_members_held vs h.1)
+
+members_held : (v : Value) (vs : List Value) → as_tuple v ≡ Some vs → HeldValue v → HeldList vs
+members_held (tuple_value ws) vs e h = let same : values_in ws ≡ vs = cc in rw (← same) (members_of_held ws h)
+members_held _ vs e h = cc
+
 -- ---- integers and texts
 
 fits_signed : (z : ℤ) → fits z ≡ true → FitsSigned w128 z
@@ -46,6 +64,19 @@ refused k p = keeps_fail k p []
 
 int_of_held : {H : Type 0} (p : Place) (z : ℤ) → Keeps {H = H} HeldValue (int_of p z)
 int_of_held p z = keeps_if (fits z) (λ h. keeps_give (int_value z) (fits_signed z h)) (λ h. refused kind.IntOverflow p)
+
+complement_fits : (z : ℤ) → FitsSigned w128 z → FitsSigned w128 (complement z)
+complement_fits (pos n) h = record { sfits = h.sfits }
+complement_fits (negsuc n) h = record { sfits = h.sfits }
+
+and_fits : (x y : ℤ) → FitsSigned w128 x → FitsSigned w128 y → FitsSigned w128 (int_bit_and w128 x y)
+and_fits x y f g = sfits_to_z (Fits-and _ (Fits-of_z f))
+
+or_fits : (x y : ℤ) → FitsSigned w128 x → FitsSigned w128 y → FitsSigned w128 (int_bit_or w128 x y)
+or_fits x y f g = sfits_to_z (Fits-or (Fits-of_z f) (Fits-of_z g))
+
+xor_fits : (x y : ℤ) → FitsSigned w128 x → FitsSigned w128 y → FitsSigned w128 (int_bit_xor w128 x y)
+xor_fits x y f g = sfits_to_z (Fits-xor (Fits-of_z f) (Fits-of_z g))
 
 copies_utf8 : (n : ℕ) (t : List ℕ) → IsUtf8 t → IsUtf8 (copies n t)
 copies_utf8 zero t h = IsUtf8-nil
@@ -61,36 +92,168 @@ joined_held p a b h k = keeps_paid (text_cost (2 * (length a + length b))) p (ke
 repeated_held : {H : Type 0} (p : Place) (t : List ℕ) (z : ℤ) → IsUtf8 t → Keeps {H = H} HeldValue (repeat_text p t z)
 repeated_held p t z h = keeps_paid (text_cost (length t * (1 + at_least_zero z))) p (keeps_give (text_value (repeated (at_least_zero z) t)) (repeated_utf8 (at_least_zero z) t h))
 
+-- ---- tuples
+
+joined_members : (vs ws : List Value) → HeldList vs → HeldList ws → HeldList (vs ++ ws)
+joined_members [] ws h k = k
+joined_members (v ∷ vs) ws h k = (h.0, joined_members vs ws h.1 k)
+
+copies_members : (n : ℕ) (vs : List Value) → HeldList vs → HeldList (copies n vs)
+copies_members zero vs h = tt
+copies_members (suc n) vs h = joined_members vs (copies n vs) h (copies_members n vs h)
+
+repeated_members : (n : ℕ) (vs : List Value) → HeldList vs → HeldList (repeated n vs)
+repeated_members n [] h = h
+repeated_members n (v ∷ vs) h = copies_members n (v ∷ vs) h
+
+tuples_held : {H : Type 0} (p : Place) (vs ws : List Value) → HeldList vs → HeldList ws → Keeps {H = H} HeldValue (join_tuples p vs ws)
+tuples_held p vs ws h k = keeps_paid (2 * (length vs + length ws)) p (keeps_give (tuple_of (vs ++ ws)) (from_members_held (vs ++ ws) (joined_members vs ws h k)))
+
+tuple_repeated_held : {H : Type 0} (p : Place) (vs : List Value) (z : ℤ) → HeldList vs → Keeps {H = H} HeldValue (repeat_tuple p vs z)
+tuple_repeated_held p vs z h =
+    keeps_paid (length vs * (1 + at_least_zero z)) p (keeps_give (tuple_of (repeated (at_least_zero z) vs)) (from_members_held (repeated (at_least_zero z) vs) (repeated_members (at_least_zero z) vs h)))
+
 -- ---- rows
+
+not_held : {H : Type 0} (p : Place) (v : Value) → Keeps {H = H} HeldValue (not_row p v)
+not_held p v =
+    keeps_then {P = Anything} (keeps_reads (λ store. cost_in store v) (λ store h. tt))
+    (λ n u. keeps_paid n p (keeps_then {P = Anything} (keeps_reads (λ store. truth_in store v) (λ store h. tt)) (λ holds g. keeps_give (bool_value (not holds)) tt)))
 
 pub unary_held : {H : Type 0} (p : Place) (o : UnaryOperator) (v : Value) → HeldValue v → Keeps {H = H} HeldValue (unary_row p o v)
 unary_held p negation v h = keeps_one HeldValue (as_int v) (λ z. int_of p (neg_ℤ z)) (fail kind.ValueKind p) (λ z e. int_of_held p (neg_ℤ z)) (refused kind.ValueKind p)
 unary_held p positive v h = keeps_one HeldValue (as_int v) (λ z. give (int_value z)) (fail kind.ValueKind p) (λ z e. keeps_give (int_value z) (int_held v z e h)) (refused kind.ValueKind p)
-unary_held p inversion v h = refused kind.NotBuilt p
-unary_held p logical_not v h = refused kind.NotBuilt p
+unary_held p inversion v h =
+    keeps_one HeldValue (as_int v) (λ z. give (int_value (complement z))) (fail kind.ValueKind p)
+    (λ z e. keeps_give (int_value (complement z)) (complement_fits z (int_held v z e h))) (refused kind.ValueKind p)
+unary_held p logical_not v h = not_held p v
 
 sum_held : {H : Type 0} (p : Place) (a b : Value) → HeldValue a → HeldValue b → Keeps {H = H} HeldValue (sum_row p a b)
 sum_held p a b h k =
     keeps_both HeldValue (as_int a) (as_int b) (λ x y. int_of p (x +ℤ y)) _ (λ x y e f. int_of_held p (x +ℤ y))
-    (keeps_both HeldValue (as_text a) (as_text b) (join_texts p) (fail kind.ValueKind p) (λ x y e f. joined_held p x y (text_held a x e h) (text_held b y f k)) (refused kind.ValueKind p))
+    (keeps_both HeldValue (as_text a) (as_text b) (join_texts p) _ (λ x y e f. joined_held p x y (text_held a x e h) (text_held b y f k))
+    (keeps_both HeldValue (as_tuple a) (as_tuple b) (join_tuples p) (fail kind.ValueKind p) (λ x y e f. tuples_held p x y (members_held a x e h) (members_held b y f k)) (refused kind.ValueKind p)))
 
 difference_held : {H : Type 0} (p : Place) (a b : Value) → Keeps {H = H} HeldValue (difference_row p a b)
 difference_held p a b = keeps_both HeldValue (as_int a) (as_int b) (λ x y. int_of p (x -ℤ y)) (fail kind.ValueKind p) (λ x y e f. int_of_held p (x -ℤ y)) (refused kind.ValueKind p)
 
+repeat_held : {H : Type 0} (p : Place) (a b : Value) → HeldValue a → Keeps {H = H} HeldValue (repeat_row p a b)
+repeat_held p a b h =
+    keeps_both HeldValue (as_text a) (as_int b) (repeat_text p) _ (λ x y e f. repeated_held p x y (text_held a x e h))
+    (keeps_both HeldValue (as_tuple a) (as_int b) (repeat_tuple p) (fail kind.ValueKind p) (λ x y e f. tuple_repeated_held p x y (members_held a x e h)) (refused kind.ValueKind p))
+
 product_held : {H : Type 0} (p : Place) (a b : Value) → HeldValue a → HeldValue b → Keeps {H = H} HeldValue (product_row p a b)
 product_held p a b h k =
     keeps_both HeldValue (as_int a) (as_int b) (λ x y. int_of p (x *ℤ y)) _ (λ x y e f. int_of_held p (x *ℤ y))
-    (keeps_both HeldValue (as_text a) (as_int b) (repeat_text p) _ (λ x y e f. repeated_held p x y (text_held a x e h))
-    (keeps_both HeldValue (as_text b) (as_int a) (repeat_text p) (fail kind.ValueKind p) (λ x y e f. repeated_held p x y (text_held b x e k)) (refused kind.ValueKind p)))
+    (keeps_both HeldValue (as_text b) (as_int a) (repeat_text p) _ (λ x y e f. repeated_held p x y (text_held b x e k))
+    (keeps_both HeldValue (as_tuple b) (as_int a) (repeat_tuple p) (repeat_row p a b) (λ x y e f. tuple_repeated_held p x y (members_held b x e k)) (repeat_held p a b h)))
 
-quotient_held : {H : Type 0} (p : Place) (a b : Value) → Keeps {H = H} HeldValue (quotient_row p a b)
-quotient_held p a b =
-    keeps_both HeldValue (as_int a) (as_int b) _ (fail kind.ValueKind p)
-    (λ x y e f. keeps_if (is_zero y) (λ g. refused kind.DivideZero p) (λ g. int_of_held p (floor_quotient x y))) (refused kind.ValueKind p)
+divided_held : {H : Type 0} (f : ℤ → ℤ → ℤ) (p : Place) (a b : Value) → Keeps {H = H} HeldValue (if_both (as_int a) (as_int b) (divided f p) (fail kind.ValueKind p))
+divided_held f p a b =
+    keeps_both HeldValue (as_int a) (as_int b) (divided f p) (fail kind.ValueKind p)
+    (λ x y e g. keeps_if (is_zero y) (λ h. refused kind.DivideZero p) (λ h. int_of_held p (f x y))) (refused kind.ValueKind p)
+
+bits_held : {H : Type 0} (f : ℤ → ℤ → ℤ) (p : Place) (a b : Value) → HeldValue a → HeldValue b → ((x y : ℤ) → FitsSigned w128 x → FitsSigned w128 y → FitsSigned w128 (f x y)) → Keeps {H = H} HeldValue (bits_row f p a b)
+bits_held f p a b h k fits =
+    keeps_both HeldValue (as_int a) (as_int b) (λ x y. give (int_value (f x y))) (fail kind.ValueKind p)
+    (λ x y e g. keeps_give (int_value (f x y)) (fits x y (int_held a x e h) (int_held b y g k))) (refused kind.ValueKind p)
+
+shift_held : {H : Type 0} (f : ℤ → ℕ → ℤ) (p : Place) (a b : Value) → Keeps {H = H} HeldValue (shift_row f p a b)
+shift_held f p a b =
+    keeps_both HeldValue (as_int a) (as_int b) (shifted f p) (fail kind.ValueKind p)
+    (λ x y e g. keeps_if (is_negative y) (λ h. refused kind.ValueKind p) (λ h. int_of_held p (f x (at_least_zero y)))) (refused kind.ValueKind p)
+
+-- ---- equality, order, `in`
+
+equal_texts_keep : {H : Type 0} (p : Place) (a b : List ℕ) → Keeps {H = H} Anything (equal_texts p a b)
+equal_texts_keep p a b = keeps_paid _ p (keeps_give _ tt)
+
+pairs_keep : {H : Type 0} (eq : Value → Value → Computation H Bool) (p : Place) (vs ws : List Value) → ((v w : Value) → Keeps Anything (eq v w)) → Keeps Anything (equal_pairs eq p vs ws)
+pairs_keep eq p (v ∷ vs) (w ∷ ws) h =
+    keeps_then {P = Anything} (keeps_paid 1 p (h v w)) (λ same u. keeps_if same (λ e. pairs_keep eq p vs ws h) (λ e. keeps_give false tt))
+pairs_keep eq p [] ws h = keeps_give true tt
+pairs_keep eq p (v ∷ vs) [] h = keeps_give true tt
+
+alike_keep : {H : Type 0} (p : Place) (b : Bool) → Keeps {H = H} Anything (if b then fail kind.NotBuilt p else give false)
+alike_keep p b = keeps_if b (λ e. keeps_fail kind.NotBuilt p []) (λ e. keeps_give false tt)
+
+equal_keeps : {H : Type 0} (within : List Value → List Value → Computation H Bool) (p : Place) (a b : Value) → ((vs ws : List Value) → Keeps Anything (within vs ws)) → Keeps Anything (equal_by within p a b)
+equal_keeps within p none_value none_value h = keeps_give true tt
+equal_keeps within p (bool_value a) (bool_value b) h = keeps_give _ tt
+equal_keeps within p (int_value a) (int_value b) h = keeps_give _ tt
+equal_keeps within p (text_value a) (text_value b) h = equal_texts_keep p a b
+equal_keeps within p (tuple_value vs) (tuple_value ws) h = h (values_in vs) (values_in ws)
+equal_keeps within p (list_value a) (list_value b) h =
+    keeps_then {P = Anything} (keeps_reads (list_at a) (λ store g. tt)) (λ vs u. keeps_then {P = Anything} (keeps_reads (list_at b) (λ store g. tt)) (λ ws w. h vs ws))
+equal_keeps within p a b h = alike_keep p (kind_number a == kind_number b)
+
+within_keeps : {H : Type 0} (levels : ℕ) (p : Place) (vs ws : List Value) → Keeps {H = H} Anything (equal_within levels p vs ws)
+within_keeps zero p vs ws = keeps_fail kind.TooDeep p []
+within_keeps (suc n) p vs ws =
+    keeps_if (length vs == length ws) (λ e. pairs_keep (equal_by (equal_within n p) p) p vs ws (λ v w. equal_keeps (equal_within n p) p v w (within_keeps n p))) (λ e. keeps_give false tt)
+
+equality_keeps : {H : Type 0} (p : Place) (a b : Value) → Keeps {H = H} Anything (equality p a b)
+equality_keeps p a b = equal_keeps (equal_within max_depth p) p a b (within_keeps max_depth p)
+
+among_keeps : {H : Type 0} (p : Place) (v : Value) (vs : List Value) → Keeps {H = H} Anything (among p v vs)
+among_keeps p v [] = keeps_give false tt
+among_keeps p v (w ∷ ws) = keeps_then {P = Anything} (keeps_paid 1 p (equality_keeps p w v)) (λ same u. keeps_if same (λ e. keeps_give true tt) (λ e. among_keeps p v ws))
+
+each_keeps : {H : Type 0} (sized : Value → Computation H (Unit {0})) (p : Place) (vs : List Value) → ((v : Value) → Keeps Anything (sized v)) → Keeps Anything (each_sized sized p vs)
+each_keeps sized p [] h = keeps_give tt tt
+each_keeps sized p (v ∷ vs) h = keeps_then {P = Anything} (keeps_paid 1 p (h v)) (λ u w. each_keeps sized p vs h)
+
+size_keeps : {H : Type 0} (within : List Value → Computation H (Unit {0})) (p : Place) (v : Value) → ((vs : List Value) → Keeps Anything (within vs)) → Keeps Anything (sized_by within p v)
+size_keeps within p (text_value t) h = keeps_steps (text_cost (length t)) p
+size_keeps within p (tuple_value vs) h = h (values_in vs)
+size_keeps within p (list_value r) h = keeps_then {P = Anything} (keeps_reads (list_at r) (λ store g. tt)) (λ vs u. h vs)
+size_keeps within p v h = keeps_need kind.ValueKind p (nat_lt (rank v) 6)
+
+sizes_keep : {H : Type 0} (levels : ℕ) (p : Place) (vs : List Value) → Keeps {H = H} Anything (sized_within levels p vs)
+sizes_keep zero p vs = keeps_fail kind.TooDeep p []
+sizes_keep (suc n) p vs = each_keeps (sized_by (sized_within n p) p) p vs (λ v. size_keeps (sized_within n p) p v (sizes_keep n p))
+
+sized_keeps : {H : Type 0} (p : Place) (v : Value) → Keeps {H = H} Anything (sized p v)
+sized_keeps p v = size_keeps (sized_within max_depth p) p v (sizes_keep max_depth p)
+
+comparison_keeps : {H : Type 0} (p : Place) (a b : Value) → Keeps {H = H} Anything (comparison p a b)
+comparison_keeps p a b =
+    keeps_then {P = Anything} (keeps_need kind.ValueKind p (are_comparable a b)) (λ u w.
+    keeps_then {P = Anything} (sized_keeps p a) (λ u w.
+    keeps_then {P = Anything} (sized_keeps p b) (λ u w. keeps_reads (λ store. order store a b) (λ store g. tt))))
+
+contained_keeps : {H : Type 0} (p : Place) (v whole : Value) → Keeps {H = H} Anything (contained_in p v whole)
+contained_keeps p v whole =
+    keeps_both Anything (as_text v) (as_text whole) (part_of_text p) _ (λ x t e f. keeps_paid (text_cost (length x + length t)) p (keeps_give (is_part x t) tt))
+    (keeps_one Anything (as_tuple whole) (among p v) (fail kind.ValueKind p) (λ vs e. among_keeps p v vs) (keeps_fail kind.ValueKind p []))
+
+answered_held : {H : Type 0} (m : Computation H Bool) → Keeps Anything m → Keeps HeldValue (answered m)
+answered_held m h = keeps_then {P = Anything} h (λ b u. keeps_give (bool_value b) tt)
+
+denied_held : {H : Type 0} (m : Computation H Bool) → Keeps Anything m → Keeps HeldValue (denied m)
+denied_held m h = keeps_then {P = Anything} h (λ b u. keeps_give (bool_value (not b)) tt)
+
+compared_held : {H : Type 0} (test : Comparison → Bool) (m : Computation H Comparison) → Keeps Anything m → Keeps HeldValue (compared test m)
+compared_held test m h = keeps_then {P = Anything} h (λ c u. keeps_give (bool_value (test c)) tt)
+
+-- ---- all of them
 
 pub binary_held : {H : Type 0} (p : Place) (o : BinaryOperator) (a b : Value) → HeldValue a → HeldValue b → Keeps {H = H} HeldValue (binary_row p o a b)
 binary_held p addition a b h k = sum_held p a b h k
 binary_held p subtraction a b h k = difference_held p a b
 binary_held p multiplication a b h k = product_held p a b h k
-binary_held p floor_division a b h k = quotient_held p a b
-binary_held p _ a b h k = refused kind.NotBuilt p
+binary_held p floor_division a b h k = divided_held floor_quotient p a b
+binary_held p remainder a b h k = divided_held floor_remainder p a b
+binary_held p bit_and a b h k = bits_held (int_bit_and w128) p a b h k and_fits
+binary_held p bit_or a b h k = bits_held (int_bit_or w128) p a b h k or_fits
+binary_held p bit_xor a b h k = bits_held (int_bit_xor w128) p a b h k xor_fits
+binary_held p shift_left a b h k = shift_held shifted_left p a b
+binary_held p shift_right a b h k = shift_held shifted_right p a b
+binary_held p equal a b h k = answered_held (equality p a b) (equality_keeps p a b)
+binary_held p unequal a b h k = denied_held (equality p a b) (equality_keeps p a b)
+binary_held p less a b h k = compared_held is_below (comparison p a b) (comparison_keeps p a b)
+binary_held p greater a b h k = compared_held is_above (comparison p a b) (comparison_keeps p a b)
+binary_held p at_most a b h k = compared_held (λ c. not (is_above c)) (comparison p a b) (comparison_keeps p a b)
+binary_held p at_least a b h k = compared_held (λ c. not (is_below c)) (comparison p a b) (comparison_keeps p a b)
+binary_held p contained a b h k = answered_held (contained_in p a b) (contained_keeps p a b)
+binary_held p not_contained a b h k = denied_held (contained_in p a b) (contained_keeps p a b)

@@ -4,6 +4,7 @@ pub mod Blocks
 pub mod Calls
 pub mod Code
 pub mod CodeReading
+pub mod Equality
 pub mod Eval
 pub mod Flow
 pub mod Held
@@ -15,6 +16,7 @@ pub mod Names
 pub mod Numbering
 pub mod Numbers
 pub mod Operators
+pub mod Order
 pub mod Outcomes
 pub mod Program
 pub mod Reading

@@ -14,6 +14,10 @@ abbrev pub as_text : Value → Option (List ℕ)
 as_text (text_value t) = Some t
 as_text _ = None
 
+abbrev pub as_tuple : Value → Option (List Value)
+as_tuple (tuple_value vs) = Some (values_in vs)
+as_tuple _ = None
+
 -- ---- members
 
 abbrev pub keys_in : List (Value × Value) → List Value
@@ -33,6 +37,14 @@ abbrev pub walked_in : Value → Option ℕ
 walked_in (list_value r) = Some r
 walked_in (dict_value r) = Some r
 walked_in _ = None
+
+-- how many members a value has; 0 where it has none to have
+abbrev pub count_in : Store → Value → ℕ
+count_in store (tuple_value vs) = length (values_in vs)
+count_in store (list_value r) = length (list_at r store)
+count_in store (dict_value r) = length (pairs_at r store)
+count_in store (range_value start stop step) = range_count start stop step
+count_in store _ = 0
 
 -- ---- truth
 

@@ -1,5 +1,5 @@
 -- Integers of 128 bits, and the numbers of ranges.
-use Rattle.std.specs.Prelude.{ℕ, zero, suc, ◌+◌, ◌-◌, ◌/◌, ◌^◌, ℤ, pos, negsuc, neg_ℤ, ◌+ℤ◌, ◌-ℤ◌, Bool, false, nat_lt, ◌==◌, List, [], ◌∷◌}
+use Rattle.std.specs.Prelude.{ℕ, zero, suc, ◌+◌, ◌-◌, ◌/◌, ◌^◌, ℤ, pos, negsuc, neg_ℤ, ◌+ℤ◌, ◌-ℤ◌, ◌*ℤ◌, Bool, true, false, nat_lt, ◌==◌, List, [], ◌∷◌}
 
 -- the integer has 128 bits
 abbrev pub fits : ℤ → Bool
@@ -9,6 +9,10 @@ fits (negsuc n) = nat_lt n (2 ^ 127)
 abbrev pub is_zero : ℤ → Bool
 is_zero (pos n) = n == 0
 is_zero (negsuc n) = false
+
+abbrev pub is_negative : ℤ → Bool
+is_negative (pos n) = false
+is_negative (negsuc n) = true
 
 -- the number, or 0 for one below
 abbrev pub at_least_zero : ℤ → ℕ
@@ -21,6 +25,23 @@ floor_quotient (pos a) (pos b) = pos (a / b)
 floor_quotient (pos a) (negsuc b) = neg_ℤ (pos ((a + b) / suc b))
 floor_quotient (negsuc a) (pos b) = negsuc (a / b)
 floor_quotient (negsuc a) (negsuc b) = pos (suc a / suc b)
+
+-- what the quotient leaves, which has the divisor's sign
+abbrev pub floor_remainder : ℤ → ℤ → ℤ
+floor_remainder a b = a -ℤ (b *ℤ floor_quotient a b)
+
+-- each bit turned round
+abbrev pub complement : ℤ → ℤ
+complement (pos n) = negsuc n
+complement (negsuc n) = pos n
+
+-- the number doubled so many times
+abbrev pub shifted_left : ℤ → ℕ → ℤ
+shifted_left z n = z *ℤ pos (2 ^ n)
+
+-- the number halved so many times, each half rounded down
+abbrev pub shifted_right : ℤ → ℕ → ℤ
+shifted_right z n = floor_quotient z (pos (2 ^ n))
 
 -- ---- ranges
 

@@ -1,0 +1,9 @@
+pub mod ByKinds
+pub mod Copies
+pub mod Floor
+pub mod Meeting
+pub mod Parts
+pub mod Passing
+pub mod Shifts
+pub mod Tuples
+pub mod Views

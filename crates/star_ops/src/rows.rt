@@ -1,0 +1,205 @@
+// Each operator's row.
+ghost use Rattle.std.specs.Prelude.{◌≡◌, not};
+ghost use Rattle.star_spec.specs.Operators.{answered, binary_row, compared, denied, not_row, unary_row};
+ghost use Rattle.star_spec.specs.Order.{is_above, is_below};
+ghost use Rattle.star_ops.specs.Alike.{comparing, is_at_least, is_at_most, same, within};
+ghost use Rattle.star_ops.specs.Meets.{Meets, state_of};
+ghost use Rattle.star_ops.specs.Acts.{binary_operator_of, unary_operator_of};
+ghost use Rattle.star_ops.specs.View.{comparison_of, value_of};
+
+use crate::equality::equals;
+use crate::membership::is_in;
+use crate::numbers::{inverse, negative, on_integers, positive};
+use crate::operators::{BinaryOp, IntegerOp, UnaryOp};
+use crate::order::compare;
+use crate::steps::pay;
+use crate::sums::{add, multiply};
+use crate::value::{Value, truth, turning_cost};
+use std::alloc::Global;
+use std::cmp::Ordering;
+use ytt_base::fault::{Place, Stop};
+
+/// What an operator before its operand gives, each refusal at the operator's place: `ValueKind`, `IntOverflow`,
+/// and `Steps` of `not`. Of the steps those are taken that it takes.
+pub fn unary(
+    alloc: Global,
+    place: Place,
+    op: UnaryOp,
+    operand: &Value,
+    steps: &mut u64,
+) -> Result<Value, Stop>
+    ensures { Meets value_of result (state_of steps.new) (unary_row place (unary_operator_of op) (value_of operand.now) (state_of steps.old)) }
+{
+    match op {
+        UnaryOp::Minus => negative(alloc, place, operand),
+        UnaryOp::Plus => positive(alloc, place, operand),
+        UnaryOp::Invert => inverse(alloc, place, operand),
+        UnaryOp::Not => not_true(alloc, place, operand, steps),
+    }
+}
+
+fn not_true(alloc: Global, place: Place, operand: &Value, steps: &mut u64) -> Result<Value, Stop>
+    ensures { Meets value_of result (state_of steps.new) (not_row place (value_of operand.now) (state_of steps.old)) }
+{
+    pay(alloc, place, turning_cost(operand), steps)?;
+    Ok(Value::Bool(!truth(operand)))
+}
+
+/// What an operator between its operands gives, each refusal at the operator's place: `ValueKind`,
+/// `IntOverflow`, `DivideZero`, `TooDeep` where tuples nest too deep, and `Steps`. Of the steps those are taken
+/// that it takes.
+pub fn binary(
+    alloc: Global,
+    place: Place,
+    op: BinaryOp,
+    left: &Value,
+    right: &Value,
+    steps: &mut u64,
+) -> Result<Value, Stop>
+    ensures { Meets value_of result (state_of steps.new) (binary_row place (binary_operator_of op) (value_of left.now) (value_of right.now) (state_of steps.old)) }
+{
+    match op {
+        BinaryOp::Add => add(alloc, place, left, right, steps),
+        BinaryOp::Multiply => multiply(alloc, place, left, right, steps),
+        BinaryOp::Subtract => on_integers(alloc, place, IntegerOp::Subtract, left, right),
+        BinaryOp::FloorDivide => on_integers(alloc, place, IntegerOp::FloorDivide, left, right),
+        BinaryOp::Remainder => on_integers(alloc, place, IntegerOp::Remainder, left, right),
+        BinaryOp::BitAnd => on_integers(alloc, place, IntegerOp::BitAnd, left, right),
+        BinaryOp::BitOr => on_integers(alloc, place, IntegerOp::BitOr, left, right),
+        BinaryOp::BitXor => on_integers(alloc, place, IntegerOp::BitXor, left, right),
+        BinaryOp::ShiftLeft => on_integers(alloc, place, IntegerOp::ShiftLeft, left, right),
+        BinaryOp::ShiftRight => on_integers(alloc, place, IntegerOp::ShiftRight, left, right),
+        BinaryOp::Equal => equal_row(alloc, place, left, right, steps),
+        BinaryOp::Unequal => unequal_row(alloc, place, left, right, steps),
+        BinaryOp::Less => less_row(alloc, place, left, right, steps),
+        BinaryOp::Greater => greater_row(alloc, place, left, right, steps),
+        BinaryOp::AtMost => at_most_row(alloc, place, left, right, steps),
+        BinaryOp::AtLeast => at_least_row(alloc, place, left, right, steps),
+        BinaryOp::In => in_row(alloc, place, left, right, steps),
+        BinaryOp::NotIn => not_in_row(alloc, place, left, right, steps),
+    }
+}
+
+fn equal_row(
+    alloc: Global,
+    place: Place,
+    left: &Value,
+    right: &Value,
+    steps: &mut u64,
+) -> Result<Value, Stop>
+    ensures { Meets value_of result (state_of steps.new) (answered (same place (value_of left.now) (value_of right.now)) (state_of steps.old)) }
+{
+    let holds = equals(alloc, place, left, right, steps)?;
+    Ok(Value::Bool(holds))
+}
+
+fn unequal_row(
+    alloc: Global,
+    place: Place,
+    left: &Value,
+    right: &Value,
+    steps: &mut u64,
+) -> Result<Value, Stop>
+    ensures { Meets value_of result (state_of steps.new) (denied (same place (value_of left.now) (value_of right.now)) (state_of steps.old)) }
+{
+    let holds = equals(alloc, place, left, right, steps)?;
+    Ok(Value::Bool(!holds))
+}
+
+fn less_row(
+    alloc: Global,
+    place: Place,
+    left: &Value,
+    right: &Value,
+    steps: &mut u64,
+) -> Result<Value, Stop>
+    ensures { Meets value_of result (state_of steps.new) (compared is_below (comparing place (value_of left.now) (value_of right.now)) (state_of steps.old)) }
+{
+    let order = compare(alloc, place, left, right, steps)?;
+    Ok(Value::Bool(is_less(order)))
+}
+
+fn greater_row(
+    alloc: Global,
+    place: Place,
+    left: &Value,
+    right: &Value,
+    steps: &mut u64,
+) -> Result<Value, Stop>
+    ensures { Meets value_of result (state_of steps.new) (compared is_above (comparing place (value_of left.now) (value_of right.now)) (state_of steps.old)) }
+{
+    let order = compare(alloc, place, left, right, steps)?;
+    Ok(Value::Bool(is_greater(order)))
+}
+
+fn at_most_row(
+    alloc: Global,
+    place: Place,
+    left: &Value,
+    right: &Value,
+    steps: &mut u64,
+) -> Result<Value, Stop>
+    ensures { Meets value_of result (state_of steps.new) (compared is_at_most (comparing place (value_of left.now) (value_of right.now)) (state_of steps.old)) }
+{
+    let order = compare(alloc, place, left, right, steps)?;
+    Ok(Value::Bool(!is_greater(order)))
+}
+
+fn at_least_row(
+    alloc: Global,
+    place: Place,
+    left: &Value,
+    right: &Value,
+    steps: &mut u64,
+) -> Result<Value, Stop>
+    ensures { Meets value_of result (state_of steps.new) (compared is_at_least (comparing place (value_of left.now) (value_of right.now)) (state_of steps.old)) }
+{
+    let order = compare(alloc, place, left, right, steps)?;
+    Ok(Value::Bool(!is_less(order)))
+}
+
+fn in_row(
+    alloc: Global,
+    place: Place,
+    left: &Value,
+    right: &Value,
+    steps: &mut u64,
+) -> Result<Value, Stop>
+    ensures { Meets value_of result (state_of steps.new) (answered (within place (value_of left.now) (value_of right.now)) (state_of steps.old)) }
+{
+    let holds = is_in(alloc, place, left, right, steps)?;
+    Ok(Value::Bool(holds))
+}
+
+fn not_in_row(
+    alloc: Global,
+    place: Place,
+    left: &Value,
+    right: &Value,
+    steps: &mut u64,
+) -> Result<Value, Stop>
+    ensures { Meets value_of result (state_of steps.new) (denied (within place (value_of left.now) (value_of right.now)) (state_of steps.old)) }
+{
+    let holds = is_in(alloc, place, left, right, steps)?;
+    Ok(Value::Bool(!holds))
+}
+
+fn is_less(order: Ordering) -> bool
+    ensures { result ≡ is_below (comparison_of order) }
+{
+    match order {
+        Ordering::Less => true,
+        Ordering::Equal => false,
+        Ordering::Greater => false,
+    }
+}
+
+fn is_greater(order: Ordering) -> bool
+    ensures { result ≡ is_above (comparison_of order) }
+{
+    match order {
+        Ordering::Less => false,
+        Ordering::Equal => false,
+        Ordering::Greater => true,
+    }
+}
