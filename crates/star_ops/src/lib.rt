@@ -13,6 +13,5 @@ mod steps;
 mod sums;
 mod value;
 
-pub use operators::{BinaryOp, UnaryOp};
 pub use rows::{binary, unary};
 pub use value::{Value, Values, truth};
