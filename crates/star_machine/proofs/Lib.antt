@@ -1,11 +1,5 @@
 pub mod Chaining
 pub mod Scopes
-pub mod Passing
-pub mod Floor
-pub mod Shortage
-pub mod Copies
-pub mod Truths
-pub mod Rows
 pub mod Built
 pub mod Boxes
 pub mod Loops

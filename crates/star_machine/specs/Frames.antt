@@ -27,12 +27,13 @@ use Rattle.star_machine.specs.declared.frame.InStatement.TheVariants as in_state
 use Rattle.star_machine.specs.declared.frame.InValue.{InValue}
 use Rattle.star_machine.specs.declared.frame.InValue.TheVariants as in_value
 use Rattle.star_machine.specs.declared.frame.Machine.{Machine}
-use Rattle.star_machine.specs.declared.value.Value.{Value}
+use Rattle.star_ops.specs.declared.value.Value.{Value}
 use Rattle.star_machine.specs.Meets.{Here, state_of}
 use Rattle.star_machine.specs.Nested.{arms_of, ops_of}
 use Rattle.star_machine.specs.PartsSoFar.{arms_so_far, assigned, looped, parts_so_far}
 use Rattle.star_machine.specs.SoFar.{value_so_far, values_so_far}
-use Rattle.star_machine.specs.View.{env_of, value_of, values_of}
+use Rattle.star_machine.specs.View.{env_of}
+use Rattle.star_ops.specs.View.{value_of, values_of}
 
 -- how an expression ends, or a block, which builds nothing so far
 pub data Final : Type 0 where

@@ -9,16 +9,18 @@ ghost use Rattle.star_spec.specs.Names.{box_of, write_name};
 ghost use Rattle.star_spec.specs.Outcomes.{give, then_do};
 ghost use Rattle.star_tree.specs.Whole.{binary_operator_of, expr_of};
 ghost use Rattle.star_machine.specs.Frames.{GoesToFlow};
-ghost use Rattle.star_machine.specs.Meets.{Meets, state_of};
+ghost use Rattle.star_machine.specs.Meets.{state_of};
+ghost use Rattle.star_ops.specs.Meets.{Meets};
 ghost use Rattle.star_machine.specs.PartsSoFar.{assigned, concluded};
-ghost use Rattle.star_machine.specs.View.{env_of, value_of};
+ghost use Rattle.star_machine.specs.View.{env_of};
+ghost use Rattle.star_ops.specs.View.{value_of};
 
 use crate::frame::{Control, Flow, Machine};
 use crate::names::{find, write};
 use crate::operate::operate;
 use crate::session::{Bound, Session};
 use crate::steps::refusal;
-use crate::value::Value;
+use star_ops::Value;
 use star_tree::code::{BinOp, Expr};
 use std::alloc::Global;
 use ytt_base::fault::{Fault, FaultKind, Place, Stop};
@@ -116,7 +118,7 @@ fn augment(
     ensures spent { session.new.steps ≤ session.old.steps }
 {
     match old {
-        Value::Nothing => operate(alloc, place, op, old, value, session),
+        Value::None => operate(alloc, place, op, old, value, session),
         Value::Bool(_) => operate(alloc, place, op, old, value, session),
         Value::Int(_) => operate(alloc, place, op, old, value, session),
         Value::Text(_) => operate(alloc, place, op, old, value, session),

@@ -9,13 +9,14 @@ ghost use Rattle.star_machine.specs.declared.frame.Control.TheVariants as contro
 ghost use Rattle.star_machine.specs.Frames.{Goes, GoesToValue, around_value, budget, means, work};
 ghost use Rattle.star_machine.specs.Meets.{state_of};
 ghost use Rattle.star_machine.specs.SoFar.{acted, place_in, values_so_far};
-ghost use Rattle.star_machine.specs.View.{env_of, values_of};
+ghost use Rattle.star_machine.specs.View.{env_of};
+ghost use Rattle.star_ops.specs.View.{values_of};
 
 use crate::frame::{Control, Frame, InValue, Machine};
 use crate::machine::{failed, ill_formed, push};
 use crate::names::{find, read};
-use crate::value::Value;
 use sqlite_items::Items;
+use star_ops::Value;
 use star_tree::code::Expr;
 use std::alloc::Global;
 use std::rc::Rc;

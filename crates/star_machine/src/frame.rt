@@ -2,8 +2,8 @@
 
 use crate::block::{Arm, Op};
 use crate::session::{Bound, Session};
-use crate::value::Value;
 use sqlite_items::Items;
+use star_ops::Value;
 use star_tree::code::{BinOp, Expr, UnOp};
 use std::rc::Rc;
 use ytt_base::fault::{Fault, Place};

@@ -5,17 +5,17 @@ ghost use Rattle.star_tree.specs.Whole.{binary_operator_of, unary_operator_of};
 ghost use Rattle.star_machine.specs.declared.frame.Control.TheVariants as control;
 ghost use Rattle.star_machine.specs.Frames.{Goes, GoesToFlow, GoesToValue, around_flow, around_value, budget, inside, statement_goes, value_goes};
 ghost use Rattle.star_machine.specs.Meets.{state_of};
-ghost use Rattle.star_machine.specs.View.{env_of, value_of};
+ghost use Rattle.star_machine.specs.View.{env_of};
+ghost use Rattle.star_ops.specs.View.{value_of};
 
 use crate::assign::{assign_to, augmented};
 use crate::eval::values_from;
 use crate::frame::{Control, Flow, Frame, InStatement, InValue, Machine};
-use crate::kinds::truth;
 use crate::machine::{ill_flow, push};
 use crate::operate::{operate, operate_on};
 use crate::run::choose;
-use crate::value::Value;
 use crate::walk::walk;
+use star_ops::{Value, truth};
 use star_tree::code::{BinOp, UnOp};
 use std::alloc::Global;
 use ytt_base::fault::{Place, Stop};
@@ -129,14 +129,14 @@ fn operated<'p>(
 /// What an operator before this operand gives.
 fn operated_on<'p>(
     alloc: Global,
-    m: &Machine<'p>,
+    m: &mut Machine<'p>,
     place: Place,
     op: UnOp,
     operand: &Value,
 ) -> Result<Control<'p>, Memory>
-    ensures { GoesToValue result m.now m.now (unary_row place (unary_operator_of op) (value_of operand.now)) }
+    ensures { GoesToValue result m.new m.old (unary_row place (unary_operator_of op) (value_of operand.now)) }
 {
-    match operate_on(alloc, place, op, operand) {
+    match operate_on(alloc, place, op, operand, &mut m.session) {
         Ok(value) => Ok(Control::Gave(value)),
         Err(Stop::Fault(fault)) => Ok(Control::Failed(fault)),
         Err(Stop::Memory) => Err(Memory),

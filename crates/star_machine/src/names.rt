@@ -5,11 +5,13 @@ ghost use Rattle.star_spec.specs.Names.{box_of, read_name, write_name};
 ghost use Rattle.star_spec.specs.Outcomes.{fail_with};
 ghost use Rattle.star_spec.specs.Store.{change, with_contents};
 ghost use Rattle.star_spec.specs.Values.{of_box};
-ghost use Rattle.star_machine.specs.Meets.{Meets, Tells, state_of};
-ghost use Rattle.star_machine.specs.View.{env_of, store_of, value_of};
+ghost use Rattle.star_machine.specs.Meets.{state_of};
+ghost use Rattle.star_ops.specs.Meets.{Meets, Tells};
+ghost use Rattle.star_machine.specs.View.{env_of, store_of};
+ghost use Rattle.star_ops.specs.View.{value_of};
 
 use crate::session::{Bound, Session, Slot};
-use crate::value::Value;
+use star_ops::Value;
 use std::alloc::Global;
 use ytt_base::fault::{Fault, FaultKind, Place, Stop};
 use ytt_base::text::Text;
@@ -55,7 +57,7 @@ pub(crate) fn read(
         None => refused(FaultKind::NameUnset, place, name),
         Some(slot) => match &slot.value {
             None => refused(FaultKind::NameUnset, place, name),
-            Some(value) => Ok(value.copy()?),
+            Some(value) => Ok(value.share()?),
         },
     }
 }

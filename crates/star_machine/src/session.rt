@@ -1,7 +1,7 @@
 // What goes on through a run.
 
-use crate::value::Value;
 use sqlite_items::Items;
+use star_ops::Value;
 use ytt_base::text::Text;
 
 /// A name of a scope, and the position of its box.

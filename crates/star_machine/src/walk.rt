@@ -7,14 +7,15 @@ ghost use Rattle.star_machine.specs.Frames.{GoesToFlow, GoesToFlowBy, turn_of, t
 ghost use Rattle.star_machine.specs.Meets.{state_of};
 ghost use Rattle.star_machine.specs.Nested.{ops_of};
 ghost use Rattle.star_machine.specs.PartsSoFar.{looped, parts_so_far};
-ghost use Rattle.star_machine.specs.View.{env_of, value_of, values_of};
+ghost use Rattle.star_machine.specs.View.{env_of};
+ghost use Rattle.star_ops.specs.View.{value_of, values_of};
 
 use crate::assign::assign;
 use crate::block::Op;
 use crate::frame::{Control, Flow, Frame, InBlock, Machine};
 use crate::machine::{left, push};
-use crate::value::Value;
 use sqlite_items::Items;
+use star_ops::Value;
 use star_tree::code::Expr;
 use std::alloc::Global;
 use std::rc::Rc;
@@ -33,7 +34,7 @@ pub(crate) fn walk<'p>(
     ensures { GoesToFlow result m.new m.old (looped place (expr_of m.old.file target.now) (env_of m.old.env) (parts_so_far (ops_of m.old.file body.now) (env_of m.old.env)) (value_of value) tt) }
 {
     let members = match value {
-        Value::Nothing => return Ok(left(alloc, FaultKind::ValueKind, place)),
+        Value::None => return Ok(left(alloc, FaultKind::ValueKind, place)),
         Value::Bool(_) => return Ok(left(alloc, FaultKind::ValueKind, place)),
         Value::Int(_) => return Ok(left(alloc, FaultKind::ValueKind, place)),
         Value::Text(_text) => return Ok(left(alloc, FaultKind::ValueKind, place)),
@@ -56,7 +57,7 @@ pub(crate) fn turn<'p>(
 {
     let value = match members.get(index) {
         None => return Ok(Control::Went(Flow::On)),
-        Some(value) => value.copy()?,
+        Some(value) => value.share()?,
     };
     let next = match index.checked_add(1) {
         None => return Err(Memory),

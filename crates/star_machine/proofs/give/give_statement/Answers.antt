@@ -4,7 +4,8 @@ use Rattle.star_machine.specs.Frames.{around_flow, statement_goes}
 use Rattle.star_machine.specs.Meets.{state_of}
 use Rattle.star_machine.specs.Nested.{arms_of, ops_of}
 use Rattle.star_machine.specs.PartsSoFar.{arms_so_far, parts_so_far}
-use Rattle.star_machine.specs.View.{env_of, store_of, value_of}
+use Rattle.star_machine.specs.View.{env_of, store_of}
+use Rattle.star_ops.specs.View.{value_of}
 use Rattle.star_machine.proofs.Onward.{goes, tens}
 use Rattle.star_machine.proofs.give.give_statement.Goals as goal
 
