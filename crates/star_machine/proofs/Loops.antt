@@ -6,10 +6,10 @@ use Rattle.star_spec.specs.Flow.{Part, on, turns}
 use Rattle.star_spec.specs.Outcomes.{State, Ending, done, bad, finally, on_store, ◌>>=◌}
 use Rattle.star_spec.specs.Store.{end_loop}
 use Rattle.star_spec.specs.Values.{Value, tuple_value, values_in, values_from, Env}
-use Rattle.star_machine.specs.PartsSoFar.{assigned, looped}
 use Rattle.star_ops.specs.declared.value.Value.{Value as Held}
-use Rattle.star_machine.specs.Meets.{Here}
 use Rattle.star_ops.specs.View.{value_of, values_of}
+use Rattle.star_machine.specs.PartsSoFar.{assigned, looped}
+use Rattle.star_machine.specs.Meets.{Here}
 
 values_in-from : (vs : List Value) → values_in (values_from vs) ≡ vs
 values_in-from [] = refl

@@ -13,6 +13,8 @@ use Rattle.star_spec.specs.Flow.{Flow, on, out, Part, go_on, next_turn, turns}
 use Rattle.star_spec.specs.Language.{breaks, continues, returns}
 use Rattle.star_tree.specs.Whole.{expr_of, exprs_of, binary_operator_of, unary_operator_of}
 use Rattle.star_tree.specs.declared.code.Expr as tree
+use Rattle.star_ops.specs.declared.value.Value.{Value}
+use Rattle.star_ops.specs.View.{value_of, values_of}
 use Rattle.star_machine.specs.declared.block.Op.{Op}
 use Rattle.star_machine.specs.declared.frame.Control.{Control}
 use Rattle.star_machine.specs.declared.frame.Control.TheVariants as control
@@ -27,13 +29,11 @@ use Rattle.star_machine.specs.declared.frame.InStatement.TheVariants as in_state
 use Rattle.star_machine.specs.declared.frame.InValue.{InValue}
 use Rattle.star_machine.specs.declared.frame.InValue.TheVariants as in_value
 use Rattle.star_machine.specs.declared.frame.Machine.{Machine}
-use Rattle.star_ops.specs.declared.value.Value.{Value}
 use Rattle.star_machine.specs.Meets.{Here, state_of}
 use Rattle.star_machine.specs.Nested.{arms_of, ops_of}
 use Rattle.star_machine.specs.PartsSoFar.{arms_so_far, assigned, looped, parts_so_far}
 use Rattle.star_machine.specs.SoFar.{value_so_far, values_so_far}
 use Rattle.star_machine.specs.View.{env_of}
-use Rattle.star_ops.specs.View.{value_of, values_of}
 
 -- how an expression ends, or a block, which builds nothing so far
 pub data Final : Type 0 where

@@ -8,18 +8,17 @@ ghost use Rattle.star_spec.specs.Flow.{on};
 ghost use Rattle.star_spec.specs.Names.{box_of, write_name};
 ghost use Rattle.star_spec.specs.Outcomes.{give, then_do};
 ghost use Rattle.star_tree.specs.Whole.{binary_operator_of, expr_of};
+ghost use Rattle.star_ops.specs.View.{value_of};
 ghost use Rattle.star_machine.specs.Frames.{GoesToFlow};
-ghost use Rattle.star_machine.specs.Meets.{state_of};
-ghost use Rattle.star_ops.specs.Meets.{Meets};
+ghost use Rattle.star_machine.specs.Meets.{Does, state_of};
 ghost use Rattle.star_machine.specs.PartsSoFar.{assigned, concluded};
 ghost use Rattle.star_machine.specs.View.{env_of};
-ghost use Rattle.star_ops.specs.View.{value_of};
 
 use crate::frame::{Control, Flow, Machine};
 use crate::names::{find, write};
 use crate::operate::operate;
+use crate::refusals::refusal;
 use crate::session::{Bound, Session};
-use crate::steps::refusal;
 use star_ops::Value;
 use star_tree::code::{BinOp, Expr};
 use std::alloc::Global;
@@ -47,7 +46,7 @@ pub(crate) fn assign(
     target: &Expr,
     value: Value,
 ) -> Result<(), Stop>
-    ensures meaning { Meets (λ u. u) result (state_of session.new) (assigned place (expr_of file target.now) (value_of value) (env_of env.now) (state_of session.old)) }
+    ensures meaning { Does (λ u. u) result session.new session.old (assigned place (expr_of file target.now) (value_of value) (env_of env.now)) }
     ensures steps { session.new.steps ≡ session.old.steps }
 {
     match target {
@@ -114,7 +113,7 @@ fn augment(
     value: &Value,
     session: &mut Session,
 ) -> Result<Value, Stop>
-    ensures meaning { Meets value_of result (state_of session.new) (augment_row place (binary_operator_of op) (value_of old.now) (value_of value.now) (state_of session.old)) }
+    ensures meaning { Does value_of result session.new session.old (augment_row place (binary_operator_of op) (value_of old.now) (value_of value.now)) }
     ensures spent { session.new.steps ≤ session.old.steps }
 {
     match old {

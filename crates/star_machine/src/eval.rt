@@ -5,12 +5,12 @@ ghost use Rattle.star_spec.specs.Names.{box_of, read_name};
 ghost use Rattle.star_spec.specs.Outcomes.{give, then_do};
 ghost use Rattle.star_spec.specs.Values.{tuple_value, values_from};
 ghost use Rattle.star_tree.specs.Whole.{expr_of, exprs_of};
+ghost use Rattle.star_ops.specs.View.{values_of};
 ghost use Rattle.star_machine.specs.declared.frame.Control.TheVariants as control;
 ghost use Rattle.star_machine.specs.Frames.{Goes, GoesToValue, around_value, budget, means, work};
 ghost use Rattle.star_machine.specs.Meets.{state_of};
 ghost use Rattle.star_machine.specs.SoFar.{acted, place_in, values_so_far};
 ghost use Rattle.star_machine.specs.View.{env_of};
-ghost use Rattle.star_ops.specs.View.{values_of};
 
 use crate::frame::{Control, Frame, InValue, Machine};
 use crate::machine::{failed, ill_formed, push};

@@ -2,11 +2,11 @@
 ghost use Rattle.std.specs.Prelude.{◌≡◌, ◌∷◌, [], reverse, IfOk, List};
 ghost use Rattle.star_spec.specs.Operators.{binary_row, unary_row};
 ghost use Rattle.star_tree.specs.Whole.{binary_operator_of, unary_operator_of};
+ghost use Rattle.star_ops.specs.View.{value_of};
 ghost use Rattle.star_machine.specs.declared.frame.Control.TheVariants as control;
 ghost use Rattle.star_machine.specs.Frames.{Goes, GoesToFlow, GoesToValue, around_flow, around_value, budget, inside, statement_goes, value_goes};
 ghost use Rattle.star_machine.specs.Meets.{state_of};
 ghost use Rattle.star_machine.specs.View.{env_of};
-ghost use Rattle.star_ops.specs.View.{value_of};
 
 use crate::assign::{assign_to, augmented};
 use crate::eval::values_from;

@@ -10,9 +10,9 @@ mod looped;
 mod machine;
 mod names;
 mod operate;
+mod refusals;
 mod run;
 mod session;
-mod steps;
 mod walk;
 mod went;
 

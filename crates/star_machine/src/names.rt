@@ -5,10 +5,10 @@ ghost use Rattle.star_spec.specs.Names.{box_of, read_name, write_name};
 ghost use Rattle.star_spec.specs.Outcomes.{fail_with};
 ghost use Rattle.star_spec.specs.Store.{change, with_contents};
 ghost use Rattle.star_spec.specs.Values.{of_box};
-ghost use Rattle.star_machine.specs.Meets.{state_of};
 ghost use Rattle.star_ops.specs.Meets.{Meets, Tells};
-ghost use Rattle.star_machine.specs.View.{env_of, store_of};
 ghost use Rattle.star_ops.specs.View.{value_of};
+ghost use Rattle.star_machine.specs.Meets.{state_of};
+ghost use Rattle.star_machine.specs.View.{env_of, store_of};
 
 use crate::session::{Bound, Session, Slot};
 use star_ops::Value;

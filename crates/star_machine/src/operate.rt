@@ -2,9 +2,8 @@
 ghost use Rattle.std.specs.Prelude.{◌≡◌, ◌≤◌};
 ghost use Rattle.star_spec.specs.Operators.{binary_row, unary_row};
 ghost use Rattle.star_tree.specs.Whole.{binary_operator_of, unary_operator_of};
-ghost use Rattle.star_ops.specs.Meets.{Meets};
 ghost use Rattle.star_ops.specs.View.{value_of};
-ghost use Rattle.star_machine.specs.Meets.{state_of};
+ghost use Rattle.star_machine.specs.Meets.{Does};
 
 use crate::session::Session;
 use star_ops::{Value, binary, unary};
@@ -20,7 +19,7 @@ pub(crate) fn operate_on(
     operand: &Value,
     session: &mut Session,
 ) -> Result<Value, Stop>
-    ensures meaning { Meets value_of result (state_of session.new) (unary_row place (unary_operator_of op) (value_of operand.now) (state_of session.old)) }
+    ensures meaning { Does value_of result session.new session.old (unary_row place (unary_operator_of op) (value_of operand.now)) }
     ensures spent { session.new.steps ≤ session.old.steps }
 {
     unary(alloc, place, op, operand, &mut session.steps)
@@ -35,7 +34,7 @@ pub(crate) fn operate(
     right: &Value,
     session: &mut Session,
 ) -> Result<Value, Stop>
-    ensures meaning { Meets value_of result (state_of session.new) (binary_row place (binary_operator_of op) (value_of left.now) (value_of right.now) (state_of session.old)) }
+    ensures meaning { Does value_of result session.new session.old (binary_row place (binary_operator_of op) (value_of left.now) (value_of right.now)) }
     ensures spent { session.new.steps ≤ session.old.steps }
 {
     binary(alloc, place, op, left, right, &mut session.steps)

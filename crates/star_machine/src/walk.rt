@@ -3,12 +3,12 @@ ghost use Rattle.std.specs.Prelude.{◌≡◌, ◌∷◌, drop, reverse, IfOk, L
 ghost use Rattle.star_spec.specs.Flow.{next_turn, turns};
 ghost use Rattle.star_spec.specs.Outcomes.{then_do};
 ghost use Rattle.star_tree.specs.Whole.{expr_of};
+ghost use Rattle.star_ops.specs.View.{value_of, values_of};
 ghost use Rattle.star_machine.specs.Frames.{GoesToFlow, GoesToFlowBy, turn_of, turns_from};
 ghost use Rattle.star_machine.specs.Meets.{state_of};
 ghost use Rattle.star_machine.specs.Nested.{ops_of};
 ghost use Rattle.star_machine.specs.PartsSoFar.{looped, parts_so_far};
 ghost use Rattle.star_machine.specs.View.{env_of};
-ghost use Rattle.star_ops.specs.View.{value_of, values_of};
 
 use crate::assign::assign;
 use crate::block::Op;

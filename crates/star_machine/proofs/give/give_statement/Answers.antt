@@ -1,11 +1,11 @@
 use Rattle.std.proofs.Common.{◌≡◌, false, reverse, if◌then◌else◌, sym, ap, ◌∙◌, rules}
 use Rattle.star_spec.specs.Members.{truth_in}
+use Rattle.star_ops.specs.View.{value_of}
 use Rattle.star_machine.specs.Frames.{around_flow, statement_goes}
 use Rattle.star_machine.specs.Meets.{state_of}
 use Rattle.star_machine.specs.Nested.{arms_of, ops_of}
 use Rattle.star_machine.specs.PartsSoFar.{arms_so_far, parts_so_far}
 use Rattle.star_machine.specs.View.{env_of, store_of}
-use Rattle.star_ops.specs.View.{value_of}
 use Rattle.star_machine.proofs.Onward.{goes, tens}
 use Rattle.star_machine.proofs.give.give_statement.Goals as goal
 

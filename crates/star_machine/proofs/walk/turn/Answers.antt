@@ -1,8 +1,8 @@
 use Rattle.std.proofs.Common.{◌≡◌, ◌+◌, slice_get, reverse, Some, None, ap, rules, arith}
+use Rattle.star_ops.specs.View.{value_of}
 use Rattle.star_machine.specs.Frames.{around_flow, turn_of}
 use Rattle.star_machine.specs.Meets.{state_of}
 use Rattle.star_machine.specs.View.{env_of}
-use Rattle.star_ops.specs.View.{value_of}
 use Rattle.star_machine.proofs.Loops.{turns_on, turns_over}
 use Rattle.star_machine.proofs.Onward.{as_much, goes}
 use Rattle.star_machine.proofs.walk.turn.Goals as goal

@@ -2,12 +2,12 @@ use Rattle.std.proofs.Common.{◌≡◌, reverse, map as each, sym, ap, ◌∙�
 use Rattle.star_spec.specs.Values.{tuple_value, values_from}
 use Rattle.star_tree.specs.Whole.{expr_of}
 use Rattle.star_ops.specs.declared.value.Value.{the_lemmas}
+use Rattle.star_ops.specs.View.{value_of, values_of}
 use Rattle.star_machine.specs.Frames.{around_flow}
 use Rattle.star_machine.specs.Meets.{state_of}
 use Rattle.star_machine.specs.Nested.{ops_of}
 use Rattle.star_machine.specs.PartsSoFar.{looped, parts_so_far}
 use Rattle.star_machine.specs.View.{env_of}
-use Rattle.star_ops.specs.View.{value_of, values_of}
 use Rattle.star_machine.proofs.Loops.{tuple_loop}
 use Rattle.star_machine.proofs.Onward.{goes, sevens}
 use Rattle.star_machine.proofs.walk.walk.Goals as goal
