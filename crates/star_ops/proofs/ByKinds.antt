@@ -10,7 +10,7 @@ use Rattle.star_spec.specs.Operators.{answered, denied, compared, binary_row, co
 use Rattle.star_spec.specs.Order.{are_comparable, is_above, is_below, order}
 use Rattle.star_spec.specs.Outcomes.{State, Computation, Ending, done, bad, then_do, give, need, paid, reads, ◌>>=◌}
 use Rattle.ytt_base.specs.declared.fault.FaultKind.TheVariants as kind
-use Rattle.star_spec.specs.Values.{Value, int_value, text_value, tuple_value, values_in, values_from}
+use Rattle.star_spec.specs.Values.{Store, Value, int_value, text_value, tuple_value, values_in, values_from}
 use Rattle.star_spec.proofs.Computations.{then_assoc, then_ext}
 use Rattle.star_ops.specs.Alike.{alike, among_by, both_ranked, comparing, is_at_least, is_at_most, ordered, ranked, same, within}
 use Rattle.star_ops.specs.declared.operators.IntegerOp.TheVariants as integer
@@ -135,5 +135,5 @@ some_member [] none h = ap not h
 some_member (v ∷ vs) false h = refl
 some_member (v ∷ vs) true h = absurd (let e : length (v ∷ vs) ≡ 0 = eqb-true _ _ (sym h) in omega (arith, e))
 
-pub tuple_truth : (v : Value) (vs : List Held) (none : Bool) → none ≡ (length vs == 0) → v ≡ tuple_value (values_from (values_of vs)) → not none ≡ truth_in [] v
-tuple_truth v vs none h e = some_member vs none h ∙ sym (ap (truth_in []) e ∙ ap (λ vs. not (is_empty vs)) (members_again (values_of vs)))
+pub tuple_truth : (v : Value) (vs : List Held) (none : Bool) (store : Store) → none ≡ (length vs == 0) → v ≡ tuple_value (values_from (values_of vs)) → not none ≡ truth_in store v
+tuple_truth v vs none store h e = some_member vs none h ∙ sym (ap (truth_in store) e ∙ ap (λ vs. not (is_empty vs)) (members_again (values_of vs)))

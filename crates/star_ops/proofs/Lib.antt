@@ -1,9 +1,11 @@
+pub mod Anywhere
 pub mod ByKinds
 pub mod Copies
 pub mod Floor
 pub mod Meeting
 pub mod Parts
 pub mod Passing
+pub mod RowsAnywhere
 pub mod Shifts
 pub mod Tuples
 pub mod Views

@@ -3,10 +3,15 @@ use Rattle.std.specs.Prelude.{◌≡◌, ℕ, [], Result, Ok, Err}
 use Rattle.ytt_base.specs.declared.fault.Stop.{Stop}
 use Rattle.ytt_base.specs.declared.fault.Stop.TheVariants as stop
 use Rattle.star_spec.specs.Outcomes.{State, Ending, done, bad, Computation}
+use Rattle.star_spec.specs.Values.{Store}
 
--- the state with so many steps left; these values need neither objects nor a host
+-- the state with these objects and so many steps left; these values need no host
+abbrev pub in_store : Store → (steps : ℕ) → State (Unit {0})
+in_store store n = record { store = store; steps = n; host = tt }
+
+-- the same without objects, which these values don't need
 abbrev pub state_of : (steps : ℕ) → State (Unit {0})
-state_of n = record { store = []; steps = n; host = tt }
+state_of n = in_store [] n
 
 -- What a call returned, seen by view, in the state that it leaves, is how the computation ends; want of memory says
 -- nothing.
@@ -14,6 +19,10 @@ abbrev pub Meets : {A B : Type 0} → (A → B) → Result A Stop → State (Uni
 Meets view (Ok a) state ending = ending ≡ done (view a) state
 Meets view (Err (stop.Fault f)) state ending = ending ≡ bad f state
 Meets view (Err stop.Memory) state ending = Unit {0}
+
+-- the same with so many steps after it and before it, whatever the objects are
+abbrev pub Spends : {A B : Type 0} → (A → B) → Result A Stop → (after before : ℕ) → Computation (Unit {0}) B → Type 0
+Spends view result after before m = (store : Store) → Meets view result (in_store store after) (m (in_store store before))
 
 -- the same of a computation that leaves each state as it is
 abbrev pub Tells : {A B : Type 0} → (A → B) → Result A Stop → Computation (Unit {0}) B → Type 0

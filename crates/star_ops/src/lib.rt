@@ -1,6 +1,7 @@
 //! What operators give for None, bools, integers of 128 bits, texts and tuples.
 //!
-//! `unary` and `binary` give exactly what the table of operators says, or its refusal, and take exactly its steps.
+//! `unary` and `binary` give exactly what the table of operators says, or its refusal, and take exactly its steps,
+//! whatever objects there are. None come back, and none are taken where memory is short.
 #![tactic(auto)]
 
 mod equality;
@@ -13,6 +14,5 @@ mod steps;
 mod sums;
 mod value;
 
-pub use operators::{BinaryOp, UnaryOp};
 pub use rows::{binary, unary};
 pub use value::{Value, Values, truth};

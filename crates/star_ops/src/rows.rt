@@ -1,40 +1,66 @@
 // Each operator's row.
-ghost use Rattle.std.specs.Prelude.{◌≡◌, not};
+ghost use Rattle.std.specs.Prelude.{◌≡◌, ◌≤◌, not};
 ghost use Rattle.star_spec.specs.Operators.{answered, binary_row, compared, denied, not_row, unary_row};
 ghost use Rattle.star_spec.specs.Order.{is_above, is_below};
 ghost use Rattle.star_ops.specs.Alike.{comparing, is_at_least, is_at_most, same, within};
-ghost use Rattle.star_ops.specs.Meets.{Meets, state_of};
-ghost use Rattle.star_ops.specs.Acts.{binary_operator_of, unary_operator_of};
+ghost use Rattle.star_ops.specs.Meets.{Meets, Spends, state_of};
 ghost use Rattle.star_ops.specs.View.{comparison_of, value_of};
+ghost use Rattle.star_tree.specs.Whole.{binary_operator_of, unary_operator_of};
 
 use crate::equality::equals;
 use crate::membership::is_in;
 use crate::numbers::{inverse, negative, on_integers, positive};
-use crate::operators::{BinaryOp, IntegerOp, UnaryOp};
+use crate::operators::IntegerOp;
 use crate::order::compare;
 use crate::steps::pay;
 use crate::sums::{add, multiply};
 use crate::value::{Value, truth, turning_cost};
+use star_tree::code::{BinOp, UnOp};
 use std::alloc::Global;
 use std::cmp::Ordering;
 use ytt_base::fault::{Place, Stop};
 
 /// What an operator before its operand gives, each refusal at the operator's place: `ValueKind`, `IntOverflow`,
-/// and `Steps` of `not`. Of the steps those are taken that it takes.
+/// and `Steps` of `not`. Of the steps those are taken that it takes, and none where memory is short.
 pub fn unary(
     alloc: Global,
     place: Place,
-    op: UnaryOp,
+    op: UnOp,
+    operand: &Value,
+    steps: &mut u64,
+) -> Result<Value, Stop>
+    ensures meaning { Spends value_of result steps.new steps.old (unary_row place (unary_operator_of op) (value_of operand.now)) }
+    ensures spent { steps.new ≤ steps.old }
+{
+    let mut rest = *steps;
+    match row_before(alloc, place, op, operand, &mut rest) {
+        Ok(value) => {
+            *steps = rest;
+            Ok(value)
+        }
+        Err(Stop::Fault(fault)) => {
+            *steps = rest;
+            Err(Stop::Fault(fault))
+        }
+        Err(Stop::Memory) => Err(Stop::Memory),
+    }
+}
+
+/// The same, where nothing is known of the steps when memory is short.
+fn row_before(
+    alloc: Global,
+    place: Place,
+    op: UnOp,
     operand: &Value,
     steps: &mut u64,
 ) -> Result<Value, Stop>
     ensures { Meets value_of result (state_of steps.new) (unary_row place (unary_operator_of op) (value_of operand.now) (state_of steps.old)) }
 {
     match op {
-        UnaryOp::Minus => negative(alloc, place, operand),
-        UnaryOp::Plus => positive(alloc, place, operand),
-        UnaryOp::Invert => inverse(alloc, place, operand),
-        UnaryOp::Not => not_true(alloc, place, operand, steps),
+        UnOp::Minus => negative(alloc, place, operand),
+        UnOp::Plus => positive(alloc, place, operand),
+        UnOp::Invert => inverse(alloc, place, operand),
+        UnOp::Not => not_true(alloc, place, operand, steps),
     }
 }
 
@@ -47,11 +73,37 @@ fn not_true(alloc: Global, place: Place, operand: &Value, steps: &mut u64) -> Re
 
 /// What an operator between its operands gives, each refusal at the operator's place: `ValueKind`,
 /// `IntOverflow`, `DivideZero`, `TooDeep` where tuples nest too deep, and `Steps`. Of the steps those are taken
-/// that it takes.
+/// that it takes, and none where memory is short.
 pub fn binary(
     alloc: Global,
     place: Place,
-    op: BinaryOp,
+    op: BinOp,
+    left: &Value,
+    right: &Value,
+    steps: &mut u64,
+) -> Result<Value, Stop>
+    ensures meaning { Spends value_of result steps.new steps.old (binary_row place (binary_operator_of op) (value_of left.now) (value_of right.now)) }
+    ensures spent { steps.new ≤ steps.old }
+{
+    let mut rest = *steps;
+    match row_between(alloc, place, op, left, right, &mut rest) {
+        Ok(value) => {
+            *steps = rest;
+            Ok(value)
+        }
+        Err(Stop::Fault(fault)) => {
+            *steps = rest;
+            Err(Stop::Fault(fault))
+        }
+        Err(Stop::Memory) => Err(Stop::Memory),
+    }
+}
+
+/// The same, where nothing is known of the steps when memory is short.
+fn row_between(
+    alloc: Global,
+    place: Place,
+    op: BinOp,
     left: &Value,
     right: &Value,
     steps: &mut u64,
@@ -59,24 +111,24 @@ pub fn binary(
     ensures { Meets value_of result (state_of steps.new) (binary_row place (binary_operator_of op) (value_of left.now) (value_of right.now) (state_of steps.old)) }
 {
     match op {
-        BinaryOp::Add => add(alloc, place, left, right, steps),
-        BinaryOp::Multiply => multiply(alloc, place, left, right, steps),
-        BinaryOp::Subtract => on_integers(alloc, place, IntegerOp::Subtract, left, right),
-        BinaryOp::FloorDivide => on_integers(alloc, place, IntegerOp::FloorDivide, left, right),
-        BinaryOp::Remainder => on_integers(alloc, place, IntegerOp::Remainder, left, right),
-        BinaryOp::BitAnd => on_integers(alloc, place, IntegerOp::BitAnd, left, right),
-        BinaryOp::BitOr => on_integers(alloc, place, IntegerOp::BitOr, left, right),
-        BinaryOp::BitXor => on_integers(alloc, place, IntegerOp::BitXor, left, right),
-        BinaryOp::ShiftLeft => on_integers(alloc, place, IntegerOp::ShiftLeft, left, right),
-        BinaryOp::ShiftRight => on_integers(alloc, place, IntegerOp::ShiftRight, left, right),
-        BinaryOp::Equal => equal_row(alloc, place, left, right, steps),
-        BinaryOp::Unequal => unequal_row(alloc, place, left, right, steps),
-        BinaryOp::Less => less_row(alloc, place, left, right, steps),
-        BinaryOp::Greater => greater_row(alloc, place, left, right, steps),
-        BinaryOp::AtMost => at_most_row(alloc, place, left, right, steps),
-        BinaryOp::AtLeast => at_least_row(alloc, place, left, right, steps),
-        BinaryOp::In => in_row(alloc, place, left, right, steps),
-        BinaryOp::NotIn => not_in_row(alloc, place, left, right, steps),
+        BinOp::Add => add(alloc, place, left, right, steps),
+        BinOp::Multiply => multiply(alloc, place, left, right, steps),
+        BinOp::Subtract => on_integers(alloc, place, IntegerOp::Subtract, left, right),
+        BinOp::FloorDivide => on_integers(alloc, place, IntegerOp::FloorDivide, left, right),
+        BinOp::Remainder => on_integers(alloc, place, IntegerOp::Remainder, left, right),
+        BinOp::BitAnd => on_integers(alloc, place, IntegerOp::BitAnd, left, right),
+        BinOp::BitOr => on_integers(alloc, place, IntegerOp::BitOr, left, right),
+        BinOp::BitXor => on_integers(alloc, place, IntegerOp::BitXor, left, right),
+        BinOp::ShiftLeft => on_integers(alloc, place, IntegerOp::ShiftLeft, left, right),
+        BinOp::ShiftRight => on_integers(alloc, place, IntegerOp::ShiftRight, left, right),
+        BinOp::Equal => equal_row(alloc, place, left, right, steps),
+        BinOp::Unequal => unequal_row(alloc, place, left, right, steps),
+        BinOp::Less => less_row(alloc, place, left, right, steps),
+        BinOp::Greater => greater_row(alloc, place, left, right, steps),
+        BinOp::AtMost => at_most_row(alloc, place, left, right, steps),
+        BinOp::AtLeast => at_least_row(alloc, place, left, right, steps),
+        BinOp::In => in_row(alloc, place, left, right, steps),
+        BinOp::NotIn => not_in_row(alloc, place, left, right, steps),
     }
 }
 

@@ -2,6 +2,7 @@
 ghost use Rattle.std.specs.Prelude.{◌≡◌, [], IfOk};
 ghost use Rattle.star_spec.specs.Members.{truth_in};
 ghost use Rattle.star_spec.specs.Operators.{cost_in};
+ghost use Rattle.star_spec.specs.Values.{Store};
 ghost use Rattle.star_ops.specs.View.{value_of};
 
 use sqlite_items::Items;
@@ -55,7 +56,7 @@ pub(crate) fn text(text: &Rc<Text>) -> &str
 
 /// None, False, 0 and what has no byte or member are false; all else is true.
 pub fn truth(value: &Value) -> bool
-    ensures { result ≡ truth_in [] (value_of value.now) }
+    ensures { (store : Store) → result ≡ truth_in store (value_of value.now) }
 {
     match value {
         Value::None => false,

@@ -1,45 +1,30 @@
-use Rattle.star_ops.specs.Meets.{state_of}
+use Rattle.star_spec.specs.Operators.{binary_row}
 use Rattle.star_ops.specs.View.{value_of}
-use Rattle.star_ops.proofs.Meeting.{meets_same}
-use Rattle.star_ops.proofs.ByKinds.{row_at_least, row_at_most, row_contained, row_equal, row_greater, row_less, row_not_contained, row_unequal}
+use Rattle.star_tree.specs.Whole.{binary_operator_of}
+use Rattle.star_ops.proofs.Anywhere.{bad_anywhere, bad_less, done_anywhere, done_less}
+use Rattle.star_ops.proofs.RowsAnywhere.{binary_anywhere}
 use Rattle.star_ops.proofs.rows.binary.Goals as goal
 
-pub returns-in-Equal : goal.returns-in-Equal
-returns-in-Equal c =
-    rw c.in-Equal.is
-    (meets_same value_of c.equal_row.result (state_of c.equal_row.new.steps) _ _ (row_equal c.args.place (value_of c.args.left.now) (value_of c.args.right.now) (state_of c.args.steps.now)) c.equal_row.ensures)
+pub returns-in-Ok-clause-meaning : goal.returns-in-Ok-clause-meaning
+returns-in-Ok-clause-meaning c =
+    done_anywhere (binary_row c.args.place (binary_operator_of c.args.op) (value_of c.args.left.now) (value_of c.args.right.now)) c.args.steps.now c.row_between.new.steps
+    (binary_anywhere c.args.place (binary_operator_of c.args.op) c.args.left.now c.args.right.now c.args.steps.now)
+    (value_of c.in-Ok.value) c.in-Ok.ensures
 
-pub returns-in-Unequal : goal.returns-in-Unequal
-returns-in-Unequal c =
-    rw c.in-Unequal.is
-    (meets_same value_of c.unequal_row.result (state_of c.unequal_row.new.steps) _ _ (row_unequal c.args.place (value_of c.args.left.now) (value_of c.args.right.now) (state_of c.args.steps.now)) c.unequal_row.ensures)
+pub returns-in-Ok-clause-spent : goal.returns-in-Ok-clause-spent
+returns-in-Ok-clause-spent c =
+    done_less (binary_row c.args.place (binary_operator_of c.args.op) (value_of c.args.left.now) (value_of c.args.right.now)) c.args.steps.now c.row_between.new.steps
+    (binary_anywhere c.args.place (binary_operator_of c.args.op) c.args.left.now c.args.right.now c.args.steps.now)
+    (value_of c.in-Ok.value) c.in-Ok.ensures
 
-pub returns-in-Less : goal.returns-in-Less
-returns-in-Less c =
-    rw c.in-Less.is
-    (meets_same value_of c.less_row.result (state_of c.less_row.new.steps) _ _ (row_less c.args.place (value_of c.args.left.now) (value_of c.args.right.now) (state_of c.args.steps.now)) c.less_row.ensures)
+pub returns-in-Err-Fault-clause-meaning : goal.returns-in-Err-Fault-clause-meaning
+returns-in-Err-Fault-clause-meaning c =
+    bad_anywhere (binary_row c.args.place (binary_operator_of c.args.op) (value_of c.args.left.now) (value_of c.args.right.now)) c.args.steps.now c.row_between.new.steps
+    (binary_anywhere c.args.place (binary_operator_of c.args.op) c.args.left.now c.args.right.now c.args.steps.now)
+    c.in-Err-Fault.fault (rw c.in-Err-Fault.field-0-is at c.in-Err-Fault.ensures)
 
-pub returns-in-Greater : goal.returns-in-Greater
-returns-in-Greater c =
-    rw c.in-Greater.is
-    (meets_same value_of c.greater_row.result (state_of c.greater_row.new.steps) _ _ (row_greater c.args.place (value_of c.args.left.now) (value_of c.args.right.now) (state_of c.args.steps.now)) c.greater_row.ensures)
-
-pub returns-in-AtMost : goal.returns-in-AtMost
-returns-in-AtMost c =
-    rw c.in-AtMost.is
-    (meets_same value_of c.at_most_row.result (state_of c.at_most_row.new.steps) _ _ (row_at_most c.args.place (value_of c.args.left.now) (value_of c.args.right.now) (state_of c.args.steps.now)) c.at_most_row.ensures)
-
-pub returns-in-AtLeast : goal.returns-in-AtLeast
-returns-in-AtLeast c =
-    rw c.in-AtLeast.is
-    (meets_same value_of c.at_least_row.result (state_of c.at_least_row.new.steps) _ _ (row_at_least c.args.place (value_of c.args.left.now) (value_of c.args.right.now) (state_of c.args.steps.now)) c.at_least_row.ensures)
-
-pub returns-in-In : goal.returns-in-In
-returns-in-In c =
-    rw c.in-In.is
-    (meets_same value_of c.in_row.result (state_of c.in_row.new.steps) _ _ (row_contained c.args.place (value_of c.args.left.now) (value_of c.args.right.now) (state_of c.args.steps.now)) c.in_row.ensures)
-
-pub returns-in-NotIn : goal.returns-in-NotIn
-returns-in-NotIn c =
-    rw c.in-NotIn.is
-    (meets_same value_of c.not_in_row.result (state_of c.not_in_row.new.steps) _ _ (row_not_contained c.args.place (value_of c.args.left.now) (value_of c.args.right.now) (state_of c.args.steps.now)) c.not_in_row.ensures)
+pub returns-in-Err-Fault-clause-spent : goal.returns-in-Err-Fault-clause-spent
+returns-in-Err-Fault-clause-spent c =
+    bad_less (binary_row c.args.place (binary_operator_of c.args.op) (value_of c.args.left.now) (value_of c.args.right.now)) c.args.steps.now c.row_between.new.steps
+    (binary_anywhere c.args.place (binary_operator_of c.args.op) c.args.left.now c.args.right.now c.args.steps.now)
+    c.in-Err-Fault.fault (rw c.in-Err-Fault.field-0-is at c.in-Err-Fault.ensures)

@@ -1,0 +1,8 @@
+pub mod Chaining
+pub mod Scopes
+pub mod Built
+pub mod Boxes
+pub mod Loops
+pub mod Onward
+pub mod Carried
+pub mod PartsBuilt

@@ -1,0 +1,163 @@
+// Assignments.
+ghost use Rattle.std.specs.Prelude.{◌≡◌, ◌≤◌, reverse, IfOk, List};
+ghost use Rattle.ytt_base.specs.declared.fault.FaultKind.TheVariants as kind;
+ghost use Rattle.ytt_base.specs.declared.fault.Stop.TheVariants as stop;
+ghost use Rattle.ytt_base.specs.Outcomes.{fault_of};
+ghost use Rattle.star_spec.specs.Eval.{augment_row};
+ghost use Rattle.star_spec.specs.Flow.{on};
+ghost use Rattle.star_spec.specs.Names.{box_of, write_name};
+ghost use Rattle.star_spec.specs.Outcomes.{give, then_do};
+ghost use Rattle.star_tree.specs.Whole.{binary_operator_of, expr_of};
+ghost use Rattle.star_ops.specs.View.{value_of};
+ghost use Rattle.star_machine.specs.Frames.{GoesToFlow};
+ghost use Rattle.star_machine.specs.Meets.{Does, state_of};
+ghost use Rattle.star_machine.specs.PartsSoFar.{assigned, concluded};
+ghost use Rattle.star_machine.specs.View.{env_of};
+
+use crate::frame::{Control, Flow, Machine};
+use crate::names::{find, write};
+use crate::operate::operate;
+use crate::refusals::refusal;
+use crate::session::{Bound, Session};
+use star_ops::Value;
+use star_tree::code::{BinOp, Expr};
+use std::alloc::Global;
+use ytt_base::fault::{Fault, FaultKind, Place, Stop};
+use ytt_base::text::{Memory, Text};
+
+/// The end of a program in no proper form, of no place.
+fn no_target(alloc: Global) -> Stop
+    ensures { result ≡ stop.Fault (fault_of kind.CodeForm) }
+{
+    Stop::Fault(Fault {
+        kind: FaultKind::CodeForm,
+        place: None,
+        detail: Text::new(alloc),
+    })
+}
+
+/// A value to a target of a statement at this place; so far to a name.
+pub(crate) fn assign(
+    alloc: Global,
+    file: u32,
+    env: &[Bound],
+    session: &mut Session,
+    place: Place,
+    target: &Expr,
+    value: Value,
+) -> Result<(), Stop>
+    ensures meaning { Does (λ u. u) result session.new session.old (assigned place (expr_of file target.now) (value_of value) (env_of env.now)) }
+    ensures steps { session.new.steps ≡ session.old.steps }
+{
+    match target {
+        Expr::Name(line, name) => {
+            let position = find(env, name.as_str());
+            let at = Place { file, line: *line };
+            write(session, at, name, position, value)
+        }
+        Expr::List(_, _) => Err(refusal(alloc, FaultKind::NotBuilt, place)),
+        Expr::Tuple(_, _) => Err(refusal(alloc, FaultKind::NotBuilt, place)),
+        Expr::Index(_, _, _) => Err(refusal(alloc, FaultKind::NotBuilt, place)),
+        Expr::Int(_, _) => Err(no_target(alloc)),
+        Expr::Text(_, _) => Err(no_target(alloc)),
+        Expr::Dict(_, _) => Err(no_target(alloc)),
+        Expr::Unary(_, _, _) => Err(no_target(alloc)),
+        Expr::Binary(_, _, _, _) => Err(no_target(alloc)),
+        Expr::And(_, _, _) => Err(no_target(alloc)),
+        Expr::Or(_, _, _) => Err(no_target(alloc)),
+        Expr::If(_, _, _, _) => Err(no_target(alloc)),
+        Expr::Call(_, _, _) => Err(no_target(alloc)),
+        Expr::Named(_, _, _) => Err(no_target(alloc)),
+        Expr::Star(_, _) => Err(no_target(alloc)),
+        Expr::Stars(_, _) => Err(no_target(alloc)),
+        Expr::Slice(_, _, _, _, _) => Err(no_target(alloc)),
+        Expr::Dot(_, _, _) => Err(no_target(alloc)),
+        Expr::Lambda(_, _, _) => Err(no_target(alloc)),
+        Expr::ListFor(_, _, _) => Err(no_target(alloc)),
+        Expr::DictFor(_, _, _, _) => Err(no_target(alloc)),
+        Expr::Template(_, _) => Err(no_target(alloc)),
+    }
+}
+
+/// A value to a target, and the end of the statement.
+pub(crate) fn assign_to<'p>(
+    alloc: Global,
+    m: &mut Machine<'p>,
+    place: Place,
+    target: &Expr,
+    value: Value,
+) -> Result<Control<'p>, Memory>
+    ensures { GoesToFlow result m.new m.old (concluded (assigned place (expr_of m.old.file target.now) (value_of value) (env_of m.old.env))) }
+{
+    match assign(
+        alloc,
+        m.file,
+        m.env.as_slice(),
+        &mut m.session,
+        place,
+        target,
+        value,
+    ) {
+        Ok(_) => Ok(Control::Went(Flow::On)),
+        Err(Stop::Fault(fault)) => Ok(Control::Left(fault)),
+        Err(Stop::Memory) => Err(Memory),
+    }
+}
+
+/// What an augmented assignment gives for what its target had.
+fn augment(
+    alloc: Global,
+    place: Place,
+    op: BinOp,
+    old: &Value,
+    value: &Value,
+    session: &mut Session,
+) -> Result<Value, Stop>
+    ensures meaning { Does value_of result session.new session.old (augment_row place (binary_operator_of op) (value_of old.now) (value_of value.now)) }
+    ensures spent { session.new.steps ≤ session.old.steps }
+{
+    match old {
+        Value::None => operate(alloc, place, op, old, value, session),
+        Value::Bool(_) => operate(alloc, place, op, old, value, session),
+        Value::Int(_) => operate(alloc, place, op, old, value, session),
+        Value::Text(_) => operate(alloc, place, op, old, value, session),
+        Value::Tuple(_) => operate(alloc, place, op, old, value, session),
+    }
+}
+
+/// A name, at a place, gets a value, and the statement ends.
+fn name_gets<'p>(
+    m: &mut Machine<'p>,
+    place: Place,
+    name: &Text,
+    value: Value,
+) -> Result<Control<'p>, Memory>
+    ensures { GoesToFlow result m.new m.old (concluded (write_name place name.now (value_of value) (box_of name.now (env_of m.old.env)))) }
+{
+    let position = find(m.env.as_slice(), name.as_str());
+    match write(&mut m.session, place, name, position, value) {
+        Ok(_) => Ok(Control::Went(Flow::On)),
+        Err(Stop::Fault(fault)) => Ok(Control::Left(fault)),
+        Err(Stop::Memory) => Err(Memory),
+    }
+}
+
+/// A name, at a place, gets what the operation gives for what it had, and the statement ends.
+pub(crate) fn augmented<'p>(
+    alloc: Global,
+    m: &mut Machine<'p>,
+    place: Place,
+    op: BinOp,
+    at: Place,
+    name: &Text,
+    old: &Value,
+    value: &Value,
+) -> Result<Control<'p>, Memory>
+    ensures { GoesToFlow result m.new m.old (λ s. then_do (augment_row place (binary_operator_of op) (value_of old.now) (value_of value.now) s) (λ w. concluded (write_name at name.now w (box_of name.now (env_of m.old.env))))) }
+{
+    match augment(alloc, place, op, old, value, &mut m.session) {
+        Ok(changed) => name_gets(m, at, name, changed),
+        Err(Stop::Fault(fault)) => Ok(Control::Left(fault)),
+        Err(Stop::Memory) => Err(Memory),
+    }
+}

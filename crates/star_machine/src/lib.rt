@@ -1,0 +1,22 @@
+//! What code does: one loop over a stack of frames.
+#![tactic(auto)]
+
+mod assign;
+mod block;
+mod eval;
+mod frame;
+mod give;
+mod looped;
+mod machine;
+mod names;
+mod operate;
+mod refusals;
+mod run;
+mod session;
+mod walk;
+mod went;
+
+pub use block::{Arm, Block, Op};
+pub use frame::Flow;
+pub use looped::{Ended, Finished, evaluate, run_block};
+pub use session::{Bound, Session, Slot};

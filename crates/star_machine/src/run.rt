@@ -1,0 +1,193 @@
+// Blocks.
+ghost use Rattle.std.specs.Prelude.{◌≡◌, Some, reverse, IfOk, List};
+ghost use Rattle.ytt_base.specs.declared.fault.Place.{Place};
+ghost use Rattle.star_spec.specs.Code as plain;
+ghost use Rattle.star_spec.specs.Outcomes.{then_do};
+ghost use Rattle.star_tree.specs.Whole.{binary_operator_of, expr_of};
+ghost use Rattle.star_machine.specs.declared.frame.Control.TheVariants as control;
+ghost use Rattle.star_machine.specs.Frames.{GoesToFlowBy, Goes, GoesToFlow, around_flow, budget, means, statement_goes, work};
+ghost use Rattle.star_machine.specs.Meets.{state_of};
+ghost use Rattle.star_machine.specs.Nested.{arms_of, op_of};
+ghost use Rattle.star_machine.specs.PartsSoFar.{arms_so_far, augmented, done_after, op_place, part_so_far};
+ghost use Rattle.star_machine.specs.SoFar.{value_so_far};
+ghost use Rattle.star_machine.specs.View.{env_of};
+
+use crate::block::{Arm, Op};
+use crate::frame::{Control, Flow, Frame, InBlock, InStatement, Machine};
+use crate::machine::{ill_flow, left, push};
+use crate::names::{find, read};
+use star_tree::code::{BinOp, Expr};
+use std::alloc::Global;
+use ytt_base::fault::{FaultKind, Place, Stop};
+use ytt_base::text::{Memory, Text};
+
+/// Where a statement takes its step.
+fn place_of(file: u32, op: &Op) -> Place
+    ensures { Some result ≡ op_place (op_of file op.now) }
+{
+    let line = match op {
+        Op::Expr(line, _) => *line,
+        Op::Assign(line, _, _) => *line,
+        Op::Augment(line, _, _, _, _) => *line,
+        Op::Load(line, _, _) => *line,
+        Op::Return(line, _) => *line,
+        Op::Break(line) => *line,
+        Op::Continue(line) => *line,
+        Op::Pass(line) => *line,
+        Op::If(line, _) => *line,
+        Op::For(line, _, _, _) => *line,
+        Op::Def(line, _, _, _) => *line,
+    };
+    Place { file, line }
+}
+
+/// The statements of a block, each of which takes a step before it acts.
+pub(crate) fn run<'p>(
+    alloc: Global,
+    m: &mut Machine<'p>,
+    block: &'p [Op],
+) -> Result<Control<'p>, Memory>
+    ensures { IfOk result (λ c. Goes m.new c (means m.old (control.Run block.entry)) (work m.old (control.Run block.entry))) }
+{
+    match block.split_first() {
+        None => Ok(Control::Went(Flow::On)),
+        Some((op, rest)) => {
+            m.frames.push(Frame::Block(InBlock::Rest(rest)))?;
+            begin(alloc, m, op)
+        }
+    }
+}
+
+fn begin<'p>(alloc: Global, m: &mut Machine<'p>, op: &'p Op) -> Result<Control<'p>, Memory>
+    ensures { GoesToFlowBy 1 result m.new m.old (part_so_far (op_of m.old.file op.now) (env_of m.old.env) tt) }
+{
+    let place = place_of(m.file, op);
+    if m.session.steps == 0 {
+        return Ok(left(alloc, FaultKind::Steps, place));
+    }
+    m.session.steps -= 1;
+    act(alloc, m, place, op)
+}
+
+/// What a statement does after its step at this place.
+fn act<'p>(
+    alloc: Global,
+    m: &mut Machine<'p>,
+    place: Place,
+    op: &'p Op,
+) -> Result<Control<'p>, Memory>
+    ensures { GoesToFlow result m.new m.old (done_after place (op_of m.old.file op.now) (env_of m.old.env) tt) }
+{
+    match op {
+        Op::Expr(_, expr) => within(m, InStatement::Discard, expr.get()),
+        Op::Assign(_, target, expr) => {
+            within(m, InStatement::AssignTo(place, target.get()), expr.get())
+        }
+        Op::Augment(_, op, line, target, expr) => {
+            let at = Place {
+                file: m.file,
+                line: *line,
+            };
+            augment(alloc, m, at, *op, target.get(), expr.get())
+        }
+        Op::Load(_, _, _) => Ok(Control::Went(Flow::On)),
+        Op::Return(_, expr) => within(m, InStatement::Return, expr.get()),
+        Op::Break(_) => Ok(Control::Went(Flow::Break)),
+        Op::Continue(_) => Ok(Control::Went(Flow::Continue)),
+        Op::Pass(_) => Ok(Control::Went(Flow::On)),
+        Op::If(_, arms) => choose(m, arms.as_slice()),
+        Op::For(_, target, expr, body) => {
+            let frame = InStatement::Walk(place, target.get(), body.as_slice());
+            within(m, frame, expr.get())
+        }
+        Op::Def(_, _, _, _) => Ok(left(alloc, FaultKind::NotBuilt, place)),
+    }
+}
+
+/// An expression in a statement.
+fn within<'p>(
+    m: &mut Machine<'p>,
+    frame: InStatement<'p>,
+    expr: &'p Expr,
+) -> Result<Control<'p>, Memory>
+    ensures { GoesToFlow result m.new m.old (λ s. then_do (value_so_far (expr_of m.old.file expr.now) (env_of m.old.env) s) (statement_goes m.old.file (env_of m.old.env) frame.entry)) }
+{
+    push(m, Frame::Statement(frame), Control::Eval(expr))
+}
+
+/// An augmented assignment, with its operator at this place.
+fn augment<'p>(
+    alloc: Global,
+    m: &mut Machine<'p>,
+    place: Place,
+    op: BinOp,
+    target: &'p Expr,
+    expr: &'p Expr,
+) -> Result<Control<'p>, Memory>
+    ensures { GoesToFlow result m.new m.old (augmented (binary_operator_of op) place (expr_of m.old.file target.now) (expr_of m.old.file expr.now) (env_of m.old.env) tt) }
+{
+    let (line, name) = match target {
+        Expr::Name(line, name) => (*line, name),
+        Expr::Index(line, _, _) => {
+            let at = Place {
+                file: m.file,
+                line: *line,
+            };
+            return Ok(left(alloc, FaultKind::NotBuilt, at));
+        }
+        Expr::List(_, _) => return Ok(ill_flow(alloc)),
+        Expr::Tuple(_, _) => return Ok(ill_flow(alloc)),
+        Expr::Int(_, _) => return Ok(ill_flow(alloc)),
+        Expr::Text(_, _) => return Ok(ill_flow(alloc)),
+        Expr::Dict(_, _) => return Ok(ill_flow(alloc)),
+        Expr::Unary(_, _, _) => return Ok(ill_flow(alloc)),
+        Expr::Binary(_, _, _, _) => return Ok(ill_flow(alloc)),
+        Expr::And(_, _, _) => return Ok(ill_flow(alloc)),
+        Expr::Or(_, _, _) => return Ok(ill_flow(alloc)),
+        Expr::If(_, _, _, _) => return Ok(ill_flow(alloc)),
+        Expr::Call(_, _, _) => return Ok(ill_flow(alloc)),
+        Expr::Named(_, _, _) => return Ok(ill_flow(alloc)),
+        Expr::Star(_, _) => return Ok(ill_flow(alloc)),
+        Expr::Stars(_, _) => return Ok(ill_flow(alloc)),
+        Expr::Slice(_, _, _, _, _) => return Ok(ill_flow(alloc)),
+        Expr::Dot(_, _, _) => return Ok(ill_flow(alloc)),
+        Expr::Lambda(_, _, _) => return Ok(ill_flow(alloc)),
+        Expr::ListFor(_, _, _) => return Ok(ill_flow(alloc)),
+        Expr::DictFor(_, _, _, _) => return Ok(ill_flow(alloc)),
+        Expr::Template(_, _) => return Ok(ill_flow(alloc)),
+    };
+    let at = Place { file: m.file, line };
+    augment_name(m, place, op, at, name, expr)
+}
+
+/// An augmented assignment of a name at a place.
+fn augment_name<'p>(
+    m: &mut Machine<'p>,
+    place: Place,
+    op: BinOp,
+    at: Place,
+    name: &'p Text,
+    expr: &'p Expr,
+) -> Result<Control<'p>, Memory>
+    ensures { GoesToFlow result m.new m.old (augmented (binary_operator_of op) place (plain.name at name.now) (expr_of m.old.file expr.now) (env_of m.old.env) tt) }
+{
+    let position = find(m.env.as_slice(), name.as_str());
+    match read(&m.session, at, name, position) {
+        Ok(old) => within(m, InStatement::Augment(place, op, at, name, old), expr),
+        Err(Stop::Fault(fault)) => Ok(Control::Left(fault)),
+        Err(Stop::Memory) => Err(Memory),
+    }
+}
+
+/// The first of these branches whose test holds.
+pub(crate) fn choose<'p>(m: &mut Machine<'p>, arms: &'p [Arm]) -> Result<Control<'p>, Memory>
+    ensures { GoesToFlow result m.new m.old (arms_so_far (arms_of m.old.file arms.now) (env_of m.old.env) tt) }
+{
+    match arms.split_first() {
+        None => Ok(Control::Went(Flow::On)),
+        Some((Arm::Else(body), _)) => Ok(Control::Run(body.as_slice())),
+        Some((Arm::Test(test, body), more)) => {
+            within(m, InStatement::Branch(body.as_slice(), more), test.get())
+        }
+    }
+}

@@ -1,0 +1,26 @@
+// What goes on through a run.
+
+use sqlite_items::Items;
+use star_ops::Value;
+use ytt_base::text::Text;
+
+/// A name of a scope, and the position of its box.
+#[derive(Drop)]
+pub struct Bound {
+    pub name: Text,
+    pub position: usize,
+}
+
+/// A box, which has a value once one was assigned.
+#[derive(Drop)]
+pub struct Slot {
+    pub value: Option<Value>,
+}
+
+/// A run: its boxes, and the steps that are left. Other objects, and what its host keeps, come with the
+/// code that makes any.
+#[derive(Drop)]
+pub struct Session {
+    pub store: Items<Slot>,
+    pub steps: u64,
+}
