@@ -57,12 +57,7 @@ fn reach(alloc: Global, slots: &mut Vec<Slot>, level: usize) -> Result<(), Memor
     Ok(())
 }
 
-fn put_part(
-    alloc: Global,
-    slots: &mut Vec<Slot>,
-    level: usize,
-    part: Part,
-) -> Result<(), Memory>
+fn put_part(alloc: Global, slots: &mut Vec<Slot>, level: usize, part: Part) -> Result<(), Memory>
     ensures { (file : ℕ) → OnOk result (slots_of file slots.new.items ≡ build.changed level (build.with_part (part_of file part)) (slots_of file slots.old.items)) }
 {
     reach(alloc, slots, level)?;
@@ -163,23 +158,13 @@ fn scalar_of(tree: Tree) -> Key
 
 /// What is written in an item in whose collection these parts stand.
 #[tactic(auto, using(crate::proofs::Views::templates))]
-fn content_of(
-    alloc: Global,
-    file: u32,
-    written: Written,
-    parts: Parts,
-) -> Result<TContent, Memory>
+fn content_of(alloc: Global, file: u32, written: Written, parts: Parts) -> Result<TContent, Memory>
     ensures { IfOk result (λ c. content_of file c ≡ build.content_of file (shape_of written) (parts_of file parts)) }
 {
     match written {
         Written::Scalar(tree) => Ok(TContent::Scalar(scalar_of(tree))),
         Written::Map => Ok(TContent::Map(items_in(alloc, file, ItemKind::Pair, parts)?)),
-        Written::List => Ok(TContent::List(items_in(
-            alloc,
-            file,
-            ItemKind::Element,
-            parts,
-        )?)),
+        Written::List => Ok(TContent::List(items_in(alloc, file, ItemKind::Element, parts)?)),
     }
 }
 

@@ -10,13 +10,13 @@ ghost use Rattle.ytt_spec.specs.Meaning.{Means, built, documents_meaning, file_n
 ghost use Rattle.ytt_main.specs.Asks.{command_of};
 ghost use Rattle.ytt_main.specs.Rendering.{HasCause, IsNoFolder, IsReadFailure, Refuses, Renders};
 
+use crate::template::pass_template;
 use crate::words::Request;
+use notes_read::a_code_reader_exists;
 use sqlite_items::Items;
 use star_eval::run_flat;
-use notes_read::a_code_reader_exists;
 use std::alloc::Global;
 use template_compile::compile_flat;
-use crate::template::pass_template;
 use yaml_read::{NotedDocs, has_code, plain_trees, read_noted};
 use ytt_base::fault::{Fault, FaultKind, Stop};
 use ytt_base::text::{Memory, Names, Text};
@@ -128,12 +128,7 @@ fn resolve(
 }
 
 /// The documents of a text, or its first fault.
-fn read_text(
-    alloc: Global,
-    bytes: &[u8],
-    ignore_unknown: bool,
-    steps: u64,
-) -> Result<Trees, Stop>
+fn read_text(alloc: Global, bytes: &[u8], ignore_unknown: bool, steps: u64) -> Result<Trees, Stop>
     requires { length bytes.now < 2 ^ 32 }
     ensures { GivesCode trees_of result (λ r. text_meaning r ignore_unknown steps bytes.now) }
 {

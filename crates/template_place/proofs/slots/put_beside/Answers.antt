@@ -51,7 +51,6 @@ pub returns-in-End : goal.returns-in-End
 returns-in-End c = λ file.
     on_ok c.put_none-in-End.result _ _ (λ h. h ∙ ap (λ (t : Comment). build.changed c.args.level (build.with_beside file c.args.line (said_of file t)) (slots_of file c.args.slots.now.items)) (sym c.in-End.is)) (c.put_none-in-End.ensures file)
 
-
 pub returns : goal.returns
 returns c = λ file.
     on_ok c.put_none-in-Ignored.result _ _ (λ h. h ∙ ap (λ (t : Comment). build.changed c.args.level (build.with_beside file c.args.line (said_of file t)) (slots_of file c.args.slots.now.items)) (sym c.in-Ignored.is)) (c.put_none-in-Ignored.ensures file)
