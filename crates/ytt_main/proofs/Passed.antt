@@ -1,6 +1,10 @@
 -- In a template in which everything is built no word leaves a node, since no statement stands in it.
-use Rattle.std.proofs.Common.{◌≡◌, Bool, List, [], ◌∷◌, ◌++◌, Ok, Err, Some, None, refl, subst}
+use Rattle.std.proofs.Common.{◌≡◌, Bool, List, [], ◌∷◌, ◌++◌, Result, Ok, Err, IfOk, Some, None, refl, subst}
 use Rattle.ytt_base.specs.declared.fault.Place.{Place}
+use Rattle.ytt_base.specs.declared.fault.Stop.{Stop}
+use Rattle.ytt_base.specs.Outcomes.{Gives}
+use Rattle.template_tree.specs.View.{template_of}
+use Rattle.template_tree.specs.declared.tree.Template.{Template}
 use Rattle.template_spec.specs.ControlWords.{Around, free, in_node, ItemWordsStand, WordsStand, ContentWordsStand}
 use Rattle.template_spec.specs.Passes.{all_built, unless_unbuilt}
 use Rattle.template_spec.specs.Template.{Item, node, code, if_block, for_block, def_block, Items, no_items, an_item, Content, written_value, value_from, pairs, elements}
@@ -32,3 +36,7 @@ built_stands t u e = by (unbuilt_items t) refl e
     by : (ps : List Place) → unbuilt_items t ≡ ps → unless_unbuilt t (first_unbuilt ps) ≡ Ok u → WordsStand free u
     by [] h f = let same : t ≡ u = cc in subst (WordsStand free) same (items_stand free t h)
     by (p ∷ ps) h f = cc
+
+pub gives_stands : (t : Items) (result : Result Template Stop) → Gives template_of result (all_built t) → IfOk result (λ s. WordsStand free (template_of s))
+gives_stands t (Ok s) g = built_stands t (template_of s) g
+gives_stands t (Err e) g = tt
