@@ -72,7 +72,7 @@ pub(crate) fn assign(
         Expr::Stars(_, _) => Err(no_target(alloc)),
         Expr::Slice(_, _, _, _, _) => Err(no_target(alloc)),
         Expr::Dot(_, _, _) => Err(no_target(alloc)),
-        Expr::Lambda(_, _, _) => Err(no_target(alloc)),
+        Expr::Lambda(_, _, _, _) => Err(no_target(alloc)),
         Expr::ListFor(_, _, _) => Err(no_target(alloc)),
         Expr::DictFor(_, _, _, _) => Err(no_target(alloc)),
         Expr::Template(_, _) => Err(no_target(alloc)),

@@ -151,7 +151,7 @@ fn augment<'p>(
         Expr::Stars(_, _) => return Ok(ill_flow(alloc)),
         Expr::Slice(_, _, _, _, _) => return Ok(ill_flow(alloc)),
         Expr::Dot(_, _, _) => return Ok(ill_flow(alloc)),
-        Expr::Lambda(_, _, _) => return Ok(ill_flow(alloc)),
+        Expr::Lambda(_, _, _, _) => return Ok(ill_flow(alloc)),
         Expr::ListFor(_, _, _) => return Ok(ill_flow(alloc)),
         Expr::DictFor(_, _, _, _) => return Ok(ill_flow(alloc)),
         Expr::Template(_, _) => return Ok(ill_flow(alloc)),

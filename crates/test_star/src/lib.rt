@@ -7,4 +7,3 @@ mod code;
 mod numbers;
 #[cfg(test)]
 mod scopes;
-#[cfg(test)]
