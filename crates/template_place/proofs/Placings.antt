@@ -1,5 +1,5 @@
 -- Placing is what the passes by levels give.
-use Rattle.std.proofs.Common.{◌≡◌, ℕ, Bool, List, Option, Some, None, Result, Ok, Err, refl, ap, sym, ◌∙◌, subst}
+use Rattle.std.proofs.Common.{◌≡◌, ℕ, Bool, List, Option, Some, None, Result, Ok, Err, IfOk, refl, ap, sym, ◌∙◌, subst}
 use Rattle.ytt_base.specs.declared.fault.Fault.{Fault}
 use Rattle.ytt_base.specs.Outcomes.{Gives, Outcome, ◌>>=◌}
 use Rattle.ytt_base.specs.declared.fault.Stop.{Stop}
@@ -15,6 +15,9 @@ use Rattle.template_pass.specs.Building.{template_by_levels}
 use Rattle.template_pass.specs.Rows.{AreRows, Row}
 use Rattle.template_pass.proofs.Built.{template-by_levels}
 use Rattle.template_pass.proofs.Faults.{first_fault}
+use Rattle.yaml_held.specs.Keyed.{KeyedDocuments}
+use Rattle.template_spec.specs.Placed.{Placed}
+use Rattle.template_placed.proofs.AllPlaced.{all_placed}
 use Rattle.template_events.specs.Heard.{HasRows}
 use Rattle.template_events.specs.View.{rows_of}
 use Rattle.template_events.specs.declared.event.Row as code
@@ -52,3 +55,8 @@ gives_placed r ignore file ds rows result h g = subst (Gives template_of result)
 pub gives_unread : (r : CodeReader) (ignore : Bool) (file : ℕ) (ds : Documents) (s : Stop) → HasRows file ds (Err s) (events r ignore file ds) → Gives template_of (Err s) (placed_whole r ignore file ds)
 gives_unread r ignore file ds (stop.Fault f) h = fault_places r ignore file ds f h
 gives_unread r ignore file ds stop.Memory h = tt
+
+-- the template of documents with keys on pairs alone is placed
+pub given_placed : (r : CodeReader) (ignore : Bool) (file : ℕ) (ds : Documents) (result : Result Template Stop) → KeyedDocuments ds → Gives template_of result (placed_whole r ignore file ds) → IfOk result (λ t. Placed (template_of t))
+given_placed r ignore file ds (Ok t) k g = all_placed r ignore file ds (template_of t) k g
+given_placed r ignore file ds (Err s) k g = tt

@@ -3,6 +3,8 @@ ghost use Rattle.std.specs.Prelude.{◌≡◌, IfOk};
 ghost use Rattle.star_grammar.specs.CodeReaders.{GivesCode};
 ghost use Rattle.template_events.specs.View.{rows_of};
 ghost use Rattle.template_spec.specs.Nesting.{placed_whole};
+ghost use Rattle.template_spec.specs.Placed.{Placed};
+ghost use Rattle.yaml_held.specs.Keyed.{KeyedDocuments};
 ghost use Rattle.template_place.specs.View.{template_of};
 ghost use Rattle.template_place.specs.Walk.{placed_by_levels};
 ghost use Rattle.yaml_noted.specs.View.{documents_of};
@@ -13,6 +15,7 @@ use crate::put::puts;
 use crate::slots::build;
 use crate::tree::Template;
 use crate::wrong::stop_at;
+use notes_read::a_code_reader_exists;
 use std::alloc::Global;
 use template_events::{Rows, read_events};
 use yaml_noted::NotedDocs;
@@ -42,6 +45,9 @@ fn place_rows(alloc: Global, rows: Rows, file: u32) -> Result<Template, Stop>
 /// `ignore_unknown` a comment of no known form says nothing. A comment's faults are those of `read_comment`, and those of placing those of
 /// `place_rows`: BlockOpen, BlockCrossed, BlockStray, TooDeep, NoteForm and CodeForm, each at its line. Want of memory is
 /// `Stop::Memory`.
+///
+/// Where an item has a key exactly where it stands in a map, as in each text that is read, the template is placed: its nodes are of the
+/// kinds of their collections, pairs alone have keys, and each statement stands where it may.
 pub fn place(
     alloc: Global,
     docs: &NotedDocs,
@@ -49,8 +55,10 @@ pub fn place(
     ignore_unknown: bool,
 ) -> Result<Template, Stop>
     ensures template { GivesCode template_of result (λ r. placed_whole r ignore_unknown file (documents_of docs.now)) }
+    ensures placed { KeyedDocuments (documents_of docs.now) → IfOk result (λ t. Placed (template_of t)) }
     ensures file { IfOk result (λ t. t.file ≡ file) }
 {
+    a_code_reader_exists();
     let rows = read_events(alloc, docs, file, ignore_unknown)?;
     place_rows(alloc, rows, file)
 }
