@@ -1,5 +1,5 @@
 -- Expressions, arguments and targets keep what the program holds, where their literals are such and calls keep it.
-use Rattle.std.proofs.Common.{◌≡◌, ℤ, ◌==◌, Bool, true, false, ◌||◌, if◌then◌else◌, is_some, List, [], ◌∷◌, ◌++◌, length, map, slice_get, slice_set, ℕ, zero, suc, Option, Some, None, IsUtf8, refl, ap, ◌∙◌, codes}
+use Rattle.std.proofs.Common.{◌≡◌, ℤ, ◌==◌, Bool, true, false, ◌||◌, if◌then◌else◌, is_some, List, [], ◌∷◌, ◌++◌, length, map, slice_get, slice_set, ℕ, zero, suc, Option, Some, None, IsUtf8, bytes_eq, refl, ap, ◌∙◌, codes}
 use Rattle.std.proofs.lemmas.Str.{IsUtf8-nil, IsUtf8-append}
 use Rattle.ytt_base.specs.declared.fault.FaultKind.{FaultKind}
 use Rattle.ytt_base.specs.declared.fault.FaultKind.TheVariants as kind
@@ -13,7 +13,7 @@ use Rattle.star_spec.specs.Held.{HeldValue, HeldValues, HeldFields, HeldNumbers,
 use Rattle.star_spec.specs.Keys.{same_key, key_offence, key_cost, further, place_of_key}
 use Rattle.star_spec.specs.Language.{Call, breaks, continues, returns}
 use Rattle.star_spec.specs.Members.{keys_in, members_in, walked_in, truth_in}
-use Rattle.star_spec.specs.Names.{box_of, with_box, with_boxes, value_or_unset, read_name, fill_box, write_name, target_names, clauses_names}
+use Rattle.star_spec.specs.Names.{constant, own_functions, is_among, box_of, with_box, with_boxes, value_or_unset, unbound, read_name, fill_box, write_name, target_names, clauses_names}
 use Rattle.star_spec.specs.Operators.{unary_row, binary_row}
 use Rattle.star_spec.specs.Outcomes.{State, Computation, ◌>>=◌, give, reads}
 use Rattle.star_spec.specs.Store.{object_at, pairs_at, with_value, with_pair, put_pair, with_contents, begin_loop, end_loop, box_at}
@@ -176,8 +176,22 @@ unset_keeps : {H : Type 0} (p : Place) (x : Name) (o : Option Value) → HeldAny
 unset_keeps p x None h = keeps_fail kind.NameUnset p x
 unset_keeps p x (Some v) h = keeps_give v h
 
+-- those of the language that are values
+constant_held : (x : Name) → HeldAny (constant x)
+constant_held x = one_of (bytes_eq x (codes "None")) (bytes_eq x (codes "True")) (bytes_eq x (codes "False"))
+  where
+    one_of : (a b c : Bool) → HeldAny (if a then Some none_value else if b then Some (bool_value true) else if c then Some (bool_value false) else None)
+    one_of true b c = tt
+    one_of false true c = tt
+    one_of false false true = tt
+    one_of false false false = tt
+
+unbound_keeps : {H : Type 0} (p : Place) (x : Name) (o : Option Value) → HeldAny o → Keeps {H = H} HeldValue (unbound p x o)
+unbound_keeps p x None h = keeps_if (is_among x own_functions) (λ e. keeps_fail kind.NotBuilt p []) (λ e. keeps_fail kind.NameUnknown p x)
+unbound_keeps p x (Some v) h = keeps_give v h
+
 pub read_keeps : {H : Type 0} (p : Place) (x : Name) (o : Option ℕ) → Keeps {H = H} HeldValue (read_name p x o)
-read_keeps p x None = keeps_fail kind.NameUnknown p x
+read_keeps p x None = unbound_keeps p x (constant x) (constant_held x)
 read_keeps p x (Some r) = keeps_then (keeps_reads {P = HeldIfAny} (box_at r) (λ store h. box_held (object_at r store) (object_held store r h))) (λ o h. unset_keeps p x o (any_held o h))
   where
     any_held : (o : Option Value) → HeldIfAny o → HeldAny o

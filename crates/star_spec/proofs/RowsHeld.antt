@@ -16,7 +16,7 @@ use Rattle.star_spec.specs.Members.{as_int, as_text, as_tuple, truth_in}
 use Rattle.star_spec.specs.Numbers.{at_least_zero, fits, complement, floor_quotient, floor_remainder, is_negative, is_zero, shifted_left, shifted_right}
 use Rattle.star_spec.specs.Operators.{if_one, if_both, int_of, copies, repeated, tuple_of, cost_in, not_row, join_texts, join_tuples, repeat_text, repeat_tuple, repeat_row, unary_row, sum_row, difference_row, product_row, divided, bits_row, shifted, shift_row, is_part, part_of_text, contained_in, answered, denied, compared, binary_row}
 use Rattle.star_spec.specs.Order.{Comparison, is_below, is_above, rank, are_comparable, each_sized, sized_by, sized_within, sized, order, comparison}
-use Rattle.star_spec.specs.Outcomes.{Computation, give, fail}
+use Rattle.star_spec.specs.Outcomes.{Computation, give, fail, not_built}
 use Rattle.star_spec.specs.Store.{list_at}
 use Rattle.star_spec.specs.Values.{Value, none_value, bool_value, int_value, text_value, tuple_value, list_value, Values, no_values, a_value, values_in, values_from}
 use Rattle.star_spec.proofs.Keeping.{Keeps, Anything, keeps_then, keeps_give, keeps_fail, keeps_need, keeps_paid, keeps_steps, keeps_if, keeps_reads}
@@ -243,7 +243,8 @@ binary_held p addition a b h k = sum_held p a b h k
 binary_held p subtraction a b h k = difference_held p a b
 binary_held p multiplication a b h k = product_held p a b h k
 binary_held p floor_division a b h k = divided_held floor_quotient p a b
-binary_held p remainder a b h k = divided_held floor_remainder p a b
+binary_held p remainder a b h k =
+    keeps_one HeldValue (as_text a) (λ t. not_built p) (if_both (as_int a) (as_int b) (divided floor_remainder p) (fail kind.ValueKind p)) (λ t e. refused kind.NotBuilt p) (divided_held floor_remainder p a b)
 binary_held p bit_and a b h k = bits_held (int_bit_and w128) p a b h k and_fits
 binary_held p bit_or a b h k = bits_held (int_bit_or w128) p a b h k or_fits
 binary_held p bit_xor a b h k = bits_held (int_bit_xor w128) p a b h k xor_fits

@@ -21,4 +21,5 @@ pub mod Outcomes
 pub mod Program
 pub mod Scopes
 pub mod Store
+pub mod Unbuilt
 pub mod Values

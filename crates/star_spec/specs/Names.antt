@@ -1,11 +1,35 @@
--- The names of scopes: their boxes, and the names that targets and statements bind.
-use Rattle.std.specs.Prelude.{ℕ, List, [], ◌∷◌, ◌++◌, Option, Some, None, if◌then◌else◌, bytes_eq}
+-- The names of scopes: their boxes, and the names that targets and statements bind. The names of the language.
+use Rattle.std.specs.Prelude.{ℕ, Bool, true, false, ◌||◌, List, [], ◌∷◌, ◌++◌, Option, Some, None, if◌then◌else◌, bytes_eq, codes}
 use Rattle.ytt_base.specs.declared.fault.FaultKind.TheVariants as kind
 use Rattle.ytt_base.specs.declared.fault.Place.{Place}
 use Rattle.star_spec.specs.Code.{Name, Expr, name, list, tuple, Exprs, no_exprs, an_expr, Clauses, no_clauses, for_clause, if_clause, LoadedNames, no_loaded, a_loaded, Statement, assign, augment, load}
-use Rattle.star_spec.specs.Values.{Value, Env, of_box}
-use Rattle.star_spec.specs.Outcomes.{done, Computation, give, fail_with, on_store, reads, new_object, ◌>>=◌}
+use Rattle.star_spec.specs.Values.{Value, none_value, bool_value, Env, of_box}
+use Rattle.star_spec.specs.Outcomes.{done, Computation, give, fail_with, not_built, on_store, reads, new_object, ◌>>=◌}
 use Rattle.star_spec.specs.Store.{box_at, change, with_contents}
+
+-- ---- the names of the language
+
+-- those that are values
+abbrev pub constant : Name → Option Value
+constant x =
+    if bytes_eq x (codes "None") then Some none_value
+    else if bytes_eq x (codes "True") then Some (bool_value true)
+    else if bytes_eq x (codes "False") then Some (bool_value false)
+    else None
+
+-- those of its own functions
+abbrev pub own_functions : List Name
+own_functions =
+    codes "len" ∷ codes "range" ∷ codes "str" ∷ codes "repr" ∷ codes "type" ∷ codes "bool" ∷ codes "list" ∷ codes "tuple" ∷ codes "abs"
+    ∷ codes "dict" ∷ codes "int" ∷ codes "sorted" ∷ codes "min" ∷ codes "max" ∷ codes "reversed" ∷ codes "enumerate" ∷ codes "zip"
+    ∷ codes "any" ∷ codes "all" ∷ codes "hasattr" ∷ codes "getattr" ∷ codes "dir" ∷ codes "fail" ∷ []
+
+abbrev pub language_names : List Name
+language_names = codes "None" ∷ codes "True" ∷ codes "False" ∷ own_functions
+
+abbrev pub is_among : Name → List Name → Bool
+is_among x [] = false
+is_among x (y ∷ ys) = bytes_eq x y || is_among x ys
 
 -- ---- boxes
 
@@ -27,9 +51,14 @@ abbrev pub value_or_unset : {H : Type 0} → Place → Name → Option Value →
 value_or_unset p x None = fail_with kind.NameUnset p x
 value_or_unset p x (Some v) = give v
 
--- the value of a name, by its box
+-- a name that has no box: so far the language's own functions are no values
+abbrev pub unbound : {H : Type 0} → Place → Name → Option Value → Computation H Value
+unbound p x (Some v) = give v
+unbound p x None = if is_among x own_functions then not_built p else fail_with kind.NameUnknown p x
+
+-- the value of a name, by its box, or of one of the language's
 abbrev pub read_name : {H : Type 0} → Place → Name → Option ℕ → Computation H Value
-read_name p x None = fail_with kind.NameUnknown p x
+read_name p x None = unbound p x (constant x)
 read_name p x (Some r) = reads (box_at r) >>= value_or_unset p x
 
 -- a box gets a value, whatever its marks say

@@ -6,7 +6,7 @@ use Rattle.ytt_base.specs.declared.fault.FaultKind.TheVariants as kind
 use Rattle.ytt_base.specs.declared.fault.Place.{Place}
 use Rattle.star_spec.specs.Code.{UnaryOperator, negation, positive, inversion, logical_not, BinaryOperator, addition, subtraction, multiplication, floor_division, remainder, bit_and, bit_or, bit_xor, shift_left, shift_right, equal, unequal, less, greater, at_most, at_least, contained, not_contained}
 use Rattle.star_spec.specs.Values.{Value, bool_value, int_value, text_value, tuple_value, values_from, Store}
-use Rattle.star_spec.specs.Outcomes.{Computation, give, fail, paid_by, reads, ◌>>=◌}
+use Rattle.star_spec.specs.Outcomes.{Computation, give, fail, not_built, paid_by, reads, ◌>>=◌}
 use Rattle.star_spec.specs.Numbers.{fits, is_zero, is_negative, at_least_zero, floor_quotient, floor_remainder, complement, shifted_left, shifted_right}
 use Rattle.star_spec.specs.Keys.{text_cost}
 use Rattle.star_spec.specs.Members.{as_int, as_text, as_tuple, count_in, truth_in, is_empty}
@@ -94,8 +94,9 @@ divided f p x y = if is_zero y then fail kind.DivideZero p else int_of p (f x y)
 abbrev pub quotient_row : {H : Type 0} → Place → Value → Value → Computation H Value
 quotient_row p a b = if_both (as_int a) (as_int b) (divided floor_quotient p) (fail kind.ValueKind p)
 
+-- with a text at the left it formats, which isn't built yet
 abbrev pub remainder_row : {H : Type 0} → Place → Value → Value → Computation H Value
-remainder_row p a b = if_both (as_int a) (as_int b) (divided floor_remainder p) (fail kind.ValueKind p)
+remainder_row p a b = if_one (as_text a) (λ t. not_built p) (if_both (as_int a) (as_int b) (divided floor_remainder p) (fail kind.ValueKind p))
 
 -- ---- bits
 

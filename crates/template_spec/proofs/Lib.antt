@@ -11,5 +11,6 @@ pub mod Numbers
 pub mod Runs
 pub mod TakeKeeps
 pub mod Theorem
+pub mod UnbuiltAgree
 pub mod UsesAgree
 pub mod WholeExamples

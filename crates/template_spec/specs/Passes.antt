@@ -1,26 +1,18 @@
 -- The passes over the documents of a template, behind those over its bytes: comments with their code, placing, names. The first fault
 -- decides; what isn't built yet is told behind them.
-use Rattle.std.specs.Prelude.{ℕ, Bool, List, [], ◌∷◌, codes, Option, Some, None, Ok, Err}
+use Rattle.std.specs.Prelude.{ℕ, Bool, [], Option, Some, None, Ok, Err}
 use Rattle.ytt_base.specs.declared.fault.FaultKind.TheVariants as kind
 use Rattle.ytt_base.specs.declared.fault.Place.{Place}
 use Rattle.ytt_base.specs.Outcomes.{Outcome, ◌>>=◌, fault_at}
 use Rattle.yaml_spec.specs.Noted.{Documents}
-use Rattle.star_spec.specs.Code.{Name}
 use Rattle.star_spec.specs.CodeReading.{CodeReader}
+use Rattle.star_spec.specs.Names.{language_names}
 use Rattle.star_spec.specs.Scopes.{Use, unknown_first}
 use Rattle.template_spec.specs.Names.{items_names}
 use Rattle.template_spec.specs.Nesting.{placed_whole}
 use Rattle.template_spec.specs.Template.{Items}
 use Rattle.template_spec.specs.Unbuilt.{first_unbuilt, unbuilt_items}
 use Rattle.template_spec.specs.Uses.{items_uses}
-
--- the names of the language
-abbrev pub language_names : List Name
-language_names =
-    codes "None" ∷ codes "True" ∷ codes "False"
-    ∷ codes "len" ∷ codes "range" ∷ codes "str" ∷ codes "repr" ∷ codes "type" ∷ codes "bool" ∷ codes "list" ∷ codes "tuple" ∷ codes "abs"
-    ∷ codes "dict" ∷ codes "int" ∷ codes "sorted" ∷ codes "min" ∷ codes "max" ∷ codes "reversed" ∷ codes "enumerate" ∷ codes "zip"
-    ∷ codes "any" ∷ codes "all" ∷ codes "hasattr" ∷ codes "getattr" ∷ codes "dir" ∷ codes "fail" ∷ []
 
 abbrev pub unless_unknown : Items → Option Use → Outcome Items
 unless_unknown t None = Ok t
@@ -36,7 +28,7 @@ unless_unbuilt t (Some p) = Err (fault_at kind.NotBuilt p)
 
 -- a template that is built whole; or the first place that is not
 abbrev pub all_built : Items → Outcome Items
-all_built t = unless_unbuilt t (first_unbuilt (unbuilt_items t))
+all_built t = unless_unbuilt t (first_unbuilt (unbuilt_items (items_names t) t))
 
 -- the template of documents, or the first fault of its passes
 abbrev pub template_passed : CodeReader → (ignore_unknown : Bool) → (file : ℕ) → Documents → Outcome Items
