@@ -2,5 +2,5 @@ pub mod View
 pub mod Meets
 pub mod SoFar
 pub mod Frames
-pub mod Nested
 pub mod PartsSoFar
+pub mod Written

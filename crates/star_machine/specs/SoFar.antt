@@ -1,6 +1,6 @@
--- The language as far as the machine runs it. Each other form of expression is NotBuilt after its step. What it gives
--- for programs of the forms that are built is what `eval` gives.
-use Rattle.std.specs.Prelude.{List, [], ◌∷◌, Option, Some, None, Bool, true, false, ◌&&◌, if◌then◌else◌}
+-- The language as far as the machine runs it. Each other form of expression is NotBuilt after its step. Where all of an
+-- expression is built, this is what `eval` gives.
+use Rattle.std.specs.Prelude.{List, [], ◌∷◌, Option, Some, None, if◌then◌else◌}
 use Rattle.ytt_base.specs.declared.fault.Place.{Place}
 use Rattle.star_spec.specs.Code.{Expr, int, text, name, list, tuple, dict, unary, binary, conjunction, disjunction, conditional, call, named, starred, double_starred, index, slice, attribute, lambda, list_comprehension, dict_comprehension, text_template, Exprs, no_exprs, an_expr}
 use Rattle.star_spec.specs.Values.{Value, int_value, text_value, tuple_value, values_from, Env}
@@ -79,34 +79,3 @@ acted p (conjunction q a b) env = value_so_far a env >>= λ x. truth_of x >>= λ
 acted p (disjunction q a b) env = value_so_far a env >>= λ x. truth_of x >>= λ holds. if holds then give x else value_so_far b env
 acted p (conditional q c a b) env = value_so_far c env >>= λ x. truth_of x >>= λ holds. if holds then value_so_far a env else value_so_far b env
 acted p e env = not_built p
-
--- ---- the forms that are built
-
-abbrev mutual
-  pub is_built : Expr → Bool
-  is_built (int p z) = true
-  is_built (text p t) = true
-  is_built (name p x) = true
-  is_built (tuple p es) = are_built es
-  is_built (unary p o a) = is_built a
-  is_built (binary p o a b) = is_built a && is_built b
-  is_built (conjunction p a b) = is_built a && is_built b
-  is_built (disjunction p a b) = is_built a && is_built b
-  is_built (conditional p c a b) = is_built c && (is_built a && is_built b)
-  is_built (named p x e) = true
-  is_built (starred p e) = true
-  is_built (double_starred p e) = true
-  is_built (list p es) = false
-  is_built (dict p es) = false
-  is_built (call p f es) = false
-  is_built (index p a i) = false
-  is_built (slice p a i j k) = false
-  is_built (attribute p a x) = false
-  is_built (lambda p n ps e) = false
-  is_built (list_comprehension p e cs) = false
-  is_built (dict_comprehension p k v cs) = false
-  is_built (text_template p ps) = false
-
-  pub are_built : Exprs → Bool
-  are_built no_exprs = true
-  are_built (an_expr e es) = is_built e && are_built es

@@ -7,10 +7,9 @@ ghost use Rattle.star_spec.specs.Values.{tuple_value, values_from};
 ghost use Rattle.star_tree.specs.Whole.{expr_of, exprs_of};
 ghost use Rattle.star_ops.specs.View.{values_of};
 ghost use Rattle.star_machine.specs.declared.frame.Control.TheVariants as control;
-ghost use Rattle.star_machine.specs.Frames.{Goes, GoesToValue, around_value, budget, means, work};
+ghost use Rattle.star_machine.specs.Frames.{Goes, GoesToValue, around_value, budget, env_in, means, work};
 ghost use Rattle.star_machine.specs.Meets.{state_of};
 ghost use Rattle.star_machine.specs.SoFar.{acted, place_in, values_so_far};
-ghost use Rattle.star_machine.specs.View.{env_of};
 
 use crate::frame::{Control, Frame, InValue, Machine};
 use crate::machine::{failed, ill_formed, push};
@@ -81,7 +80,7 @@ fn act<'p>(
     place: Place,
     expr: &'p Expr,
 ) -> Result<Control<'p>, Memory>
-    ensures { GoesToValue result m.new m.old (acted place (expr_of m.old.file expr.now) (env_of m.old.env)) }
+    ensures { GoesToValue result m.new m.old (acted place (expr_of m.old.file expr.now) (env_in m.old)) }
 {
     match expr {
         Expr::Int(_, n) => Ok(Control::Gave(Value::Int(*n))),
@@ -135,7 +134,7 @@ fn act<'p>(
 
 /// The value of a name.
 fn variable<'p>(m: &Machine<'p>, place: Place, name: &Text) -> Result<Control<'p>, Memory>
-    ensures { GoesToValue result m.now m.now (read_name place name.now (box_of name.now (env_of m.now.env))) }
+    ensures { GoesToValue result m.now m.now (read_name place name.now (box_of name.now (env_in m.now))) }
 {
     let position = find(m.env.as_slice(), name.as_str());
     match read(&m.session, place, name, position) {
@@ -152,7 +151,7 @@ pub(crate) fn values_from<'p>(
     members: &'p [Expr],
     values: Items<Value>,
 ) -> Result<Control<'p>, Memory>
-    ensures { GoesToValue result m.new m.old (λ s. then_do (values_so_far (exprs_of m.old.file members.now) (env_of m.old.env) s) (λ ws. give (tuple_value (values_from (values_of values ++ ws))))) }
+    ensures { GoesToValue result m.new m.old (λ s. then_do (values_so_far (exprs_of m.old.file members.now) (env_in m.old) s) (λ ws. give (tuple_value (values_from (values_of values ++ ws))))) }
 {
     match members.split_first() {
         Some((member, rest)) => push(

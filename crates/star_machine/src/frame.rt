@@ -1,8 +1,9 @@
 // Frames, and the state of the loop.
 
-use crate::block::{Arm, Op};
 use crate::session::{Bound, Session};
+use node_build::Builder;
 use sqlite_items::Items;
+use star_blocks::{Arm, Op};
 use star_ops::Value;
 use star_tree::code::{BinOp, Expr, UnOp};
 use std::rc::Rc;
@@ -37,7 +38,7 @@ pub(crate) enum InValue<'p> {
     Choose(&'p Expr, &'p Expr),
 }
 
-/// What goes on from a value to the end of a statement.
+/// What goes on from a value to the end of a statement, or of a part of a node.
 #[derive(Drop)]
 pub(crate) enum InStatement<'p> {
     Discard,
@@ -50,6 +51,8 @@ pub(crate) enum InStatement<'p> {
     Branch(&'p [Op], &'p [Arm]),
     /// The loop over the members of a value, with its target and its block.
     Walk(Place, &'p Expr, &'p [Op]),
+    /// The node that takes the value over.
+    Take,
 }
 
 /// What goes on from the end of a statement, or of a turn of a loop.
@@ -82,11 +85,13 @@ pub(crate) enum Control<'p> {
     Left(Fault),
 }
 
-/// All else: the number of the file, the scope, the session, and what waits, the innermost frame last.
+/// All else: the number of the file, the scope, the session, the open nodes, and what waits, the innermost frame
+/// last.
 #[derive(Drop)]
 pub(crate) struct Machine<'p> {
     pub file: u32,
     pub env: Items<Bound>,
     pub session: Session,
+    pub nodes: Builder,
     pub frames: Items<Frame<'p>>,
 }

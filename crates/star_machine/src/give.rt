@@ -3,10 +3,10 @@ ghost use Rattle.std.specs.Prelude.{◌≡◌, ◌∷◌, [], reverse, IfOk, Lis
 ghost use Rattle.star_spec.specs.Operators.{binary_row, unary_row};
 ghost use Rattle.star_tree.specs.Whole.{binary_operator_of, unary_operator_of};
 ghost use Rattle.star_ops.specs.View.{value_of};
+ghost use Rattle.node_build.specs.Parts.{taking};
 ghost use Rattle.star_machine.specs.declared.frame.Control.TheVariants as control;
-ghost use Rattle.star_machine.specs.Frames.{Goes, GoesToFlow, GoesToValue, around_flow, around_value, budget, inside, statement_goes, value_goes};
+ghost use Rattle.star_machine.specs.Frames.{Goes, GoesToFlow, GoesToValue, around_flow, around_value, budget, env_in, inside, nodes_in, statement_goes, value_goes};
 ghost use Rattle.star_machine.specs.Meets.{state_of};
-ghost use Rattle.star_machine.specs.View.{env_of};
 
 use crate::assign::{assign_to, augmented};
 use crate::eval::values_from;
@@ -28,7 +28,7 @@ pub(crate) fn give<'p>(
     frame: Frame<'p>,
     value: Value,
 ) -> Result<Control<'p>, Memory>
-    ensures { IfOk result (λ c. Goes m.new c (inside m.old (frame.entry ∷ reverse m.old.frames) (control.Gave value)) (budget m.old 10)) }
+    ensures { IfOk result (λ c. Goes m.new c (inside m.old (frame.entry ∷ reverse m.old.frames) (control.Gave value)) (budget m.old 11)) }
 {
     match frame {
         Frame::Value(inner) => give_value(alloc, m, inner, value),
@@ -44,7 +44,7 @@ fn give_value<'p>(
     frame: InValue<'p>,
     value: Value,
 ) -> Result<Control<'p>, Memory>
-    ensures { GoesToValue result m.new m.old (value_goes m.old.file (env_of m.old.env) frame.entry (value_of value)) }
+    ensures { GoesToValue result m.new m.old (value_goes m.old.file (env_in m.old) frame.entry (value_of value)) }
 {
     match frame {
         InValue::Right(place, op, right) => {
@@ -81,14 +81,14 @@ fn give_value<'p>(
     }
 }
 
-/// A value in a statement.
+/// A value in a statement, or in a node.
 fn give_statement<'p>(
     alloc: Global,
     m: &mut Machine<'p>,
     frame: InStatement<'p>,
     value: Value,
 ) -> Result<Control<'p>, Memory>
-    ensures { GoesToFlow result m.new m.old (statement_goes m.old.file (env_of m.old.env) frame.entry (value_of value)) }
+    ensures { GoesToFlow result m.new m.old (statement_goes m.old.file (env_in m.old) frame.entry (value_of value) (nodes_in m.old)) }
 {
     match frame {
         InStatement::Discard => Ok(Control::Went(Flow::On)),
@@ -105,6 +105,18 @@ fn give_statement<'p>(
             }
         }
         InStatement::Walk(place, target, body) => walk(alloc, m, place, target, body, value),
+        InStatement::Take => take(alloc, m, &value),
+    }
+}
+
+/// The value of the innermost open node.
+fn take<'p>(alloc: Global, m: &mut Machine<'p>, value: &Value) -> Result<Control<'p>, Memory>
+    ensures { GoesToFlow result m.new m.old (taking (value_of value.now) (nodes_in m.old)) }
+{
+    match m.nodes.value(alloc, value, &mut m.session.steps) {
+        Ok(_) => Ok(Control::Went(Flow::On)),
+        Err(Stop::Fault(fault)) => Ok(Control::Left(fault)),
+        Err(Stop::Memory) => Err(Memory),
     }
 }
 

@@ -2,7 +2,7 @@
 #![tactic(auto)]
 
 mod assign;
-mod block;
+mod build;
 mod eval;
 mod frame;
 mod give;
@@ -16,7 +16,6 @@ mod session;
 mod walk;
 mod went;
 
-pub use block::{Arm, Block, Op};
 pub use frame::Flow;
 pub use looped::{Ended, Finished, evaluate, run_block};
 pub use session::{Bound, Session, Slot};

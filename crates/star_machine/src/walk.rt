@@ -4,17 +4,16 @@ ghost use Rattle.star_spec.specs.Flow.{next_turn, turns};
 ghost use Rattle.star_spec.specs.Outcomes.{then_do};
 ghost use Rattle.star_tree.specs.Whole.{expr_of};
 ghost use Rattle.star_ops.specs.View.{value_of, values_of};
-ghost use Rattle.star_machine.specs.Frames.{GoesToFlow, GoesToFlowBy, turn_of, turns_from};
+ghost use Rattle.star_machine.specs.Frames.{GoesToFlow, GoesToFlowBy, env_in, nodes_in, turn_of, turns_from};
 ghost use Rattle.star_machine.specs.Meets.{state_of};
-ghost use Rattle.star_machine.specs.Nested.{ops_of};
+ghost use Rattle.star_blocks.specs.Nested.{ops_of};
 ghost use Rattle.star_machine.specs.PartsSoFar.{looped, parts_so_far};
-ghost use Rattle.star_machine.specs.View.{env_of};
 
 use crate::assign::assign;
-use crate::block::Op;
 use crate::frame::{Control, Flow, Frame, InBlock, Machine};
 use crate::machine::{left, push};
 use sqlite_items::Items;
+use star_blocks::Op;
 use star_ops::Value;
 use star_tree::code::Expr;
 use std::alloc::Global;
@@ -31,7 +30,7 @@ pub(crate) fn walk<'p>(
     body: &'p [Op],
     value: Value,
 ) -> Result<Control<'p>, Memory>
-    ensures { GoesToFlow result m.new m.old (looped place (expr_of m.old.file target.now) (env_of m.old.env) (parts_so_far (ops_of m.old.file body.now) (env_of m.old.env)) (value_of value) tt) }
+    ensures { GoesToFlow result m.new m.old (looped place (expr_of m.old.file target.now) (env_in m.old) (parts_so_far (ops_of m.old.file body.now) (env_in m.old)) (value_of value) (nodes_in m.old)) }
 {
     let members = match value {
         Value::None => return Ok(left(alloc, FaultKind::ValueKind, place)),
@@ -53,7 +52,7 @@ pub(crate) fn turn<'p>(
     members: Rc<Items<Value>>,
     index: usize,
 ) -> Result<Control<'p>, Memory>
-    ensures { GoesToFlowBy 7 result m.new m.old (turns_from m.old.file (env_of m.old.env) place target.now body.now members.value index tt) }
+    ensures { GoesToFlow result m.new m.old (turns_from m.old.file (env_in m.old) place target.now body.now members.value index (nodes_in m.old)) }
 {
     let value = match members.get(index) {
         None => return Ok(Control::Went(Flow::On)),
@@ -77,7 +76,7 @@ fn one_turn<'p>(
     next: usize,
     value: Value,
 ) -> Result<Control<'p>, Memory>
-    ensures { GoesToFlowBy 7 result m.new m.old (turns place (turn_of m.old.file (env_of m.old.env) place target.now body.now) (value_of value ∷ values_of (drop next members.value)) tt) }
+    ensures { GoesToFlow result m.new m.old (turns place (turn_of m.old.file (env_in m.old) place target.now body.now) (value_of value ∷ values_of (drop next members.value)) (nodes_in m.old)) }
 {
     if m.session.steps == 0 {
         return Ok(left(alloc, FaultKind::Steps, place));
@@ -97,7 +96,7 @@ fn enter<'p>(
     next: usize,
     value: Value,
 ) -> Result<Control<'p>, Memory>
-    ensures { GoesToFlowBy 11 result m.new m.old (λ s. then_do (turn_of m.old.file (env_of m.old.env) place target.now body.now (value_of value) tt s) (next_turn (turns_from m.old.file (env_of m.old.env) place target.now body.now members.value next))) }
+    ensures { GoesToFlowBy 21 result m.new m.old (λ s. then_do (turn_of m.old.file (env_in m.old) place target.now body.now (value_of value) (nodes_in m.old) s) (next_turn (turns_from m.old.file (env_in m.old) place target.now body.now members.value next))) }
 {
     match assign(
         alloc,

@@ -1,9 +1,8 @@
 // What goes on from the end of a block, or from a fault.
 ghost use Rattle.std.specs.Prelude.{◌≡◌, ◌∷◌, [], reverse, IfOk, List};
 ghost use Rattle.star_machine.specs.declared.frame.Control.TheVariants as control;
-ghost use Rattle.star_machine.specs.Frames.{Goes, GoesToFlowBy, block_goes, budget, flow_of, inside};
+ghost use Rattle.star_machine.specs.Frames.{Goes, GoesToFlow, block_goes, budget, env_in, flow_of, inside, nodes_in};
 ghost use Rattle.star_machine.specs.Meets.{state_of};
-ghost use Rattle.star_machine.specs.View.{env_of};
 
 use crate::frame::{Control, Flow, Frame, InBlock, Machine};
 use crate::machine::{ill_flow, ill_formed};
@@ -19,7 +18,7 @@ pub(crate) fn went<'p>(
     frame: Frame<'p>,
     flow: Flow,
 ) -> Result<Control<'p>, Memory>
-    ensures { IfOk result (λ c. Goes m.new c (inside m.old (frame.entry ∷ reverse m.old.frames) (control.Went flow)) (budget m.old 7)) }
+    ensures { IfOk result (λ c. Goes m.new c (inside m.old (frame.entry ∷ reverse m.old.frames) (control.Went flow)) (budget m.old 11)) }
 {
     match frame {
         Frame::Value(_inner) => Ok(ill_formed(alloc)),
@@ -35,7 +34,7 @@ fn go_on<'p>(
     frame: InBlock<'p>,
     flow: Flow,
 ) -> Result<Control<'p>, Memory>
-    ensures { GoesToFlowBy 7 result m.new m.old (block_goes m.old.file (env_of m.old.env) frame.entry (flow_of flow)) }
+    ensures { GoesToFlow result m.new m.old (block_goes m.old.file (env_in m.old) frame.entry (flow_of flow (nodes_in m.old))) }
 {
     match frame {
         InBlock::Rest(rest) => match flow {
