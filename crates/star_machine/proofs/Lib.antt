@@ -4,5 +4,4 @@ pub mod Built
 pub mod Boxes
 pub mod Loops
 pub mod Onward
-pub mod Carried
 pub mod PartsBuilt

@@ -8,7 +8,7 @@ use Rattle.star_spec.specs.Store.{end_loop}
 use Rattle.star_spec.specs.Values.{Value, tuple_value, values_in, values_from, Env}
 use Rattle.star_ops.specs.declared.value.Value.{Value as Held}
 use Rattle.star_ops.specs.View.{value_of, values_of}
-use Rattle.star_machine.specs.PartsSoFar.{assigned, looped}
+use Rattle.star_machine.specs.PartsSoFar.{Nodes, assigned, looped}
 use Rattle.star_machine.specs.Meets.{Here}
 
 values_in-from : (vs : List Value) → values_in (values_from vs) ≡ vs
@@ -43,9 +43,9 @@ from_member [] (suc i) n x h e = absurd (search (rules, h))
 from_member (y ∷ xs) zero n x h e = let same : y ≡ x = search (rules, h) in λ j. same j ∷ drop (sym e j) (y ∷ xs)
 from_member (y ∷ xs) (suc i) n x h e = from_member xs i (i + 1) x h refl ∙ ap (λ m. x ∷ drop m (y ∷ xs)) (next_of i n e)
 
-pub turns_over : (p : Place) (f : Value → Part Here Here) (xs : List Held) (i : ℕ) (s : State Here) → slice_get xs i ≡ None → done (on tt) s ≡ turns p f (values_of (drop i xs)) tt s
-turns_over p f xs i s h = ap (λ l. turns p f (values_of l) tt s) (sym (after_last xs i h))
+pub turns_over : (p : Place) (f : Value → Part Here Nodes) (xs : List Held) (i : ℕ) (k : Nodes) (s : State Here) → slice_get xs i ≡ None → done (on k) s ≡ turns p f (values_of (drop i xs)) k s
+turns_over p f xs i k s h = ap (λ l. turns p f (values_of l) k s) (sym (after_last xs i h))
 
-pub turns_on : (p : Place) (f : Value → Part Here Here) (xs : List Held) (i n : ℕ) (x : Held) (v : Value) (s : State Here) → slice_get xs i ≡ Some x → n ≡ i + 1 → v ≡ value_of x →
-    turns p f (v ∷ values_of (drop n xs)) tt s ≡ turns p f (values_of (drop i xs)) tt s
-turns_on p f xs i n x v s h e same = ap (λ w. turns p f (w ∷ values_of (drop n xs)) tt s) same ∙ ap (λ l. turns p f (values_of l) tt s) (sym (from_member xs i n x h e))
+pub turns_on : (p : Place) (f : Value → Part Here Nodes) (xs : List Held) (i n : ℕ) (x : Held) (v : Value) (k : Nodes) (s : State Here) → slice_get xs i ≡ Some x → n ≡ i + 1 → v ≡ value_of x →
+    turns p f (v ∷ values_of (drop n xs)) k s ≡ turns p f (values_of (drop i xs)) k s
+turns_on p f xs i n x v k s h e same = ap (λ w. turns p f (w ∷ values_of (drop n xs)) k s) same ∙ ap (λ l. turns p f (values_of l) k s) (sym (from_member xs i n x h e))

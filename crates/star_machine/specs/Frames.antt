@@ -157,11 +157,6 @@ GoesToFlow r n m f = GoesToFlowBy 11 r n m f
 
 -- ---- the end
 
--- how the expression ended
-abbrev pub ends : Final → Ending Here plain.Value
-ends (value_end r) = r
-ends (flow_end r) = then_do r (λ w. ill_formed)
-
 -- how the block ended
 abbrev pub flow_ends : Final → Ending Here (Flow Nodes)
 flow_ends (value_end r) = then_do r (λ v. ill_formed)
@@ -176,11 +171,7 @@ is_active m (control.Run os) = true
 is_active m (control.Went w) = not (is_empty m.frames)
 is_active m (control.Left f) = not (is_empty m.frames)
 
--- a value or a fault is how a computation ends in this state
-abbrev pub ending_of : Result Value Fault → State Here → Ending Here plain.Value
-ending_of (Ok v) s = done (value_of v) s
-ending_of (Err f) s = bad f s
-
+-- an end or a fault is how a block ends with these nodes open in this state
 abbrev pub flow_ending_of : Result held.Flow Fault → Nodes → State Here → Ending Here (Flow Nodes)
 flow_ending_of (Ok w) k s = done (flow_of w k) s
 flow_ending_of (Err f) k s = bad f s

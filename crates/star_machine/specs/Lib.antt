@@ -4,3 +4,4 @@ pub mod SoFar
 pub mod Frames
 pub mod PartsSoFar
 pub mod Written
+pub mod Targets

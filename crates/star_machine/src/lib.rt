@@ -17,5 +17,5 @@ mod walk;
 mod went;
 
 pub use frame::Flow;
-pub use looped::{Ended, Finished, evaluate, run_block};
+pub use looped::{Finished, run_block};
 pub use session::{Bound, Session, Slot};

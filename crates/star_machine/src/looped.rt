@@ -2,25 +2,27 @@
 ghost use Rattle.std.specs.Prelude.{◌≡◌, ◌∷◌, [], reverse, List, IfOk, IsTrue, true, false};
 ghost use Rattle.ytt_base.specs.declared.fault.FaultKind.TheVariants as kind;
 ghost use Rattle.ytt_base.specs.Outcomes.{fault_of};
-ghost use Rattle.star_spec.specs.Eval.{eval, starlark};
+ghost use Rattle.star_blocks.specs.Nested.{ops_of};
+ghost use Rattle.star_spec.specs.Code.{Name};
+ghost use Rattle.star_spec.specs.Eval.{starlark};
 ghost use Rattle.star_spec.specs.Language.{Call};
-ghost use Rattle.star_tree.specs.Whole.{expr_of};
-ghost use Rattle.template_spec.specs.Run.{Node, runs};
-ghost use Rattle.star_machine.specs.Frames.{Goes, ending_of, ends, flow_ending_of, flow_ends, inside, is_active, means, work};
+ghost use Rattle.star_spec.specs.Unbuilt.{unbuilt_ops};
+ghost use Rattle.node_build.specs.View.{nodes_of};
+ghost use Rattle.template_spec.specs.Run.{runs};
+ghost use Rattle.star_machine.specs.Frames.{Goes, flow_ending_of, flow_ends, inside, is_active, means, work};
 ghost use Rattle.star_machine.specs.Meets.{Here, state_of};
-ghost use Rattle.star_machine.specs.Nested.{ops_of};
-ghost use Rattle.star_machine.specs.PartsSoFar.{are_built_parts, carried, parts_so_far};
-ghost use Rattle.star_machine.specs.SoFar.{is_built, value_so_far};
+ghost use Rattle.star_machine.specs.PartsSoFar.{parts_so_far};
 ghost use Rattle.star_machine.specs.View.{env_of};
 
-use crate::block::Op;
 use crate::eval::eval;
 use crate::frame::{Control, Flow, Machine};
 use crate::give::give;
 use crate::run::run;
 use crate::session::{Bound, Session};
 use crate::went::{fail, leave, went};
+use node_build::Builder;
 use sqlite_items::Items;
+use star_blocks::Op;
 use star_ops::Value;
 use star_tree::code::Expr;
 use std::alloc::Global;
@@ -103,43 +105,20 @@ fn form(alloc: Global) -> Fault
     }
 }
 
-/// How an expression ended: the session after it, and its value or its fault.
-#[derive(Drop)]
-pub struct Ended {
-    pub session: Session,
-    pub result: Result<Value, Fault>,
-}
-
-/// How a block ended: the session after it, and how it was left or its fault.
+/// How a block ended: the session after it with the nodes that are open then, and how it was left or its fault.
 #[derive(Drop)]
 pub struct Finished {
     pub session: Session,
+    pub nodes: Builder,
     pub result: Result<Flow, Fault>,
-}
-
-/// How an expression ended, where there is nothing more to do.
-fn value_at_end<'p>(alloc: Global, machine: Machine<'p>, control: Control<'p>) -> Ended
-    requires { is_active machine control ≡ false }
-    ensures { ending_of result.result (state_of result.session) ≡ ends (means machine.entry control.entry) }
-{
-    let Machine { session, .. } = machine;
-    let result = match control {
-        Control::Gave(value) => Ok(value),
-        Control::Failed(fault) => Err(fault),
-        Control::Left(fault) => Err(fault),
-        Control::Eval(_expr) => Err(form(alloc)),
-        Control::Run(_block) => Err(form(alloc)),
-        Control::Went(_flow) => Err(form(alloc)),
-    };
-    Ended { session, result }
 }
 
 /// How a block ended, where there is nothing more to do.
 fn flow_at_end<'p>(alloc: Global, machine: Machine<'p>, control: Control<'p>) -> Finished
     requires { is_active machine control ≡ false }
-    ensures { flow_ending_of result.result (state_of result.session) ≡ flow_ends (means machine.entry control.entry) }
+    ensures { flow_ending_of result.result (nodes_of result.nodes) (state_of result.session) ≡ flow_ends (means machine.entry control.entry) }
 {
-    let Machine { session, .. } = machine;
+    let Machine { session, nodes, .. } = machine;
     let result = match control {
         Control::Went(flow) => Ok(flow),
         Control::Failed(fault) => Err(fault),
@@ -148,45 +127,30 @@ fn flow_at_end<'p>(alloc: Global, machine: Machine<'p>, control: Control<'p>) ->
         Control::Run(_block) => Err(form(alloc)),
         Control::Gave(_value) => Err(form(alloc)),
     };
-    Finished { session, result }
-}
-
-/// The value of an expression of this file in a scope, or its fault, with the session that it leaves.
-pub fn evaluate(
-    alloc: Global,
-    file: u32,
-    expr: &Expr,
-    env: Items<Bound>,
-    session: Session,
-) -> Result<Ended, Memory>
-    ensures exactly { IfOk result (λ e. ending_of e.result (state_of e.session) ≡ value_so_far (expr_of file expr.now) (env_of env) (state_of session)) }
-    ensures language { IfOk result (λ e. (call : Call Here) → IsTrue (is_built (expr_of file expr.now)) → ending_of e.result (state_of e.session) ≡ eval call (expr_of file expr.now) (env_of env) (state_of session)) }
-{
-    let machine = Machine {
-        file,
-        env,
+    Finished {
         session,
-        frames: Items::new(alloc),
-    };
-    let Stopped { machine, control } = run_down(alloc, machine, Control::Eval(expr))?;
-    Ok(value_at_end(alloc, machine, control))
+        nodes,
+        result,
+    }
 }
 
-/// Runs a block of this file in a scope, with the session that it leaves.
+/// Runs a block of this file in a scope, with the session and the open nodes that it leaves.
 pub fn run_block(
     alloc: Global,
     file: u32,
     block: &[Op],
     env: Items<Bound>,
     session: Session,
+    nodes: Builder,
 ) -> Result<Finished, Memory>
-    ensures exactly { IfOk result (λ e. flow_ending_of e.result (state_of e.session) ≡ parts_so_far (ops_of file block.now) (env_of env) tt (state_of session)) }
-    ensures language { IfOk result (λ e. (call : Call Here) (nodes : List Node) → IsTrue (are_built_parts (ops_of file block.now)) → carried nodes (flow_ending_of e.result (state_of e.session)) ≡ runs starlark call (ops_of file block.now) (env_of env) nodes (state_of session)) }
+    ensures exactly { IfOk result (λ e. flow_ending_of e.result (nodes_of e.nodes) (state_of e.session) ≡ parts_so_far (ops_of file block.now) (env_of env) (nodes_of nodes) (state_of session)) }
+    ensures language { IfOk result (λ e. (call : Call Here) (bound : List Name) → unbuilt_ops bound (ops_of file block.now) ≡ [] → flow_ending_of e.result (nodes_of e.nodes) (state_of e.session) ≡ runs starlark call (ops_of file block.now) (env_of env) (nodes_of nodes) (state_of session)) }
 {
     let machine = Machine {
         file,
         env,
         session,
+        nodes,
         frames: Items::new(alloc),
     };
     let Stopped { machine, control } = run_down(alloc, machine, Control::Run(block))?;
