@@ -8,11 +8,5 @@ pub goes : {E : Type 0} (r : Result Control E) (m : Machine) {b d : Final} {n l 
 goes (Ok c) m e le h = record { same = h.same ∙ e; less = omega (arith, h.less, le) }
 goes (Err x) m e le h = tt
 
-pub sevens : (m : Machine) → budget m 7 ≤ budget m 10
-sevens m = omega arith
-
-pub as_much : (m : Machine) → budget m 7 ≤ budget m 7
+pub as_much : (m : Machine) → budget m 11 ≤ budget m 11
 as_much m = omega arith
-
-pub tens : (m : Machine) → budget m 10 ≤ budget m 10
-tens m = omega arith

@@ -85,7 +85,7 @@ fn act<'p>(
     match expr {
         Expr::Int(_, n) => Ok(Control::Gave(Value::Int(*n))),
         Expr::Text(_, text) => Ok(Control::Gave(Value::Text(Rc::new(alloc, text.copy()?)?))),
-        Expr::Name(_, name) => variable(m, place, name),
+        Expr::Name(_, name) => variable(alloc, m, place, name),
         Expr::Tuple(_, members) => values_from(alloc, m, members.as_slice(), Items::new(alloc)),
         Expr::Unary(_, op, a) => push(
             m,
@@ -133,11 +133,16 @@ fn act<'p>(
 }
 
 /// The value of a name.
-fn variable<'p>(m: &Machine<'p>, place: Place, name: &Text) -> Result<Control<'p>, Memory>
+fn variable<'p>(
+    alloc: Global,
+    m: &Machine<'p>,
+    place: Place,
+    name: &Text,
+) -> Result<Control<'p>, Memory>
     ensures { GoesToValue result m.now m.now (read_name place name.now (box_of name.now (env_in m.now))) }
 {
     let position = find(m.env.as_slice(), name.as_str());
-    match read(&m.session, place, name, position) {
+    match read(alloc, &m.session, place, name, position) {
         Ok(value) => Ok(Control::Gave(value)),
         Err(Stop::Fault(fault)) => Ok(Control::Failed(fault)),
         Err(Stop::Memory) => Err(Memory),

@@ -1,7 +1,7 @@
 // Names.
 ghost use Rattle.std.specs.Prelude.{◌≡◌, Some};
 ghost use Rattle.ytt_base.specs.declared.fault.Stop.TheVariants as stop;
-ghost use Rattle.star_spec.specs.Names.{box_of, read_name, write_name};
+ghost use Rattle.star_spec.specs.Names.{box_of, constant, read_name, unbound, write_name};
 ghost use Rattle.star_spec.specs.Outcomes.{fail_with};
 ghost use Rattle.star_spec.specs.Store.{change, with_contents};
 ghost use Rattle.star_spec.specs.Values.{of_box};
@@ -10,8 +10,10 @@ ghost use Rattle.star_ops.specs.View.{value_of};
 ghost use Rattle.star_machine.specs.Meets.{state_of};
 ghost use Rattle.star_machine.specs.View.{env_of, store_of};
 
+use crate::refusals::refusal;
 use crate::session::{Bound, Session, Slot};
 use star_ops::Value;
+use star_tree::names::is_own_function;
 use std::alloc::Global;
 use ytt_base::fault::{Fault, FaultKind, Place, Stop};
 use ytt_base::text::Text;
@@ -40,8 +42,27 @@ pub(crate) fn refused(kind: FaultKind, place: Place, name: &Text) -> Result<Valu
     }))
 }
 
-/// The value of a name: `NameUnknown` where it has no box, `NameUnset` where its box has no value.
+/// A name that has no box: one of the language's that is a value, or `NotBuilt` for one of its functions, or `NameUnknown`.
+fn unbound(alloc: Global, place: Place, name: &Text) -> Result<Value, Stop>
+    ensures { Tells value_of result (unbound place name.now (constant name.now)) }
+{
+    match name.as_str() {
+        "None" => Ok(Value::None),
+        "True" => Ok(Value::Bool(true)),
+        "False" => Ok(Value::Bool(false)),
+        other => {
+            if is_own_function(other) {
+                Err(refusal(alloc, FaultKind::NotBuilt, place))
+            } else {
+                refused(FaultKind::NameUnknown, place, name)
+            }
+        }
+    }
+}
+
+/// The value of a name: that of its box, or `NameUnset` where the box has none; without a box as `unbound` says.
 pub(crate) fn read(
+    alloc: Global,
     session: &Session,
     place: Place,
     name: &Text,
@@ -50,7 +71,7 @@ pub(crate) fn read(
     ensures { Meets value_of result (state_of session.now) (read_name place name.now position (state_of session.now)) }
 {
     let position = match position {
-        None => return refused(FaultKind::NameUnknown, place, name),
+        None => return unbound(alloc, place, name),
         Some(position) => position,
     };
     match session.store.get(position) {

@@ -176,11 +176,12 @@ fn augment<'p>(
         Expr::Template(_, _) => return Ok(ill_flow(alloc)),
     };
     let at = Place { file: m.file, line };
-    augment_name(m, place, op, at, name, expr)
+    augment_name(alloc, m, place, op, at, name, expr)
 }
 
 /// An augmented assignment of a name at a place.
 fn augment_name<'p>(
+    alloc: Global,
     m: &mut Machine<'p>,
     place: Place,
     op: BinOp,
@@ -191,7 +192,7 @@ fn augment_name<'p>(
     ensures { GoesToFlow result m.new m.old (augmented (binary_operator_of op) place (plain.name at name.now) (expr_of m.old.file expr.now) (env_in m.old) (nodes_in m.old)) }
 {
     let position = find(m.env.as_slice(), name.as_str());
-    match read(&m.session, at, name, position) {
+    match read(alloc, &m.session, at, name, position) {
         Ok(old) => within(m, InStatement::Augment(place, op, at, name, old), expr),
         Err(Stop::Fault(fault)) => Ok(Control::Left(fault)),
         Err(Stop::Memory) => Err(Memory),
