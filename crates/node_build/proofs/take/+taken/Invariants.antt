@@ -1,0 +1,29 @@
+use Rattle.std.proofs.Common.{◌≡◌, ◌≤◌, ◌+◌, ◌*◌, length}
+use Rattle.star_spec.specs.Values.{Store}
+use Rattle.star_ops.specs.Meets.{in_store}
+use Rattle.star_ops.specs.View.{values_of}
+use Rattle.node_build.specs.Taking.{members_taken}
+use Rattle.node_build.proofs.Taking.{SoFar}
+use Rattle.node_build.proofs.take.+taken.Given as goal
+
+-- what is left of the members decides, and no step comes back
+abbrev pub invariant-member_trees-loop-rest : goal.invariant-member_trees-loop-rest
+invariant-member_trees-loop-rest l =
+    ((store : Store) → SoFar l.levels l.place (members_taken l.levels l.place (values_of l.members) (in_store store l.initial.steps)) l.trees (values_of l.rest) (in_store store l.steps))
+    × (l.steps ≤ l.initial.steps)
+
+abbrev pub decreases-member_trees-loop-rest : goal.decreases-member_trees-loop-rest
+decreases-member_trees-loop-rest l = length l.rest
+
+-- members have one level less
+abbrev pub decreases-list_tree : goal.decreases-list_tree
+decreases-list_tree l = 4 * l.levels
+
+abbrev pub decreases-taken_tree : goal.decreases-taken_tree
+decreases-taken_tree l = 4 * l.levels + 1
+
+abbrev pub decreases-member_tree : goal.decreases-member_tree
+decreases-member_tree l = 4 * l.levels + 2
+
+abbrev pub decreases-member_trees : goal.decreases-member_trees
+decreases-member_trees l = 4 * l.levels + 3
