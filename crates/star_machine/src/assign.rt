@@ -48,6 +48,14 @@ pub(crate) struct Row<'p> {
     pub next: usize,
 }
 
+/// Puts a row on the others.
+fn wait<'p>(rows: &mut Items<Row<'p>>, row: Row<'p>) -> Result<(), Memory>
+    ensures { OnOk result (reverse rows.new ≡ row.entry ∷ reverse rows.old) }
+{
+    rows.push(row)?;
+    Ok(())
+}
+
 /// A row of targets for the members of a value, which has as many.
 fn spread<'p>(
     alloc: Global,
@@ -70,11 +78,12 @@ fn spread<'p>(
     if members.len() != targets.len() {
         return Err(refusal(alloc, FaultKind::ValueKind, place));
     }
-    rows.push(Row {
+    let row = Row {
         targets,
         members,
         next: 0,
-    })?;
+    };
+    wait(rows, row)?;
     Ok(())
 }
 
@@ -154,11 +163,12 @@ fn first_of<'p>(
         None => return Err(Stop::Memory),
         Some(following) => following,
     };
-    rows.push(Row {
+    let waiting = Row {
         targets: rest,
         members,
         next: following,
-    })?;
+    };
+    wait(rows, waiting)?;
     begin(alloc, file, env, session, place, target, value, rows)
 }
 
