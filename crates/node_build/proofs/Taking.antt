@@ -58,7 +58,7 @@ module _ (n : ℕ) (p : Place) where
   and_more vs t = members_taken n p vs >>= λ ts. give (tree t ts)
 
   first_member : (v : plain.Value) (vs : List plain.Value) (s : State (Unit {0})) → members_taken n p (v ∷ vs) s ≡ then_do (member_taken n p v s) (and_more vs)
-  unfolding (members_taken, member_taken)
+  unfolding members_taken member_taken
   first_member v vs s = refl
 
   pub members_start : (r : Ending (Unit {0}) Trees) → r ≡ then_do r (before_them [])
