@@ -1,19 +1,18 @@
 -- What the definitions give for some templates, by computing: first as they are built, and then as their programs run.
 use Rattle.std.proofs.Common.{◌≡◌, ℕ, ◌-◌, ◌^◌, ℤ, pos, negsuc, List, [], Some, refl, codes}
-use Rattle.std.specs.Str.{chars}
 use Rattle.ytt_base.specs.declared.fault.Fault.{Fault}
 use Rattle.ytt_base.specs.declared.fault.FaultKind.TheVariants as kind
 use Rattle.ytt_base.specs.Outcomes.{place_at, fault_at}
-use Rattle.ytt_base.specs.Trees.{Scalar, null, integer, string, scalar, map, Trees, no_trees, tree, no_pairs, pair}
+use Rattle.ytt_base.specs.Trees.{Scalar, null, integer, string, scalar, list, map, Trees, no_trees, tree, no_pairs, pair}
 use Rattle.std.specs.Str.{chars}
 use Rattle.yaml_spec.specs.Scalars.{form}
 use Rattle.yaml_spec.specs.Text.{fits_plain}
-use Rattle.star_spec.specs.Code.{Expr, int, text, unary, binary, negation, addition, multiplication, floor_division}
-use Rattle.star_spec.specs.Program.{document_item, pair_item}
+use Rattle.star_spec.specs.Code.{Expr, int, text, name, tuple, unary, binary, negation, addition, multiplication, floor_division, equal, no_exprs, an_expr, assign}
+use Rattle.star_spec.specs.Program.{document_item, pair_item, element_item}
 use Rattle.star_spec.specs.Outcomes.{State, Ending, done, bad}
 use Rattle.star_spec.specs.Calls.{no_natives}
 use Rattle.star_spec.specs.Eval.{starlark}
-use Rattle.template_spec.specs.Template.{Items, no_items, an_item, node, no_notes, no_key, written_key, Content, written_value, value_from, pairs}
+use Rattle.template_spec.specs.Template.{Item, Items, no_items, an_item, node, code, if_block, for_block, no_notes, no_key, written_key, else_branch, elif_branch, Content, written_value, value_from, pairs, elements}
 use Rattle.template_spec.specs.Compiled.{compiled}
 use Rattle.template_spec.specs.Files.{FileResult, nothing_to_load}
 use Rattle.template_spec.specs.Meaning.{BuildFile, RunFile, documents}
@@ -140,3 +139,76 @@ refuses_second_key = refl
 -- a null document is dropped; an empty map stays one
 drops_null : built_with 100 (document (written_value null) (document (pairs no_items) no_items)) ≡ gives (tree (map no_pairs) no_trees) 98
 drops_null = refl
+
+-- ---- statements and blocks
+
+-- a row of two, on a line
+abbrev row_of : ℕ → Expr → Expr → Expr
+row_of line a b = tuple (place_at 1 line) (an_expr a (an_expr b no_exprs))
+
+abbrev one_item : Item → Items
+one_item i = an_item i no_items
+
+-- a list's elements from a loop:
+--   list:
+--   #@ for n in ("a", "b"):
+--   - #@ n
+--   #@ end
+abbrev each_name : Items
+each_name = document (pairs (pair_at 1 (codes "list") (elements (one_item (for_block (place_at 1 2) (name (place_at 1 2) (codes "n")) (row_of 2 (words (codes "a")) (words (codes "b"))) (one_item (node (place_at 1 3) element_item no_notes no_key (value_from (name (place_at 1 3) (codes "n")))))))) no_items)) no_items
+
+abbrev names_listed : Trees
+names_listed = tree (map (pair (string (codes "list")) (list (tree (scalar (string (codes "a"))) (tree (scalar (string (codes "b"))) no_trees))) no_pairs)) no_trees
+
+-- the document, the pair, the loop, its row and two members; each turn, its element and the name take a step each
+loop_gives_elements : built_with 100 each_name ≡ gives names_listed 88
+loop_gives_elements = refl
+
+loop_gives_elements_run : run_with 100 each_name ≡ gives names_listed 88
+loop_gives_elements_run = refl
+
+-- the pair of a loop's second turn has the first one's key:
+--   #@ for i in (0, 1):
+--   k: #@ i
+--   #@ end
+abbrev same_key_each_turn : Items
+same_key_each_turn = document (pairs (one_item (for_block (place_at 1 1) (name (place_at 1 1) (codes "i")) (row_of 1 (number (pos 0)) (number (pos 1))) (pair_at 2 (codes "k") (value_from (name (place_at 1 2) (codes "i"))) no_items)))) no_items
+
+loop_refuses_second_key : built_with 100 same_key_each_turn ≡ faults (record { kind = kind.KeyTwice; place = Some (place_at 1 2); detail = codes "k" })
+unfolding form fits_plain chars
+loop_refuses_second_key = refl
+
+loop_refuses_second_key_run : run_with 100 same_key_each_turn ≡ faults (record { kind = kind.KeyTwice; place = Some (place_at 1 2); detail = codes "k" })
+unfolding form fits_plain chars
+loop_refuses_second_key_run = refl
+
+abbrev x_is : (line : ℕ) → ℤ → Expr
+x_is line z = binary (place_at 1 line) equal (name (place_at 1 line) (codes "x")) (int (place_at 1 line) z)
+
+abbrev a_holds : (line : ℕ) → ℤ → Items
+a_holds line z = pair_at line (codes "a") (written_value (integer z)) no_items
+
+-- the branch whose test holds:
+--   #@ x = 2
+--   #@ if x == 1:
+--   a: 1
+--   #@ elif x == 2:
+--   a: 2
+--   #@ else:
+--   a: 3
+--   #@ end
+abbrev chosen_by : ℤ → Items
+chosen_by z = document (pairs (an_item (code (assign (place_at 1 1) (name (place_at 1 1) (codes "x")) (int (place_at 1 1) z))) (one_item (if_block (place_at 1 2) (x_is 2 (pos 1)) (a_holds 3 (pos 1)) (elif_branch (place_at 1 4) (x_is 4 (pos 2)) (a_holds 5 (pos 2)) (else_branch (place_at 1 6) (a_holds 7 (pos 3)))))))) no_items
+
+-- the document, the statement and its literal, the block, two tests of three nodes each, and the pair take a step each
+second_branch : built_with 100 (chosen_by (pos 2)) ≡ gives (a_is (integer (pos 2))) 89
+second_branch = refl
+
+second_branch_run : run_with 100 (chosen_by (pos 2)) ≡ gives (a_is (integer (pos 2))) 89
+second_branch_run = refl
+
+first_branch : built_with 100 (chosen_by (pos 1)) ≡ gives (a_is (integer (pos 1))) 92
+first_branch = refl
+
+last_branch : built_with 100 (chosen_by (pos 0)) ≡ gives (a_is (integer (pos 3))) 89
+last_branch = refl

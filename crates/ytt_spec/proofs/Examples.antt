@@ -15,12 +15,14 @@ use Rattle.yaml_spec.specs.Rows.{key_at, heads_of, row_at, taken, rows}
 use Rattle.yaml_spec.specs.Entries.{cut_after, content_of, entry_content, entry, entry_at, entries, Doc}
 use Rattle.yaml_spec.specs.Read.{segments, explicit, ended as read_ended, documents, implicit, Read, distinct}
 use Rattle.yaml_spec.specs.Text.{fits_plain, fits_literal}
-use Rattle.star_spec.specs.Code.{Expr, binary, floor_division, int, name, no_exprs}
-use Rattle.star_spec.specs.CodeReading.{CodeReader, end_header}
+use Rattle.star_spec.specs.Code.{Expr, assign, binary, equal, floor_division, int, name, no_exprs, an_expr, text as written_text, tuple}
+use Rattle.star_spec.specs.CodeReading.{CodeReader, Header, if_header, elif_header, else_header, for_header, end_header}
+use Rattle.star_spec.specs.Program.{statement}
 use Rattle.template_spec.specs.Comments.{comment_said}
 use Rattle.template_spec.specs.Events.{events}
 use Rattle.template_spec.specs.Misplaced.{placing_fault}
 use Rattle.template_spec.specs.Nesting.{placed_whole}
+use Rattle.ytt_base.specs.declared.fault.Place.{Place}
 use Rattle.ytt_base.specs.Outcomes.{place_at}
 use Rattle.ytt_outside.specs.Standing.{Standing, nothing, file, folder}
 use Rattle.ytt_spec.specs.Due.{Due, done, fault, usage, due}
@@ -203,7 +205,7 @@ unknown_name : (r : CodeReader) → r.expr (place_at 1 1) (codes "x") ≡ Ok (na
 unfolding digits chars encode is_utf8 cut lines_of checked Lines form plain fold_parts single double parts Quote header body block_text Block start_fault span further plain_lines gap flow_key elements pair_value pairs flow_scalar flow noted ended value key_at heads_of row_at taken rows cut_after content_of entry_content entry entry_at entries Doc segments explicit read_ended documents implicit Read distinct fits_plain fits_literal comment_said events placing_fault placed_whole
 unknown_name r read = rw read refl
 
--- a name of the language is known, and isn't built yet
+-- a function of the language is known, and isn't built yet
 known_name : (r : CodeReader) → r.expr (place_at 1 1) (codes "len") ≡ Ok (name (place_at 1 1) (codes "len")) → due_of r (codes "a: #@ len\n") ≡ fault (codes "error: NotBuilt at a.yml:1\n")
 unfolding digits chars encode is_utf8 cut lines_of checked Lines form plain fold_parts single double parts Quote header body block_text Block start_fault span further plain_lines gap flow_key elements pair_value pairs flow_scalar flow noted ended value key_at heads_of row_at taken rows cut_after content_of entry_content entry entry_at entries Doc segments explicit read_ended documents implicit Read distinct fits_plain fits_literal comment_said events placing_fault placed_whole
 known_name r read = rw read refl
@@ -221,3 +223,42 @@ ignored_comment = refl
 plain_file : (r : CodeReader) → steps_over r (codes "a: 1\n") (codes "1") ≡ done (codes "a: 1\n")
 unfolding digits chars encode is_utf8 cut lines_of checked Lines form plain fold_parts single double parts Quote header body block_text Block start_fault span further plain_lines gap flow_key elements pair_value pairs flow_scalar flow noted ended value key_at heads_of row_at taken rows cut_after content_of entry_content entry entry_at entries Doc segments explicit read_ended documents implicit Read distinct fits_plain fits_literal
 plain_file r = refl
+
+-- ---- statements and blocks: texts with a toy reader, which knows their code by heart, and takes any expression as a name
+
+abbrev row_of : Place → Expr → Expr → Expr
+row_of p a b = tuple p (an_expr a (an_expr b no_exprs))
+
+abbrev x_is : Place → ℕ → Expr
+x_is p n = binary p equal (name p (codes "x")) (int p (pos n))
+
+abbrev toy_header : Place → List ℕ → Header
+toy_header p t =
+    if bytes_eq t (codes "for n in (\"a\", \"b\"):") then for_header (name p (codes "n")) (row_of p (written_text p (codes "a")) (written_text p (codes "b")))
+    else if bytes_eq t (codes "for i in (0, 1):") then for_header (name p (codes "i")) (row_of p (int p (pos 0)) (int p (pos 1)))
+    else if bytes_eq t (codes "if x == 1:") then if_header (x_is p 1)
+    else if bytes_eq t (codes "elif x == 2:") then elif_header (x_is p 2)
+    else if bytes_eq t (codes "else:") then else_header
+    else end_header
+
+abbrev toy : CodeReader
+toy = record {
+  expr = λ p t. Ok (name p t);
+  args = λ p t. Ok no_exprs;
+  simple = λ p t. Ok (statement (assign p (name p (codes "x")) (int p (pos 2))) ∷ []);
+  header = λ p t. Ok (toy_header p t);
+  is_open = λ p t. false;
+}
+
+elements_from_loop : due_of toy (codes "list:\n#@ for n in (\"a\", \"b\"):\n- #@ n\n#@ end\n") ≡ done (codes "list:\n- a\n- b\n")
+unfolding digits chars encode is_utf8 cut lines_of checked Lines form plain fold_parts single double parts Quote header body block_text Block start_fault span further plain_lines gap flow_key elements pair_value pairs flow_scalar flow noted ended value key_at heads_of row_at taken rows cut_after content_of entry_content entry entry_at entries Doc segments explicit read_ended documents implicit Read distinct fits_plain fits_literal comment_said events placing_fault placed_whole
+elements_from_loop = refl
+
+-- the second turn gives the first one's key
+key_from_loop : due_of toy (codes "#@ for i in (0, 1):\nk: #@ i\n#@ end\n") ≡ fault (codes "error: KeyTwice at a.yml:2: k\n")
+unfolding digits chars encode is_utf8 cut lines_of checked Lines form plain fold_parts single double parts Quote header body block_text Block start_fault span further plain_lines gap flow_key elements pair_value pairs flow_scalar flow noted ended value key_at heads_of row_at taken rows cut_after content_of entry_content entry entry_at entries Doc segments explicit read_ended documents implicit Read distinct fits_plain fits_literal comment_said events placing_fault placed_whole
+key_from_loop = refl
+
+second_branch : due_of toy (codes "#@ x = 2\n#@ if x == 1:\na: 1\n#@ elif x == 2:\na: 2\n#@ else:\na: 3\n#@ end\n") ≡ done (codes "a: 2\n")
+unfolding digits chars encode is_utf8 cut lines_of checked Lines form plain fold_parts single double parts Quote header body block_text Block start_fault span further plain_lines gap flow_key elements pair_value pairs flow_scalar flow noted ended value key_at heads_of row_at taken rows cut_after content_of entry_content entry entry_at entries Doc segments explicit read_ended documents implicit Read distinct fits_plain fits_literal comment_said events placing_fault placed_whole
+second_branch = refl

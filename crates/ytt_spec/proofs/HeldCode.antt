@@ -1,18 +1,14 @@
--- The literals of an expression in which all is built are what the program holds: integers of 128 bits, and texts in UTF-8.
+-- The literals of code in which all is built are what the program holds: integers of 128 bits, and texts in UTF-8.
 use Rattle.std.proofs.Common.{◌≡◌, ℤ, pos, negsuc, ◌^◌, Bool, true, false, List, [], ◌∷◌, ◌++◌, FitsSigned, ltb-true, refl, arith}
 use Rattle.std.proofs.lemmas.Str.{IsUtf8-from_is_utf8}
 use Rattle.std.specs.Int.{w128}
 use Rattle.std.specs.Str.{is_utf8}
 use Rattle.ytt_base.specs.declared.fault.Place.{Place}
 use Rattle.star_spec.specs.Code as code
-use Rattle.star_spec.specs.Code.{Expr}
-use Rattle.star_spec.specs.Held.{HeldExpr}
-use Rattle.template_spec.specs.Unbuilt.{is_built_binary, is_built_unary, is_integer, unbuilt_expr, unless_built}
-
--- neither of two has an unbuilt place
-pub both_built : (ps qs : List Place) → ps ++ qs ≡ [] → (ps ≡ []) × (qs ≡ [])
-both_built [] qs e = (refl, e)
-both_built (p ∷ ps) qs e = cc
+use Rattle.star_spec.specs.Code.{Name, Expr, Exprs, no_exprs, an_expr, Statement, evaluate, assign, augment, return}
+use Rattle.star_spec.specs.Held.{HeldExpr, HeldExprs, HeldStatement}
+use Rattle.star_spec.specs.Unbuilt.{is_integer, unbuilt_expr, unbuilt_exprs, unbuilt_statement, unbuilt_target, unbuilt_targets, unless_built}
+use Rattle.star_spec.proofs.UnbuiltBlocks.{none_in_both}
 
 built_test : (b : Bool) (p : Place) → unless_built b p ≡ [] → b ≡ true
 built_test true p e = refl
@@ -24,21 +20,54 @@ integer_fits (negsuc n) h = record { sfits = omega (arith, ltb-true n (2 ^ 127) 
 
 -- a place stands behind those of its operand
 one_unbuilt : {A : Type 0} (ps : List Place) (p : Place) → ps ++ (p ∷ []) ≡ [] → A
-one_unbuilt [] p e = cc
-one_unbuilt (q ∷ ps) p e = cc
+one_unbuilt ps p e = let both = none_in_both ps (p ∷ []) e in cc
 
-pub expr_held : (e : Expr) → unbuilt_expr e ≡ [] → HeldExpr e
-expr_held (code.int p z) h = integer_fits z (built_test (is_integer z) p h)
-expr_held (code.text p t) h = IsUtf8-from_is_utf8 t (built_test (is_utf8 t) p h)
-expr_held (code.unary p o a) h = expr_held a (both_built (unless_built (is_built_unary o) p) (unbuilt_expr a) h).1
-expr_held (code.binary p o a b) h =
-    let first = both_built (unbuilt_expr a) (unless_built (is_built_binary o) p ++ unbuilt_expr b) h in
-    (expr_held a first.0, expr_held b (both_built (unless_built (is_built_binary o) p) (unbuilt_expr b) first.1).1)
-expr_held (code.conjunction p a b) h = one_unbuilt (unbuilt_expr a) p h
-expr_held (code.disjunction p a b) h = one_unbuilt (unbuilt_expr a) p h
-expr_held (code.conditional p c a b) h = one_unbuilt (unbuilt_expr a) p h
-expr_held (code.call p f es) h = one_unbuilt (unbuilt_expr f) p h
-expr_held (code.index p a i) h = one_unbuilt (unbuilt_expr a) p h
-expr_held (code.slice p a l g d) h = one_unbuilt (unbuilt_expr a) p h
-expr_held (code.attribute p a x) h = one_unbuilt (unbuilt_expr a) p h
-expr_held e h = cc
+-- two things, each of which is such where it has no unbuilt place; and three
+pub two_held : {P Q : Type 0} (ps qs : List Place) → (ps ≡ [] → P) → (qs ≡ [] → Q) → ps ++ qs ≡ [] → P × Q
+two_held ps qs f g h = let both = none_in_both ps qs h in (f both.0, g both.1)
+
+pub three_held : {P Q R : Type 0} (ps qs rs : List Place) → (ps ≡ [] → P) → (qs ≡ [] → Q) → (rs ≡ [] → R) → ps ++ (qs ++ rs) ≡ [] → P × Q × R
+three_held ps qs rs f g k h =
+    let both = none_in_both ps (qs ++ rs) h in
+    let rest = none_in_both qs rs both.1 in
+    (f both.0, g rest.0, k rest.1)
+
+module _ (bound : List Name) where
+  mutual
+    pub expr_held : (e : Expr) → unbuilt_expr bound e ≡ [] → HeldExpr e
+    expr_held (code.int p z) h = integer_fits z (built_test (is_integer z) p h)
+    expr_held (code.text p t) h = IsUtf8-from_is_utf8 t (built_test (is_utf8 t) p h)
+    expr_held (code.name p x) h = tt
+    expr_held (code.tuple p es) h = exprs_held es h
+    expr_held (code.unary p o a) h = expr_held a h
+    expr_held (code.binary p o a b) h = two_held (unbuilt_expr bound a) (unbuilt_expr bound b) (expr_held a) (expr_held b) h
+    expr_held (code.conjunction p a b) h = two_held (unbuilt_expr bound a) (unbuilt_expr bound b) (expr_held a) (expr_held b) h
+    expr_held (code.disjunction p a b) h = two_held (unbuilt_expr bound a) (unbuilt_expr bound b) (expr_held a) (expr_held b) h
+    expr_held (code.conditional p c a b) h = three_held (unbuilt_expr bound c) (unbuilt_expr bound a) (unbuilt_expr bound b) (expr_held c) (expr_held a) (expr_held b) h
+    expr_held (code.call p f es) h = one_unbuilt (unbuilt_expr bound f) p h
+    expr_held (code.index p a i) h = one_unbuilt (unbuilt_expr bound a) p h
+    expr_held (code.slice p a l g d) h = one_unbuilt (unbuilt_expr bound a) p h
+    expr_held (code.attribute p a x) h = one_unbuilt (unbuilt_expr bound a) p h
+    expr_held e h = cc
+
+    exprs_held : (es : Exprs) → unbuilt_exprs bound es ≡ [] → HeldExprs es
+    exprs_held no_exprs h = tt
+    exprs_held (an_expr e es) h = two_held (unbuilt_expr bound e) (unbuilt_exprs bound es) (expr_held e) (exprs_held es) h
+
+  mutual
+    pub target_held : (x : Expr) → unbuilt_target bound x ≡ [] → HeldExpr x
+    target_held (code.name p x) h = tt
+    target_held (code.list p es) h = targets_held es h
+    target_held (code.tuple p es) h = targets_held es h
+    target_held e h = expr_held e h
+
+    targets_held : (es : Exprs) → unbuilt_targets bound es ≡ [] → HeldExprs es
+    targets_held no_exprs h = tt
+    targets_held (an_expr e es) h = two_held (unbuilt_target bound e) (unbuilt_targets bound es) (target_held e) (targets_held es) h
+
+  pub statement_held : (s : Statement) → unbuilt_statement bound s ≡ [] → HeldStatement s
+  statement_held (evaluate p e) h = expr_held e h
+  statement_held (assign p x e) h = two_held (unbuilt_target bound x) (unbuilt_expr bound e) (target_held x) (expr_held e) h
+  statement_held (augment p o q x e) h = two_held (unbuilt_target bound x) (unbuilt_expr bound e) (target_held x) (expr_held e) h
+  statement_held (return p e) h = expr_held e h
+  statement_held s h = tt
