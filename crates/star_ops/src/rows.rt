@@ -134,17 +134,13 @@ fn row_between(
 }
 
 /// What `%` gives. With a text at its left it formats, which is `NotBuilt` so far.
-fn remainder_row(
-    alloc: Global,
-    place: Place,
-    left: &Value,
-    right: &Value,
-) -> Result<Value, Stop>
+fn remainder_row(alloc: Global, place: Place, left: &Value, right: &Value) -> Result<Value, Stop>
     ensures { Tells value_of result (remainder_row place (value_of left.now) (value_of right.now)) }
 {
     match left {
         Value::Text(_) => Err(refusal(alloc, FaultKind::NotBuilt, place)),
-        _ => on_integers(alloc, place, IntegerOp::Remainder, left, right),
+        Value::Int(_) => on_integers(alloc, place, IntegerOp::Remainder, left, right),
+        _ => Err(refusal(alloc, FaultKind::ValueKind, place)),
     }
 }
 
