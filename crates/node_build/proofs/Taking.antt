@@ -1,12 +1,14 @@
 -- Values that are taken over as trees.
-use Rattle.std.proofs.Common.{◌≡◌, ℕ, zero, suc, ◌-◌, List, [], ◌∷◌, ◌++◌, Result, Ok, Err, refl, sym, ap, subst, ◌∙◌}
+use Rattle.std.proofs.Common.{◌≡◌, ◌<◌, ◌≤◌, ◌+◌, ℕ, zero, suc, List, [], ◌∷◌, ◌++◌, length, drop, get_or, Result, Ok, Err, refl, sym, ap, subst, ◌∙◌}
 use Rattle.ytt_base.specs.declared.fault.Place.{Place}
 use Rattle.ytt_base.specs.declared.fault.Stop.{Stop}
 use Rattle.ytt_base.specs.declared.fault.Stop.TheVariants as stop
 use Rattle.ytt_base.specs.declared.tree.Tree.{Tree as Built}
 use Rattle.ytt_base.specs.Trees.{Tree, Trees, no_trees, tree, list}
 use Rattle.ytt_base.specs.View.{tree_of, trees_of}
+use Rattle.std.proofs.Math.ListN.{drop_of_length-le}
 use Rattle.ytt_laws.proofs.InTurn.{and_trees, trees-last, trees-none}
+use Rattle.ytt_laws.proofs.Lists.{dropped}
 use Rattle.star_spec.specs.Outcomes.{Computation, Ending, State, done, bad, give, paid, then_do, ◌>>=◌}
 use Rattle.star_spec.specs.Program.{ItemKind}
 use Rattle.star_spec.specs.Values as plain
@@ -58,7 +60,7 @@ module _ (n : ℕ) (p : Place) where
   and_more vs t = members_taken n p vs >>= λ ts. give (tree t ts)
 
   first_member : (v : plain.Value) (vs : List plain.Value) (s : State (Unit {0})) → members_taken n p (v ∷ vs) s ≡ then_do (member_taken n p v s) (and_more vs)
-  unfolding (members_taken, member_taken)
+  unfolding members_taken member_taken
   first_member v vs s = refl
 
   pub members_start : (r : Ending (Unit {0}) Trees) → r ≡ then_do r (before_them [])
@@ -74,19 +76,33 @@ module _ (n : ℕ) (p : Place) where
     split v vs s h = h ∙ ap (λ o. then_do o (before_them front)) (first_member v vs s)
 
     -- one more tree
-    pub members_next : (v : plain.Value) (vs : List plain.Value) (t : Built) (s u : State (Unit {0})) → member_taken n p v s ≡ done (tree_of t) u → SoFar all front (v ∷ vs) s → SoFar all (front ++ t ∷ []) vs u
+    members_next : (v : plain.Value) (vs : List plain.Value) (t : Built) (s u : State (Unit {0})) → member_taken n p v s ≡ done (tree_of t) u → SoFar all front (v ∷ vs) s → SoFar all (front ++ t ∷ []) vs u
     members_next v vs t s u e h =
         split v vs s h ∙ ap (λ o. then_do (then_do o (and_more vs)) (before_them front)) e ∙ regrouped front t (members_taken n p vs u)
 
     -- one is refused
-    pub members_stop : (v : plain.Value) (vs : List plain.Value) (x : Stop) (s u : State (Unit {0})) (r : Result (List Built) Stop) → Meets tree_of (Err x) u (member_taken n p v s) → SoFar all front (v ∷ vs) s → r ≡ Err x → Meets trees_of r u all
+    members_stop : (v : plain.Value) (vs : List plain.Value) (x : Stop) (s u : State (Unit {0})) (r : Result (List Built) Stop) → Meets tree_of (Err x) u (member_taken n p v s) → SoFar all front (v ∷ vs) s → r ≡ Err x → Meets trees_of r u all
     members_stop v vs x s u r m h e =
         meets_same trees_of r u _ all (split v vs s h)
         (meets_stop trees_of trees_of x u (then_do (member_taken n p v s) (and_more vs)) (before_them front) r (meets_stop tree_of trees_of x u (member_taken n p v s) (and_more vs) (Err x) m refl) e)
 
     -- all are turned
-    pub members_all : (s : State (Unit {0})) → SoFar all front [] s → all ≡ done (trees_of front) s
+    members_all : (s : State (Unit {0})) → SoFar all front [] s → all ≡ done (trees_of front) s
     members_all s h = h ∙ ap (λ o. then_do o (before_them front)) (no_members s) ∙ ap (λ ts. done ts s) (trees-none front)
+
+module _ (n : ℕ) (p : Place) (members : List Value) (j : ℕ) (all : Ending (Unit {0}) Trees) (front : List Built) (s : State (Unit {0})) where
+  module _ (m : Value) (lt : j < length members) (is : m ≡ get_or members j m) (h : SoFar n p all front (values_of (drop j members)) s) where
+    first : SoFar n p all front (value_of m ∷ values_of (drop (j + 1) members)) s
+    first = h ∙ ap (λ ms. then_do (members_taken n p (values_of ms) s) (before_them front)) (dropped members j m lt is)
+
+    pub trees_next : (t : Built) (u : State (Unit {0})) → member_taken n p (value_of m) s ≡ done (tree_of t) u → SoFar n p all (front ++ t ∷ []) (values_of (drop (j + 1) members)) u
+    trees_next t u e = members_next n p all front (value_of m) (values_of (drop (j + 1) members)) t s u e first
+
+    pub trees_stop : (x : Stop) (u : State (Unit {0})) (r : Result (List Built) Stop) → Meets tree_of (Err x) u (member_taken n p (value_of m) s) → r ≡ Err x → Meets trees_of r u all
+    trees_stop x u r d e = members_stop n p all front (value_of m) (values_of (drop (j + 1) members)) x s u r d first e
+
+  pub trees_done : length members ≤ j → SoFar n p all front (values_of (drop j members)) s → all ≡ done (trees_of front) s
+  trees_done past h = members_all n p all front s (h ∙ ap (λ ms. then_do (members_taken n p (values_of ms) s) (before_them front)) (drop_of_length-le members past))
 
 -- ---- in a node
 

@@ -83,11 +83,9 @@ fn member_trees(
     ensures spent { steps.new ≤ steps.old }
 {
     let mut trees = Items::new(alloc);
-    let mut rest = members;
-    while let [first, more @ ..] = rest {
-        let tree = member_tree(alloc, place, levels, first, steps)?;
+    for member in members {
+        let tree = member_tree(alloc, place, levels, member, steps)?;
         push(&mut trees, tree)?;
-        rest = more;
     }
     Ok(trees)
 }

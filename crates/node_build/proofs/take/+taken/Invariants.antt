@@ -1,4 +1,4 @@
-use Rattle.std.proofs.Common.{◌≡◌, ◌≤◌, ◌+◌, ◌*◌, length}
+use Rattle.std.proofs.Common.{◌≡◌, ◌≤◌, ◌+◌, ◌*◌, drop}
 use Rattle.star_spec.specs.Values.{Store}
 use Rattle.star_ops.specs.Meets.{in_store}
 use Rattle.star_ops.specs.View.{values_of}
@@ -7,13 +7,10 @@ use Rattle.node_build.proofs.Taking.{SoFar}
 use Rattle.node_build.proofs.take.+taken.Given as goal
 
 -- what is left of the members decides, and no step comes back
-abbrev pub invariant-member_trees-loop-rest : goal.invariant-member_trees-loop-rest
-invariant-member_trees-loop-rest l =
-    ((store : Store) → SoFar l.levels l.place (members_taken l.levels l.place (values_of l.members) (in_store store l.initial.steps)) l.trees (values_of l.rest) (in_store store l.steps))
+abbrev pub invariant-member_trees-loop-member : goal.invariant-member_trees-loop-member
+invariant-member_trees-loop-member l =
+    ((store : Store) → SoFar l.levels l.place (members_taken l.levels l.place (values_of l.members) (in_store store l.initial.steps)) l.trees (values_of (drop l.member-index l.members)) (in_store store l.steps))
     × (l.steps ≤ l.initial.steps)
-
-abbrev pub decreases-member_trees-loop-rest : goal.decreases-member_trees-loop-rest
-decreases-member_trees-loop-rest l = length l.rest
 
 -- members have one level less
 abbrev pub decreases-list_tree : goal.decreases-list_tree
