@@ -79,6 +79,7 @@ pub(crate) fn close(alloc: Global, reading: &mut Reading) -> Result<(), Memory>
 }
 
 /// The innermost block begins here, as the first of an `if`.
+#[tactic(auto, using(crate::proofs::Forms::forms))]
 pub(crate) fn open_if(
     alloc: Global,
     line: u32,
@@ -103,6 +104,7 @@ pub(crate) fn open_if(
 }
 
 /// The innermost block begins here, as a further one of an `if`, with a test.
+#[tactic(auto, using(crate::proofs::Forms::forms))]
 pub(crate) fn next_arm(
     alloc: Global,
     test: &Boxed<Expr>,
@@ -124,6 +126,7 @@ pub(crate) fn next_arm(
 }
 
 /// The innermost block begins here, where no test of an `if` holds: only the last one may be that.
+#[tactic(auto, using(crate::proofs::Forms::forms))]
 pub(crate) fn last_arm(alloc: Global, reading: &mut Reading) -> Result<(), Memory>
     ensures { (file : ℕ) → OnOk result (parsed_of file reading.new ≡ last_arm (parsed_of file reading.old)) }
 {

@@ -19,6 +19,7 @@ use star_tree::copies::{copy_boxed, copy_loaded, copy_params};
 use std::alloc::Global;
 use ytt_base::text::{Memory, Text};
 
+#[tactic(auto, using(crate::proofs::Forms::forms))]
 fn put_assign(
     alloc: Global,
     line: u32,
@@ -33,6 +34,7 @@ fn put_assign(
     put(Op::Code(Statement::Assign(line, bound, given)), reading)
 }
 
+#[tactic(auto, using(crate::proofs::Forms::forms))]
 fn put_augment(
     alloc: Global,
     line: u32,
@@ -49,6 +51,7 @@ fn put_augment(
     put(Op::Code(Statement::Augment(line, op, op_line, bound, given)), reading)
 }
 
+#[tactic(auto, using(crate::proofs::Forms::forms))]
 fn put_load(
     alloc: Global,
     line: u32,
@@ -64,6 +67,7 @@ fn put_load(
 }
 
 /// The innermost block begins here, as that of a loop.
+#[tactic(auto, using(crate::proofs::Forms::forms))]
 fn open_for(
     alloc: Global,
     line: u32,
@@ -84,6 +88,7 @@ fn open_for(
 }
 
 /// The innermost block begins here, as that of a function.
+#[tactic(auto, using(crate::proofs::Forms::forms))]
 fn open_def(
     alloc: Global,
     line: u32,
@@ -107,6 +112,7 @@ fn open_def(
 }
 
 /// One statement more, in front of what is read.
+#[tactic(auto, using(crate::proofs::Forms::forms))]
 fn read(alloc: Global, stmt: &Stmt, reading: &mut Reading) -> Result<(), Memory>
     ensures { (file : ℕ) → OnOk result (parsed_of file reading.new ≡ read_one (instruction_of file stmt.now) (parsed_of file reading.old)) }
 {
@@ -157,10 +163,10 @@ fn read_all(alloc: Global, code: &[Stmt]) -> Result<Reading, Memory>
 pub fn nest(alloc: Global, code: &Items<Stmt>) -> Result<Option<Block>, Memory>
     ensures { (file : ℕ) → IfOk result (λ o. option_map (ops_of file) o ≡ blocks (instructions_of file code.now)) }
 {
-    let reading = read_all(alloc, code.as_slice())?;
-    match reading.top {
+    let Reading { top, inner } = read_all(alloc, code.as_slice())?;
+    match top {
         Some(ops) => {
-            if reading.inner.is_empty() {
+            if inner.is_empty() {
                 Ok(Some(reversed(alloc, ops)?))
             } else {
                 Ok(None)
