@@ -1,5 +1,5 @@
 -- The plain block of each form of statement and branch.
-use Rattle.std.proofs.Common.{◌≡◌, List, rules, ℕ, Option, refl}
+use Rattle.std.proofs.Common.{◌≡◌, List, rules, ℕ, Option}
 use Rattle.std.specs.Option.{option_map}
 use Rattle.ytt_base.specs.Outcomes.{place_at}
 use Rattle.star_spec.specs.Code as plain

@@ -6,7 +6,6 @@ use Rattle.star_spec.specs.Blocks.{Ops, no_ops, Arms, no_arm, Parsed, broken, at
 use Rattle.star_spec.specs.Program.{Instruction, part, statement, begin_if, begin_elif, begin_else, begin_for, begin_def, close}
 use Rattle.star_blocks.specs.Nested.{ops_of, arms_of}
 use Rattle.star_blocks.specs.declared.block.Op.{Op}
-use Rattle.star_blocks.specs.declared.block.Arm.{Arm}
 use Rattle.star_blocks.specs.declared.level.Level.{Level}
 use Rattle.star_blocks.specs.declared.level.Reading.{Reading}
 

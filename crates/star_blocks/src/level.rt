@@ -79,7 +79,6 @@ pub(crate) fn close(alloc: Global, reading: &mut Reading) -> Result<(), Memory>
 }
 
 /// The innermost block begins here, as the first of an `if`.
-#[tactic(auto, using(crate::proofs::Forms::forms))]
 pub(crate) fn open_if(
     alloc: Global,
     line: u32,
@@ -140,10 +139,7 @@ pub(crate) fn last_arm(alloc: Global, reading: &mut Reading) -> Result<(), Memor
 }
 
 /// Takes the innermost block. Where branches of an `if` stand behind it, or there is none, all is broken.
-pub(crate) fn take_block(
-    alloc: Global,
-    reading: &mut Reading,
-) -> Result<Option<Block>, Memory>
+pub(crate) fn take_block(alloc: Global, reading: &mut Reading) -> Result<Option<Block>, Memory>
     ensures { (file : ℕ) → Taken file result (parsed_of file reading.old) (parsed_of file reading.new) }
 {
     if let Some(level) = reading.inner.pop() {

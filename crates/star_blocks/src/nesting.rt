@@ -19,7 +19,6 @@ use star_tree::copies::{copy_boxed, copy_loaded, copy_params};
 use std::alloc::Global;
 use ytt_base::text::{Memory, Text};
 
-#[tactic(auto, using(crate::proofs::Forms::forms))]
 fn put_assign(
     alloc: Global,
     line: u32,
@@ -34,7 +33,6 @@ fn put_assign(
     put(Op::Code(Statement::Assign(line, bound, given)), reading)
 }
 
-#[tactic(auto, using(crate::proofs::Forms::forms))]
 fn put_augment(
     alloc: Global,
     line: u32,
@@ -48,10 +46,12 @@ fn put_augment(
 {
     let bound = copy_boxed(alloc, target)?;
     let given = copy_boxed(alloc, value)?;
-    put(Op::Code(Statement::Augment(line, op, op_line, bound, given)), reading)
+    put(
+        Op::Code(Statement::Augment(line, op, op_line, bound, given)),
+        reading,
+    )
 }
 
-#[tactic(auto, using(crate::proofs::Forms::forms))]
 fn put_load(
     alloc: Global,
     line: u32,
@@ -67,7 +67,6 @@ fn put_load(
 }
 
 /// The innermost block begins here, as that of a loop.
-#[tactic(auto, using(crate::proofs::Forms::forms))]
 fn open_for(
     alloc: Global,
     line: u32,
@@ -81,14 +80,16 @@ fn open_for(
         Some(block) => {
             let bound = copy_boxed(alloc, target)?;
             let walked = copy_boxed(alloc, members)?;
-            put(Op::Code(Statement::For(line, bound, walked, block)), reading)
+            put(
+                Op::Code(Statement::For(line, bound, walked, block)),
+                reading,
+            )
         }
         None => Ok(()),
     }
 }
 
 /// The innermost block begins here, as that of a function.
-#[tactic(auto, using(crate::proofs::Forms::forms))]
 fn open_def(
     alloc: Global,
     line: u32,
@@ -112,7 +113,6 @@ fn open_def(
 }
 
 /// One statement more, in front of what is read.
-#[tactic(auto, using(crate::proofs::Forms::forms))]
 fn read(alloc: Global, stmt: &Stmt, reading: &mut Reading) -> Result<(), Memory>
     ensures { (file : ℕ) → OnOk result (parsed_of file reading.new ≡ read_one (instruction_of file stmt.now) (parsed_of file reading.old)) }
 {
@@ -159,7 +159,8 @@ fn read_all(alloc: Global, code: &[Stmt]) -> Result<Reading, Memory>
     Ok(reading)
 }
 
-/// The blocks of a program, or `None` where some block isn't closed where it should be.
+/// The blocks of a program, or `None` where some block isn't closed where it should be. The error is
+/// that memory is out.
 pub fn nest(alloc: Global, code: &Items<Stmt>) -> Result<Option<Block>, Memory>
     ensures { (file : ℕ) → IfOk result (λ o. option_map (ops_of file) o ≡ blocks (instructions_of file code.now)) }
 {

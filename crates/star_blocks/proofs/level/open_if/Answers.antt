@@ -1,6 +1,6 @@
 use Rattle.std.proofs.Common.{◌≡◌, [], ◌∷◌, ◌++◌}
 use Rattle.star_blocks.specs.declared.block.Arm as branch
-use Rattle.star_blocks.proofs.Putting.{opened_if}
+use Rattle.star_blocks.proofs.FromEnd.{opened_if}
 use Rattle.star_blocks.proofs.level.open_if.Goals as goal
 
 pub returns-in_ok-branches-in-Some : goal.returns-in_ok-branches-in-Some

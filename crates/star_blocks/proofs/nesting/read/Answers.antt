@@ -1,14 +1,11 @@
 use Rattle.std.proofs.Common.{ap, sym, ◌∙◌}
-use Rattle.std.specs.Option.{option_map}
 use Rattle.ytt_base.specs.Outcomes.{place_at}
-use Rattle.star_spec.specs.Blocks.{op_def, op_for, op_part, op_statement, put}
+use Rattle.star_spec.specs.Blocks.{op_part, op_statement, put}
 use Rattle.star_spec.specs.Code as plain
-use Rattle.star_tree.specs.View.{item_kind_of}
-use Rattle.star_tree.specs.Whole.{binary_operator_of, expr_of, instruction_of, loaded_names_of, parameters_of, part_of}
-use Rattle.star_blocks.specs.Nested.{ops_of}
+use Rattle.star_tree.specs.Whole.{expr_of, instruction_of, part_of}
 use Rattle.star_blocks.specs.Reading.{parsed_of, read_one}
-use Rattle.star_blocks.proofs.Forms.{of_assign, of_augment, of_break, of_continue, of_def, of_expr, of_for, of_load, of_node, of_pass, of_return}
-use Rattle.star_blocks.proofs.Putting.{opened, parsed_same, put_same}
+use Rattle.star_blocks.proofs.Forms.{of_break, of_continue, of_expr, of_node, of_pass, of_return}
+use Rattle.star_blocks.proofs.FromEnd.{parsed_same}
 use Rattle.star_blocks.proofs.nesting.read.Goals as goal
 
 pub returns-in_ok-evaluated-in-Expr : goal.returns-in_ok-evaluated-in-Expr

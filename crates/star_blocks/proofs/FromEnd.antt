@@ -1,16 +1,14 @@
 -- What is read of a program from its end.
-use Rattle.std.proofs.Common.{◌≡◌, ℕ, ◌+◌, ◌-◌, ◌<◌, ◌≤◌, List, [], ◌∷◌, length, drop, get_or, map as each, refl, ap, arith, sym, ◌∙◌, Option, Some, None, Result, Ok, Err, OnOk, IfOk, subst, reverse, ◌++◌}
-use Rattle.std.proofs.lemmas.List.{drop_more, reverse-append, reverse-reverse}
+use Rattle.std.proofs.Common.{◌≡◌, ℕ, List, [], ◌∷◌, map as each, refl, ap, sym, ◌∙◌, Option, Some, None, Result, Ok, Err, OnOk, subst, reverse, ◌++◌}
+use Rattle.std.proofs.lemmas.List.{reverse-append, reverse-reverse}
 use Rattle.ytt_base.specs.Outcomes.{place_at}
 use Rattle.ytt_base.specs.declared.text.Memory.{Memory}
 use Rattle.star_spec.specs.Blocks as blocks
 use Rattle.star_spec.specs.Blocks.{Arms, Ops, Parsed, arm, broken, inside, no_arm, op_if, open_block, open_if, parse, put, whole}
-use Rattle.star_spec.specs.Program.{Instruction, part, statement, begin_if, begin_elif, begin_else, begin_for, begin_def, close}
-use Rattle.star_tree.specs.declared.code.Stmt.{Stmt}
 use Rattle.star_tree.specs.declared.code.Expr.{Expr}
-use Rattle.star_tree.specs.Whole.{expr_of, instruction_of, instructions_of}
+use Rattle.star_tree.specs.Whole.{expr_of}
 use Rattle.star_blocks.specs.Nested.{Branch, arms_from, arms_of, branch_of, else_branch, op_of, ops_of, test_branch}
-use Rattle.star_blocks.specs.Reading.{Refused, Taken, inner_of, read_one, top_of}
+use Rattle.star_blocks.specs.Reading.{Refused, Taken, inner_of, top_of}
 use Rattle.star_blocks.specs.declared.block.Op.{Op}
 use Rattle.star_blocks.specs.declared.block.Arm.{Arm}
 use Rattle.star_blocks.specs.declared.block.Op as held
@@ -26,29 +24,6 @@ parsed_same (Err m) new a b h e = tt
 
 pub put_same : (r : Result (Unit {0}) Memory) (new old : Parsed) (a b : blocks.Op) → OnOk r (new ≡ put a old) → a ≡ b → OnOk r (new ≡ put b old)
 put_same r new old a b h e = parsed_same r new (put a old) (put b old) h (ap (λ o. put o old) e)
-
-pub parse_one : (i : Instruction) (is : List Instruction) → parse (i ∷ is) ≡ read_one i (parse is)
-parse_one (part o) is = refl
-parse_one (statement s) is = refl
-parse_one (begin_if p e) is = refl
-parse_one (begin_elif p e) is = refl
-parse_one (begin_else p) is = refl
-parse_one (begin_for p x e) is = refl
-parse_one (begin_def p n k x ps) is = refl
-parse_one (close p) is = refl
-
--- one statement more, from the end
-pub read_more : (file : ℕ) (code : List Stmt) (at : ℕ) (x : Stmt) (new now : Parsed) → 0 < at → at ≤ length code → x ≡ get_or code (at - 1) x →
-    now ≡ parse (instructions_of file (drop at code)) → new ≡ read_one (instruction_of file x) now → new ≡ parse (instructions_of file (drop (at - 1) code))
-read_more file code at x new now some le e h k =
-    let within : at - 1 < length code = omega arith in
-    let same : at - 1 + 1 ≡ at = omega arith in
-    k ∙ ap (λ p. read_one (instruction_of file x) p) h
-    ∙ sym (parse_one (instruction_of file x) (instructions_of file (drop at code)))
-    ∙ ap (λ l. parse (instructions_of file l)) (sym (drop_more code (at - 1) x within ∙ (λ i. sym e i ∷ drop (same i) code)))
-
-pub read_whole : (file : ℕ) (code : List Stmt) (at : ℕ) (now : Parsed) → at ≤ 0 → now ≡ parse (instructions_of file (drop at code)) → now ≡ parse (instructions_of file code)
-read_whole file code at now le h = let zero : at ≡ 0 = omega arith in h ∙ ap (λ n. parse (instructions_of file (drop n code))) zero
 
 -- a block that was taken is that of what opens it
 pub opened : (file : ℕ) (r : Result (Unit {0}) Memory) (o : Option (List Op)) (os : List Op) (f : Ops → blocks.Op) (a : blocks.Op) (old mid new : Parsed) →
