@@ -5,3 +5,6 @@ pub mod Boxes
 pub mod Loops
 pub mod Onward
 pub mod PartsBuilt
+pub mod Sorts
+pub mod Rows
+pub mod Open

@@ -11,7 +11,7 @@ use Rattle.star_ops.specs.View.{value_of, values_of}
 use Rattle.star_machine.specs.PartsSoFar.{Nodes, assigned, looped}
 use Rattle.star_machine.specs.Meets.{Here}
 
-values_in-from : (vs : List Value) → values_in (values_from vs) ≡ vs
+pub values_in-from : (vs : List Value) → values_in (values_from vs) ≡ vs
 values_in-from [] = refl
 values_in-from (v ∷ vs) = ap (λ ws. v ∷ ws) (values_in-from vs)
 
@@ -28,7 +28,7 @@ tuple_loop p x env part vs k s = sym (
 
 -- ---- the members from one on
 
-after_last : (xs : List Held) (i : ℕ) → slice_get xs i ≡ None → drop i xs ≡ []
+pub after_last : (xs : List Held) (i : ℕ) → slice_get xs i ≡ None → drop i xs ≡ []
 after_last [] zero h = refl
 after_last [] (suc i) h = refl
 after_last (x ∷ xs) zero h = absurd (search (rules, h))
@@ -37,7 +37,7 @@ after_last (x ∷ xs) (suc i) h = after_last xs i h
 next_of : (i n : ℕ) → n ≡ suc i + 1 → suc (i + 1) ≡ n
 next_of i n e = omega (arith, e)
 
-from_member : (xs : List Held) (i n : ℕ) (x : Held) → slice_get xs i ≡ Some x → n ≡ i + 1 → drop i xs ≡ x ∷ drop n xs
+pub from_member : (xs : List Held) (i n : ℕ) (x : Held) → slice_get xs i ≡ Some x → n ≡ i + 1 → drop i xs ≡ x ∷ drop n xs
 from_member [] zero n x h e = absurd (search (rules, h))
 from_member [] (suc i) n x h e = absurd (search (rules, h))
 from_member (y ∷ xs) zero n x h e = let same : y ≡ x = search (rules, h) in λ j. same j ∷ drop (sym e j) (y ∷ xs)

@@ -172,6 +172,25 @@ fn first_of<'p>(
     begin(alloc, file, env, session, place, target, value, rows)
 }
 
+/// All targets of these rows get their values, the row on top first.
+fn finish<'p>(
+    alloc: Global,
+    file: u32,
+    env: &[Bound],
+    session: &mut Session,
+    place: Place,
+    rows: Items<Row<'p>>,
+) -> Result<(), Stop>
+    ensures meaning { Does (λ u. u) result session.new session.old (rows_assigned file place (env_of env.now) (reverse rows.entry)) }
+    ensures steps { session.new.steps ≡ session.old.steps }
+{
+    let mut rows = rows;
+    while let Some(row) = rows.pop() {
+        first_of(alloc, file, env, session, place, row, &mut rows)?;
+    }
+    Ok(())
+}
+
 /// A value to a target of a statement at this place. A row of targets gets the members of a tuple of as many, from left to right.
 pub(crate) fn assign(
     alloc: Global,
@@ -189,10 +208,7 @@ pub(crate) fn assign(
     begin(
         alloc, file, env, session, place, target, value, &mut rows,
     )?;
-    while let Some(row) = rows.pop() {
-        first_of(alloc, file, env, session, place, row, &mut rows)?;
-    }
-    Ok(())
+    finish(alloc, file, env, session, place, rows)
 }
 
 /// A value to a target, and the end of the statement.

@@ -11,8 +11,7 @@ ghost use Rattle.star_machine.specs.PartsSoFar.{is_written, parts_so_far};
 ghost use Rattle.star_machine.specs.Written.{BuildsOn, IsFirst, begins_written};
 
 use crate::frame::{Control, Frame, InBlock, InStatement, Machine};
-use crate::machine::{ill_flow, left};
-use crate::run::within;
+use crate::machine::{ill_flow, left, push};
 use crate::session::Session;
 use node_build::Builder;
 use star_blocks::Op;
@@ -85,7 +84,7 @@ pub(crate) fn fill<'p>(
         NodeOp::ValueFrom(_, expr) => {
             if m.nodes.holds_two() {
                 m.frames.push(Frame::Block(InBlock::Rest(rest)))?;
-                within(m, InStatement::Take, expr.get())
+                push(m, Frame::Statement(InStatement::Take), Control::Eval(expr.get()))
             } else {
                 Ok(ill_flow(alloc))
             }

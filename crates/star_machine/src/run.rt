@@ -123,8 +123,8 @@ fn act<'p>(
     }
 }
 
-/// An expression in a statement, or in a node.
-pub(crate) fn within<'p>(
+/// An expression in a statement.
+fn within<'p>(
     m: &mut Machine<'p>,
     frame: InStatement<'p>,
     expr: &'p Expr,
