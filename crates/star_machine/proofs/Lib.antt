@@ -8,3 +8,4 @@ pub mod PartsBuilt
 pub mod Sorts
 pub mod Rows
 pub mod Open
+pub mod Fronts

@@ -1,5 +1,5 @@
 -- The parts of nodes without code that a block begins with.
-use Rattle.std.specs.Prelude.{◌≡◌, ℕ, Bool, true, false, List, Option, Some, None, Result, Ok, Err}
+use Rattle.std.specs.Prelude.{◌≡◌, ℕ, suc, length, Bool, true, false, List, Option, Some, None, Result, Ok, Err}
 use Rattle.std.specs.Borrow.{Bor}
 use Rattle.ytt_base.specs.declared.fault.Stop.{Stop}
 use Rattle.ytt_base.specs.declared.fault.Stop.TheVariants as stop
@@ -25,7 +25,8 @@ begins_written (an_op (op_def p n k x ps body) os) = false
 -- what was found is the first part of a block, and what stands behind it
 abbrev pub IsFirst : (file : ℕ) → List Op → Option (Bor NodeOp × Bor (List Op)) → Type 0
 IsFirst file os None = begins_written (ops_of file os) ≡ false
-IsFirst file os (Some r) = (ops_of file os ≡ an_op (op_part (part_of file r.0.now)) (ops_of file r.1.now)) × (is_written (part_of file r.0.now) ≡ true)
+IsFirst file os (Some r) =
+    (ops_of file os ≡ an_op (op_part (part_of file r.0.now)) (ops_of file r.1.now)) × (is_written (part_of file r.0.now) ≡ true) × (suc (length r.1.now) ≡ length os)
 
 -- what comes of a block is what comes of the rest, with the nodes that are open then, or the refusal of a part; want of memory
 -- says nothing
