@@ -17,10 +17,10 @@ use Rattle.star_tree.specs.declared.code.UnOp.{UnOp}
 use Rattle.star_tree.specs.Whole.{binary_operator_of, expr_of, exprs_of, optional_from, unary_operator_of}
 use Rattle.star_tree.proofs.Views.{expr_of-Text}
 use Rattle.ytt_base.specs.declared.text.Memory.{Memory}
-use Rattle.template_place.specs.declared.tree.TNode.{TNode}
-use Rattle.template_place.specs.declared.tree.TNote.{TNote}
-use Rattle.template_place.specs.View.{content_of, in_content, in_key, node_of, notes_of}
-use Rattle.template_place.proofs.Views.{node_of-node}
+use Rattle.template_tree.specs.declared.tree.TNode.{TNode}
+use Rattle.template_tree.specs.declared.tree.TNote.{TNote}
+use Rattle.template_tree.specs.View.{content_of, in_content, in_key, node_of, notes_of}
+use Rattle.template_tree.proofs.Views.{node_of-node}
 use Rattle.template_program.proofs.Built.{binary_built, last_unbuilt, unary_built}
 use Rattle.star_tree.specs.View.{item_kind_of}
 use Rattle.template_program.specs.Kept.{applied, built_binary, built_unary, combined, if_built, joined_items}

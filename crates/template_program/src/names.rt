@@ -1,6 +1,6 @@
 // The names of a template: that each is bound, in it or by the language.
 ghost use Rattle.std.specs.Prelude.{◌≡◌, IfOk, map as each};
-ghost use Rattle.template_place.specs.View.{template_of};
+ghost use Rattle.template_tree.specs.View.{template_of};
 ghost use Rattle.template_spec.specs.Passes.{bound, language_names};
 ghost use Rattle.ytt_base.specs.Outcomes.{Gives};
 
@@ -8,7 +8,7 @@ use crate::program::compile;
 use sqlite_items::Items;
 use star_resolve::resolve;
 use std::alloc::Global;
-use template_place::Template;
+use template_tree::Template;
 use ytt_base::fault::Stop;
 use ytt_base::text::{Memory, Names, Text};
 

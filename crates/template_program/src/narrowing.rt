@@ -1,5 +1,5 @@
 // What is built of a template so far.
-ghost use Rattle.template_place.specs.View.{template_of};
+ghost use Rattle.template_tree.specs.View.{template_of};
 ghost use Rattle.template_spec.specs.Passes.{all_built};
 ghost use Rattle.template_tree.specs.View.{template_of as small_template_of};
 ghost use Rattle.ytt_base.specs.Outcomes.{Gives};
@@ -7,7 +7,7 @@ ghost use Rattle.ytt_base.specs.Outcomes.{Gives};
 use crate::small::small_template;
 use crate::unbuilt::first_unbuilt;
 use std::alloc::Global;
-use template_place as whole;
+use template_tree as whole;
 use template_tree::Template;
 use ytt_base::fault::{Fault, FaultKind, Stop};
 use ytt_base::text::Text;

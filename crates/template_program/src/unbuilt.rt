@@ -2,13 +2,13 @@
 ghost use Rattle.std.specs.Prelude.{◌≡◌, [], ◌∷◌, ◌++◌, ℕ};
 ghost use Rattle.star_tree.specs.Whole.{binary_operator_of, expr_of, instruction_of, unary_operator_of};
 ghost use Rattle.star_spec.specs.Code.{int, text as plain_text};
-ghost use Rattle.template_place.specs.View.{code_of, content_of, item_of, items_of, node_of, notes_of, template_of};
+ghost use Rattle.template_tree.specs.View.{code_of, content_of, item_of, items_of, node_of, notes_of, template_of};
 ghost use Rattle.template_program.specs.Kept.{earlier};
 ghost use Rattle.template_spec.specs.Unbuilt.{first_unbuilt as plain_first, is_built_binary, is_built_unary, unbuilt_content, unbuilt_expr, unbuilt_item, unbuilt_items, unbuilt_notes, unless_built};
 ghost use Rattle.ytt_base.specs.Outcomes.{place_at};
 
 use star_tree::code::{BinOp, Expr, Stmt, UnOp};
-use template_place::{TContent, TItem, TItems, TNode, TNotes, Template};
+use template_tree::{TContent, TItem, TItems, TNode, TNotes, Template};
 use ytt_base::fault::Place;
 use ytt_base::text::Text;
 

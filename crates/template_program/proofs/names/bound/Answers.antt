@@ -1,5 +1,5 @@
 use Rattle.std.proofs.lemmas.Result.{err_from_is_err_and}
-use Rattle.template_place.specs.View.{template_of}
+use Rattle.template_tree.specs.View.{template_of}
 use Rattle.template_program.proofs.Resolving.{all_bound, has_blocks, one_unknown}
 use Rattle.template_program.proofs.names.bound.Goals as goal
 

@@ -1,8 +1,8 @@
 use Rattle.std.proofs.Common.{Some, refl, ap, sym, ◌∙◌, map as each}
 use Rattle.std.proofs.lemmas.Bool.{false≢true}
 use Rattle.star_tree.specs.View.{item_kind_of}
-use Rattle.template_place.specs.View.{content_of, in_key, item_of, items_of}
-use Rattle.template_place.proofs.Views.{content_of-List, content_of-Map, item_of-Node}
+use Rattle.template_tree.specs.View.{content_of, in_key, item_of, items_of}
+use Rattle.template_tree.proofs.Views.{content_of-List, content_of-Map, item_of-Node}
 use Rattle.template_program.proofs.Built.{kept_done, kept_none, kept_turn, none_made, not_there, some_made, there}
 use Rattle.template_program.proofs.Narrowed.{all_items, noted_node, ok_same, valued_node, written_node}
 use Rattle.template_program.specs.Kept.{if_built}

@@ -1,5 +1,5 @@
 use Rattle.std.proofs.Common.{◌≡◌, ℕ, drop, map as each}
-use Rattle.template_place.specs.View.{items_of}
+use Rattle.template_tree.specs.View.{items_of}
 use Rattle.template_program.specs.Kept.{if_built, joined_items}
 use Rattle.template_spec.specs.Unbuilt.{unbuilt_items}
 use Rattle.template_tree.specs.View as tree

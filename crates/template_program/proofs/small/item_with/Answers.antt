@@ -1,6 +1,6 @@
 use Rattle.std.proofs.Common.{ap, ◌∙◌}
 use Rattle.star_tree.specs.View.{item_kind_of}
-use Rattle.template_place.specs.View.{in_key}
+use Rattle.template_tree.specs.View.{in_key}
 use Rattle.template_spec.specs.Template.{node}
 use Rattle.template_tree.specs.View as tree
 use Rattle.template_tree.proofs.Views.{item_of-Node, node_of-node}

@@ -3,7 +3,7 @@ use Rattle.star_spec.specs.Code as plain
 use Rattle.star_tree.specs.View as small
 use Rattle.star_tree.specs.View.{item_kind_of}
 use Rattle.star_tree.specs.Whole.{expr_of}
-use Rattle.template_place.specs.View.{in_key}
+use Rattle.template_tree.specs.View.{in_key}
 use Rattle.template_program.proofs.Built.{none_made, not_there, some_made, there}
 use Rattle.template_program.specs.Kept.{if_built}
 use Rattle.template_spec.specs.Template.{no_notes, node, value_from}

@@ -1,6 +1,6 @@
 use Rattle.std.proofs.Common.{List, refl, ap, ◌∙◌}
-use Rattle.template_place.specs.View.{item_of, items_of}
-use Rattle.template_place.specs.declared.tree.TItem.{TItem}
+use Rattle.template_tree.specs.View.{item_of, items_of}
+use Rattle.template_tree.specs.declared.tree.TItem.{TItem}
 use Rattle.template_program.specs.Kept.{earlier}
 use Rattle.template_program.proofs.Built.{earlier_after, earlier_turn}
 use Rattle.template_program.proofs.Narrowed.{valued_places, written_places}

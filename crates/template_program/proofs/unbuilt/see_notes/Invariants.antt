@@ -1,5 +1,5 @@
 use Rattle.std.proofs.Common.{◌≡◌, drop}
-use Rattle.template_place.specs.View.{notes_of}
+use Rattle.template_tree.specs.View.{notes_of}
 use Rattle.template_program.specs.Kept.{earlier}
 use Rattle.template_spec.specs.Unbuilt.{unbuilt_notes}
 use Rattle.template_program.proofs.unbuilt.see_notes.Given as goal
