@@ -1,15 +1,9 @@
-// The names of a template: that each is bound, in it or by the language.
+// The names of the language.
 ghost use Rattle.std.specs.Prelude.{◌≡◌, IfOk, map as each};
-ghost use Rattle.template_place.specs.View.{template_of};
-ghost use Rattle.template_spec.specs.Passes.{bound, language_names};
-ghost use Rattle.ytt_base.specs.Outcomes.{Gives};
+ghost use Rattle.star_spec.specs.Names.{language_names};
 
-use crate::program::compile;
 use sqlite_items::Items;
-use star_resolve::resolve;
 use std::alloc::Global;
-use template_place::Template;
-use ytt_base::fault::Stop;
 use ytt_base::text::{Memory, Names, Text};
 
 /// These words as names.
@@ -24,7 +18,7 @@ fn names_of(alloc: Global, words: &[&str]) -> Result<Names, Memory>
 }
 
 /// The names of the language.
-fn language_names(alloc: Global) -> Result<Names, Memory>
+pub(crate) fn language_names(alloc: Global) -> Result<Names, Memory>
     ensures { IfOk result (λ names. names ≡ language_names) }
 {
     names_of(
@@ -58,16 +52,4 @@ fn language_names(alloc: Global) -> Result<Names, Memory>
             "fail",
         ],
     )
-}
-
-/// Checks that each name in the code of a template is bound, in the template or by the language. The
-/// first in text order that is not is a fault of the kind NameUnknown at its place, with the name as the
-/// detail.
-pub fn bound(alloc: Global, template: &Template) -> Result<(), Stop>
-    ensures { Gives (λ done. template_of template.now) result (bound (template_of template.now)) }
-{
-    let program = compile(alloc, template)?;
-    let builtins = language_names(alloc)?;
-    resolve(alloc, program, &builtins)?;
-    Ok(())
 }
