@@ -50,7 +50,7 @@ told_of t is names e n =
 pub all_bound : (t : Items) (is : List Instruction) (names : List (List ℕ)) → is ≡ compiled t → names ≡ language_names → program_fault names is ≡ None → bound t ≡ Ok t
 all_bound t is names e n k = sym (told_of t is names e n) ∙ ap (told t) k
 
-pub one_unknown : {X : Type 0} (t : Items) (is : List Instruction) (names : List (List ℕ)) (s : Stop) → is ≡ compiled t → names ≡ language_names →
+pub one_unknown : (X : Type 0) (t : Items) (is : List Instruction) (names : List (List ℕ)) (s : Stop) → is ≡ compiled t → names ≡ language_names →
     IfFault s (λ f. program_fault names is ≡ Some f) → Gives {X = X} (λ r. t) (Err s) (bound t)
-one_unknown t is names (stop.Fault f) e n k = sym (told_of t is names e n) ∙ ap (told t) k
-one_unknown t is names stop.Memory e n k = tt
+one_unknown X t is names (stop.Fault f) e n k = sym (told_of t is names e n) ∙ ap (told t) k
+one_unknown X t is names stop.Memory e n k = tt

@@ -47,6 +47,6 @@ module _ (t : Items) (is : List Instruction) (names : List Name) (code : is ≡ 
   none_unbuilt o first none = sym by_names ∙ none_first (unbuilt_code names is) (sym none ∙ first)
 
 -- a name that is refused is told first
-pub refused_first : {X : Type 0} (t : Items) (s : Stop) → Gives {X = X} (λ r. t) (Err s) (bound t) → Gives {X = X} (λ r. t) (Err s) (and_then all_built (bound t))
-refused_first t (stop.Fault f) e = ap (and_then all_built) e
-refused_first t stop.Memory e = tt
+pub refused_first : (X : Type 0) (t : Items) (s : Stop) → Gives {X = X} (λ r. t) (Err s) (bound t) → Gives {X = X} (λ r. t) (Err s) (and_then all_built (bound t))
+refused_first X t (stop.Fault f) e = ap (and_then all_built) e
+refused_first X t stop.Memory e = tt
