@@ -25,7 +25,7 @@ blocks_of t = ap whole (compiled_blocks t)
 pub has_blocks : (t : Items) (is : List Instruction) → is ≡ compiled t → IsSome (blocks is)
 has_blocks t is e = subst IsSome (sym (ap blocks e ∙ blocks_of t)) refl
 
-names_of : (t : Items) → program_names (compiled t) ≡ items_names t
+pub names_of : (t : Items) → program_names (compiled t) ≡ items_names t
 names_of t = ap names_of_file (blocks_of t) ∙ same_names t
 
 uses_of : (t : Items) → program_uses (compiled t) ≡ items_uses [] t

@@ -43,7 +43,7 @@ impl Model for Scope {
 
 impl Scope {
     pub(crate) fn number(&self, name: &Text) -> Option<usize>
-        ensures { result ≡ position (bytes_eq name.now) self.now }
+        ensures place { result ≡ position (bytes_eq name.now) self.now }
     {
         None
     }
