@@ -1,11 +1,16 @@
 -- Integers that are passed to a call.
-use Rattle.std.proofs.Common.{◌≡◌, ℤ, FitsSigned, to_z, of_z, subst}
+use Rattle.std.proofs.Common.{◌≡◌, ℤ, FitsSigned, to_z, of_z, Option, Some, None, refl, sym, subst}
 use Rattle.std.specs.Int.{w128}
 use Rattle.std.proofs.lemmas.Int.{to_z-of_z}
+use Rattle.ytt_base.specs.declared.fault.FaultKind.TheVariants as kind
 use Rattle.ytt_base.specs.declared.fault.Place.{Place}
-use Rattle.star_spec.specs.Outcomes.{State}
+use Rattle.star_spec.specs.Members.{as_int}
+use Rattle.star_spec.specs.Numbers.{floor_remainder}
+use Rattle.star_spec.specs.Operators.{divided, if_both, remainder_row}
+use Rattle.star_spec.specs.Outcomes.{State, fail}
 use Rattle.star_spec.specs.Values.{Value, int_value}
 use Rattle.star_ops.specs.declared.operators.IntegerOp.{IntegerOp}
+use Rattle.star_ops.specs.declared.operators.IntegerOp.TheVariants as integer
 use Rattle.star_ops.specs.Acts.{integer_act, integer_row}
 
 pub as_passed : (P : ℤ → ℤ → Type 0) (a b : ℤ) → FitsSigned w128 a → FitsSigned w128 b → P (to_z w128 (of_z w128 a)) (to_z w128 (of_z w128 b)) → P a b
@@ -17,3 +22,12 @@ one_passed P a f h = subst P (to_z-of_z w128 a f) h
 -- the row of an operator on two integers
 pub integers_row : (o : IntegerOp) (p : Place) (v w : Value) (a b : ℤ) (s : State (Unit {0})) → v ≡ int_value a → w ≡ int_value b → integer_row o p v w s ≡ integer_act o p a b s
 integers_row o p v w a b s e f = λ i. integer_row o p (e i) (f i) s
+
+remainder_by : (p : Place) (a : ℤ) (o : Option ℤ) (s : State (Unit {0})) →
+    if_both (Some a) o (divided floor_remainder p) (fail kind.ValueKind p) s ≡ if_both (Some a) o (integer_act integer.Remainder p) (fail kind.ValueKind p) s
+remainder_by p a None s = refl
+remainder_by p a (Some b) s = refl
+
+-- the row of `%` with an integer at the left
+pub remainder_of_int : (p : Place) (v w : Value) (a : ℤ) (s : State (Unit {0})) → v ≡ int_value a → remainder_row p v w s ≡ integer_row integer.Remainder p v w s
+remainder_of_int p v w a s e = subst (λ v. remainder_row p v w s ≡ integer_row integer.Remainder p v w s) (sym e) (remainder_by p a (as_int w) s)

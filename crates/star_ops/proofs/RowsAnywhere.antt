@@ -212,12 +212,17 @@ unary_level p positive x = integer_anywhere p int_value x
 unary_level p inversion x = integer_anywhere p (λ z. int_value (complement z)) x
 unary_level p logical_not x = not_anywhere p x
 
+remainder_anywhere : (p : Place) (x y : Level) → Anywhere plain.Value (binary_row p remainder (shape x) (shape y))
+remainder_anywhere p (Value-F.Text t) y = fails_anywhere kind.NotBuilt p
+remainder_anywhere p (Value-F.Int a) y = ints_anywhere p (divided floor_remainder p) (divided_anywhere floor_remainder p) (Value-F.Int a) y
+remainder_anywhere p _ y = fails_anywhere kind.ValueKind p
+
 binary_level : (p : Place) (o : BinaryOperator) (x y : Level) → Anywhere plain.Value (binary_row p o (shape x) (shape y))
 binary_level p addition x y = sum_anywhere p x y
 binary_level p subtraction x y = ints_anywhere p (λ a b. int_of p (a -ℤ b)) (λ a b. int_anywhere p (a -ℤ b)) x y
 binary_level p multiplication x y = product_anywhere p x y
 binary_level p floor_division x y = ints_anywhere p (divided floor_quotient p) (divided_anywhere floor_quotient p) x y
-binary_level p remainder x y = ints_anywhere p (divided floor_remainder p) (divided_anywhere floor_remainder p) x y
+binary_level p remainder x y = remainder_anywhere p x y
 binary_level p bit_and x y = ints_anywhere p (λ a b. give (int_value (int_bit_and w128 a b))) (λ a b. gives_anywhere (int_value (int_bit_and w128 a b))) x y
 binary_level p bit_or x y = ints_anywhere p (λ a b. give (int_value (int_bit_or w128 a b))) (λ a b. gives_anywhere (int_value (int_bit_or w128 a b))) x y
 binary_level p bit_xor x y = ints_anywhere p (λ a b. give (int_value (int_bit_xor w128 a b))) (λ a b. gives_anywhere (int_value (int_bit_xor w128 a b))) x y

@@ -1,9 +1,9 @@
 // Each operator's row.
 ghost use Rattle.std.specs.Prelude.{◌≡◌, ◌≤◌, not};
-ghost use Rattle.star_spec.specs.Operators.{answered, binary_row, compared, denied, not_row, unary_row};
+ghost use Rattle.star_spec.specs.Operators.{answered, binary_row, compared, denied, not_row, remainder_row, unary_row};
 ghost use Rattle.star_spec.specs.Order.{is_above, is_below};
 ghost use Rattle.star_ops.specs.Alike.{comparing, is_at_least, is_at_most, same, within};
-ghost use Rattle.star_ops.specs.Meets.{Meets, Spends, state_of};
+ghost use Rattle.star_ops.specs.Meets.{Meets, Spends, Tells, state_of};
 ghost use Rattle.star_ops.specs.View.{comparison_of, value_of};
 ghost use Rattle.star_tree.specs.Whole.{binary_operator_of, unary_operator_of};
 
@@ -12,13 +12,13 @@ use crate::membership::is_in;
 use crate::numbers::{inverse, negative, on_integers, positive};
 use crate::operators::IntegerOp;
 use crate::order::compare;
-use crate::steps::pay;
+use crate::steps::{pay, refusal};
 use crate::sums::{add, multiply};
 use crate::value::{Value, truth, turning_cost};
 use star_tree::code::{BinOp, UnOp};
 use std::alloc::Global;
 use std::cmp::Ordering;
-use ytt_base::fault::{Place, Stop};
+use ytt_base::fault::{FaultKind, Place, Stop};
 
 /// What an operator before its operand gives, each refusal at the operator's place: `ValueKind`, `IntOverflow`,
 /// and `Steps` of `not`. Of the steps those are taken that it takes, and none where memory is short.
@@ -72,7 +72,8 @@ fn not_true(alloc: Global, place: Place, operand: &Value, steps: &mut u64) -> Re
 }
 
 /// What an operator between its operands gives, each refusal at the operator's place: `ValueKind`,
-/// `IntOverflow`, `DivideZero`, `TooDeep` where tuples nest too deep, and `Steps`. Of the steps those are taken
+/// `IntOverflow`, `DivideZero`, `TooDeep` where tuples nest too deep, `Steps`, and `NotBuilt` where `%` stands
+/// behind a text. Of the steps those are taken
 /// that it takes, and none where memory is short.
 pub fn binary(
     alloc: Global,
@@ -115,7 +116,7 @@ fn row_between(
         BinOp::Multiply => multiply(alloc, place, left, right, steps),
         BinOp::Subtract => on_integers(alloc, place, IntegerOp::Subtract, left, right),
         BinOp::FloorDivide => on_integers(alloc, place, IntegerOp::FloorDivide, left, right),
-        BinOp::Remainder => on_integers(alloc, place, IntegerOp::Remainder, left, right),
+        BinOp::Remainder => remainder_row(alloc, place, left, right),
         BinOp::BitAnd => on_integers(alloc, place, IntegerOp::BitAnd, left, right),
         BinOp::BitOr => on_integers(alloc, place, IntegerOp::BitOr, left, right),
         BinOp::BitXor => on_integers(alloc, place, IntegerOp::BitXor, left, right),
@@ -129,6 +130,17 @@ fn row_between(
         BinOp::AtLeast => at_least_row(alloc, place, left, right, steps),
         BinOp::In => in_row(alloc, place, left, right, steps),
         BinOp::NotIn => not_in_row(alloc, place, left, right, steps),
+    }
+}
+
+/// What `%` gives. With a text at its left it formats, which is `NotBuilt` so far.
+fn remainder_row(alloc: Global, place: Place, left: &Value, right: &Value) -> Result<Value, Stop>
+    ensures { Tells value_of result (remainder_row place (value_of left.now) (value_of right.now)) }
+{
+    match left {
+        Value::Text(_) => Err(refusal(alloc, FaultKind::NotBuilt, place)),
+        Value::Int(_) => on_integers(alloc, place, IntegerOp::Remainder, left, right),
+        _ => Err(refusal(alloc, FaultKind::ValueKind, place)),
     }
 }
 
