@@ -1,6 +1,6 @@
 -- What is told of a template, by its program: its names first, and then what of it isn't built.
-use Rattle.std.proofs.Common.{◌≡◌, List, [], ◌∷◌, Option, Some, None, Result, Ok, Err, refl, sym, ap, ◌∙◌}
-use Rattle.ytt_base.specs.Outcomes.{Outcome, Gives, and_then, fault_at}
+use Rattle.std.proofs.Common.{◌≡◌, ℕ, List, [], ◌∷◌, Option, Some, None, Result, Ok, Err, refl, sym, ap, ◌∙◌}
+use Rattle.ytt_base.specs.Outcomes.{Gives, and_then}
 use Rattle.ytt_base.specs.declared.fault.Fault.{Fault}
 use Rattle.ytt_base.specs.declared.fault.FaultKind.TheVariants as kind
 use Rattle.ytt_base.specs.declared.fault.Place.{Place}
@@ -36,8 +36,9 @@ module _ (t : Items) (is : List Instruction) (names : List Name) (code : is ≡ 
   pub built_whole : (o : Option Place) → bound t ≡ Ok t → o ≡ first_unbuilt (unbuilt_code names is) → o ≡ None → and_then all_built (bound t) ≡ Ok t
   built_whole o known first none = told o known first ∙ ap (unless_unbuilt t) none
 
-  pub one_unbuilt : (o : Option Place) (p : Place) → bound t ≡ Ok t → o ≡ first_unbuilt (unbuilt_code names is) → o ≡ Some p → and_then all_built (bound t) ≡ Err (fault_at kind.NotBuilt p)
-  one_unbuilt o p known first some = told o known first ∙ ap (unless_unbuilt t) some
+  pub one_unbuilt : (o : Option Place) (p : Place) (detail : List ℕ) → bound t ≡ Ok t → o ≡ first_unbuilt (unbuilt_code names is) → o ≡ Some p → detail ≡ [] →
+      and_then all_built (bound t) ≡ Err (record { kind = kind.NotBuilt; place = Some p; detail = detail })
+  one_unbuilt o p detail known first some none = told o known first ∙ ap (unless_unbuilt t) some ∙ ap (λ d. Err (record { kind = kind.NotBuilt; place = Some p; detail = d })) (sym none)
 
   none_first : (l : List Place) → None ≡ first_unbuilt l → l ≡ []
   none_first [] e = refl

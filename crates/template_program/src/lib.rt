@@ -6,12 +6,9 @@
 #![tactic(auto)]
 
 mod holds;
-mod names;
 mod parts;
 mod passes;
 mod program;
-mod standin;
 mod unbuilt;
 
 pub use passes::compile;
-pub use standin::Resolved;

@@ -10,10 +10,10 @@ ghost use Rattle.template_spec.specs.Names.{items_names};
 ghost use Rattle.template_spec.specs.Passes.{all_built, bound};
 ghost use Rattle.ytt_base.specs.Outcomes.{Gives, and_then};
 
-use crate::names::language_names;
 use crate::program::program;
-use crate::standin::{Resolved, resolve};
 use crate::unbuilt::first_unbuilt;
+use star_resolve::{Resolved, resolve};
+use star_tree::names::language_names;
 use std::alloc::Global;
 use template_place::Template;
 use ytt_base::fault::{Fault, FaultKind, Stop};

@@ -8,9 +8,10 @@ ghost use Rattle.template_program.specs.Places.{earlier};
 ghost use Rattle.template_spec.specs.Unbuilt.{first_unbuilt as plain_first};
 ghost use Rattle.ytt_base.specs.Outcomes.{place_at};
 
-use crate::standin::{Scope, is_own_function};
 use sqlite_items::Items;
+use star_resolve::Scope;
 use star_tree::code::{Expr, NodeOp, Program, Stmt};
+use star_tree::names::is_own_function;
 use ytt_base::fault::Place;
 use ytt_base::text::Text;
 
