@@ -1,5 +1,4 @@
 use Rattle.std.proofs.lemmas.Result.{err_from_is_err_and}
-use Rattle.star_tree.specs.Whole.{program_of}
 use Rattle.star_resolve.specs.declared.binding.Resolved.{Resolved}
 use Rattle.template_place.specs.View.{template_of}
 use Rattle.template_program.proofs.Telling.{built_whole, none_unbuilt, one_unbuilt, refused_first}
