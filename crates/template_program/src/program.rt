@@ -21,7 +21,7 @@ use ytt_base::text::Memory;
 /// The program of a template, in the template's file: its statements, the heads and ends of its blocks, and
 /// a part of a node for each start, note, key, value and end, in the order of the text. A block is closed
 /// at its own line. `Memory` comes where there was no room.
-pub fn compile(alloc: Global, template: &Template) -> Result<Program, Memory>
+pub(crate) fn program(alloc: Global, template: &Template) -> Result<Program, Memory>
     ensures code { IfOk result (λ p. program_of p ≡ compiled (template_of template.now)) }
     ensures file { IfOk result (λ p. p.file ≡ template.now.file) }
 {
