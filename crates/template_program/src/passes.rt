@@ -1,11 +1,15 @@
 // The passes over a template: its program with the variables of its names, and then what of it isn't built.
 ghost use Rattle.std.specs.Prelude.{◌≡◌, [], IfOk};
 ghost use Rattle.star_resolve.specs.Variables.{each_once};
+ghost use Rattle.star_spec.specs.Calls.{Host};
+ghost use Rattle.star_spec.specs.Eval.{starlark};
 ghost use Rattle.star_spec.specs.Scopes.{program_names};
 ghost use Rattle.star_spec.specs.Unbuilt.{unbuilt_code};
 ghost use Rattle.star_tree.specs.Whole.{program_of};
 ghost use Rattle.template_tree.specs.View.{template_of};
 ghost use Rattle.template_spec.specs.Compiled.{compiled};
+ghost use Rattle.template_spec.specs.ControlWords.{WordsStand, free};
+ghost use Rattle.template_spec.specs.Meaning.{Agrees};
 ghost use Rattle.template_spec.specs.Names.{items_names};
 ghost use Rattle.template_spec.specs.Passes.{all_built, bound};
 ghost use Rattle.ytt_base.specs.Outcomes.{Gives, and_then};
@@ -44,6 +48,7 @@ fn bound(alloc: Global, template: &Template) -> Result<Resolved, Stop>
 pub fn compile(alloc: Global, template: &Template) -> Result<Resolved, Stop>
     ensures passes { Gives (λ r. template_of template.now) result (and_then all_built (bound (template_of template.now))) }
     ensures code { IfOk result (λ r. program_of r.program ≡ compiled (template_of template.now)) }
+    ensures runs { IfOk result (λ r. (host : Host (Unit {0})) → WordsStand free (template_of template.now) → Agrees starlark host (program_of r.program) (template_of template.now)) }
     ensures built { IfOk result (λ r. unbuilt_code (items_names (template_of template.now)) (program_of r.program) ≡ []) }
     ensures globals { IfOk result (λ r. r.globals ≡ each_once (program_names (program_of r.program))) }
     ensures file { IfOk result (λ r. r.program.file ≡ template.now.file) }
