@@ -190,6 +190,13 @@ once_added : (known xs : List Name) → with_each known xs ≡ known ++ added kn
 once_added known [] = sym (append-nil known)
 once_added known (y ∷ ys) = once_by (list_any (bytes_eq y) known) y known ys (λ more. once_added more ys)
 
+-- the box of a name among the new boxes of names, from 0 on
+pub one_each : (x : Name) (names : List Name) → box_of x (boxed 0 (each_once names) []) ≡ box_in (counted 0 (length (each_once names))) (position (bytes_eq x) (each_once names))
+one_each x names =
+    let once : each_once names ≡ added [] names = once_added [] names in
+    ap (λ ns. box_of x (boxed 0 ns [])) once ∙ boxed_found x names [] 0 [] (λ z. refl) ∙ ap (λ ns. box_by x ns (counted 0 (length ns))) (sym once)
+    ∙ by_place x (each_once names) (counted 0 (length (each_once names)))
+
 -- ---- names that stand but once
 
 binds_any : (x : Name) (ys : List Name) → binds x ys ≡ list_any (bytes_eq x) ys
@@ -238,7 +245,7 @@ distinct_each known (y ∷ ys) d apart =
     (λ x h. any_more x y known ∙ neither (list_any (bytes_eq x) known) (bytes_eq x y) (apart x (or_second (bytes_eq x y) (has_name x ys) h)) (another x y ys (bytes_eq x y) refl none h))
     ∙ append_assoc known (y ∷ []) ys
 
-each_behind : (known xs ys : List Name) → with_each known (xs ++ ys) ≡ with_each (with_each known xs) ys
+pub each_behind : (known xs ys : List Name) → with_each known (xs ++ ys) ≡ with_each (with_each known xs) ys
 each_behind known [] ys = refl
 each_behind known (x ∷ xs) ys = each_behind (with_name known x) xs ys
 

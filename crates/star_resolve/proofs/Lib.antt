@@ -7,6 +7,7 @@ pub mod Frames
 pub mod Functions
 pub mod Gathering
 pub mod Nesting
+pub mod OneBox
 pub mod Putting
 mod Rows
 pub mod Running

@@ -20,14 +20,15 @@ use ytt_base::text::{Memory, Names, Text};
 /// Variables in the order of their names.
 pub type Variables = Items<Variable>;
 
-/// A program, and the variable of each name that stands in it, in text order; how many variables the file
-/// has, and how many each function has, in text order, which is that of the functions' numbers. The first
-/// variables of a function are its parameters, in their order, and a lambda has no others.
+/// A program, and the variable of each name that stands in it, in text order; the names that the file
+/// binds, which are its variables; and how many variables each function has, in text order, which is that
+/// of the functions' numbers. The first variables of a function are its parameters, in their order, and a
+/// lambda has no others.
 #[derive(Drop)]
 pub struct Resolved {
     pub program: Program,
     pub variables: Variables,
-    pub globals: usize,
+    pub globals: Scope,
     pub functions: Items<usize>,
 }
 
@@ -123,7 +124,7 @@ pub fn resolve(alloc: Global, program: Program, builtins: &Names) -> Result<Reso
     requires { IsSome (blocks (program_of program)) }
     ensures program { IfOk result (λ r. r.program ≡ program) }
     ensures variables { IfOk result (λ r. each Some r.variables ≡ program_variables builtins.now (program_of program)) }
-    ensures globals { IfOk result (λ r. r.globals ≡ scope_size (program_names (program_of program))) }
+    ensures globals { IfOk result (λ r. r.globals ≡ each_once (program_names (program_of program))) }
     ensures functions { IfOk result (λ r. r.functions ≡ each scope_size (program_functions (program_of program))) }
     ensures known { OnOk result (program_fault builtins.now (program_of program) ≡ None) }
     ensures unknown { IfRefused result (λ f. program_fault builtins.now (program_of program) ≡ Some f) }
@@ -131,11 +132,10 @@ pub fn resolve(alloc: Global, program: Program, builtins: &Names) -> Result<Reso
     let walked = walk_through(alloc, &program)?;
     let variables = variables_of(alloc, &walked, builtins)?;
     let functions = sizes_in(alloc, &walked.events)?;
-    let globals = walked.globals.len();
     Ok(Resolved {
         program,
         variables,
-        globals,
+        globals: walked.globals,
         functions,
     })
 }

@@ -1,5 +1,7 @@
 // The names of a scope, as a set in their order.
-ghost use Rattle.std.specs.Prelude.{◌≡◌, bytes_eq, length, position, IfOk, OnOk};
+ghost use Rattle.std.specs.Prelude.{◌≡◌, [], bytes_eq, length, position, IfOk, OnOk};
+ghost use Rattle.star_spec.specs.Names.{box_of};
+ghost use Rattle.star_resolve.specs.Frames.{boxed};
 ghost use Rattle.star_resolve.specs.Variables.{each_once, with_name};
 
 use indexmap::IndexSet;
@@ -9,21 +11,22 @@ use ytt_base::text::{Memory, Text, Texts};
 
 /// The names of a scope, each once, seen as the list of them in the order in which they are first bound.
 #[derive(Drop)]
-pub(crate) struct Scope {
+pub struct Scope {
     names: IndexSet<String>,
 }
 
 impl Model for Scope {
-    ghost use Rattle.std.specs.Prelude.{List, ℕ, string_bytes, map as each};
+    ghost use Rattle.std.specs.Prelude.{◌≡◌, List, ℕ, string_bytes, map as each};
+    ghost use Rattle.star_resolve.specs.Variables.{each_once};
 
     ghost Value = { List (List ℕ) };
 
     ghost view = { λ s. each string_bytes s.names.keys };
+
+    ghost invariant = { λ s. each_once (each string_bytes s.names.keys) ≡ each string_bytes s.names.keys };
 }
 
 impl Scope {
-    ghost use Rattle.std.specs.Prelude.{[]};
-
     fn new(alloc: Global) -> Scope
         ensures { result ≡ [] }
     {
@@ -51,15 +54,17 @@ impl Scope {
     }
 
     /// How many names it binds.
-    pub(crate) fn len(&self) -> usize
+    pub fn len(&self) -> usize
         ensures { result ≡ length self.now }
     {
         self.names.len()
     }
 
-    /// The number of a name.
-    pub(crate) fn number(&self, name: &Text) -> Option<usize>
-        ensures { result ≡ position (bytes_eq name.now) self.now }
+    /// The number of a name, by its place among the names, if it is one of them. It is that of the name's box
+    /// where the names get boxes in their order.
+    pub fn number(&self, name: &Text) -> Option<usize>
+        ensures place { result ≡ position (bytes_eq name.now) self.now }
+        ensures boxes { result ≡ box_of name.now (boxed 0 self.now []) }
     {
         self.names.get_index_of(name.as_str())
     }

@@ -5,9 +5,7 @@
 
 pub mod code;
 pub mod copies;
-mod expr;
 pub mod names;
 mod program;
 
-pub use expr::{Args, BinOp, Expr, UnOp, copy_args};
-pub use program::{Holds, Instr, Instrs, ItemKind, NodeOp, Program};
+pub use program::{Holds, ItemKind};

@@ -4,11 +4,11 @@ use Rattle.star_spec.specs.Program.{holds_map, holds_list, holds_void}
 use Rattle.star_tree.specs.declared.code.Expr.{Expr}
 use Rattle.template_spec.specs.Compiled.{holds_of}
 use Rattle.template_spec.specs.Template.{is_void}
-use Rattle.template_place.specs.declared.tree.TContent as content
-use Rattle.template_place.specs.declared.tree.TContent.{TContent}
-use Rattle.template_place.specs.declared.tree.TItem.{TItem}
-use Rattle.template_place.specs.View.{content_of, in_content, items_of}
-use Rattle.template_place.proofs.Views.{content_of-Map, content_of-List}
+use Rattle.template_tree.specs.declared.tree.TContent as content
+use Rattle.template_tree.specs.declared.tree.TContent.{TContent}
+use Rattle.template_tree.specs.declared.tree.TItem.{TItem}
+use Rattle.template_tree.specs.View.{content_of, in_content, items_of}
+use Rattle.template_tree.proofs.Views.{content_of-Map, content_of-List}
 
 pub map_holds : (file : ℕ) (o : Option Expr) (c : TContent) (is : List TItem) (b : Bool) → o ≡ None → c ≡ content.Map is → b ≡ is_void (items_of file is)
     → (if b then holds_void else holds_map) ≡ holds_of (in_content file o (content_of file c))

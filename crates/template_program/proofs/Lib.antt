@@ -1,6 +1,7 @@
-pub mod Built
+pub mod Binding
 pub mod Emitting
+pub mod Finding
 pub mod Items
-pub mod Narrowed
 pub mod Resolving
+pub mod Telling
 pub mod Turns

@@ -10,7 +10,8 @@ use Rattle.star_spec.specs.Scopes.{Use, program_names, program_uses, names_of_fi
 use Rattle.star_resolve.specs.Variables.{IfFault, fault_of_use, program_fault}
 use Rattle.template_spec.specs.Compiled.{compiled}
 use Rattle.template_spec.specs.Names.{items_names}
-use Rattle.template_spec.specs.Passes.{bound, language_names, unless_unknown}
+use Rattle.star_spec.specs.Names.{language_names}
+use Rattle.template_spec.specs.Passes.{bound, unless_unknown}
 use Rattle.template_spec.specs.Template.{Items}
 use Rattle.template_spec.specs.Uses.{items_uses}
 use Rattle.template_spec.proofs.NamesAgree.{same_names}
@@ -24,7 +25,7 @@ blocks_of t = ap whole (compiled_blocks t)
 pub has_blocks : (t : Items) (is : List Instruction) → is ≡ compiled t → IsSome (blocks is)
 has_blocks t is e = subst IsSome (sym (ap blocks e ∙ blocks_of t)) refl
 
-names_of : (t : Items) → program_names (compiled t) ≡ items_names t
+pub names_of : (t : Items) → program_names (compiled t) ≡ items_names t
 names_of t = ap names_of_file (blocks_of t) ∙ same_names t
 
 uses_of : (t : Items) → program_uses (compiled t) ≡ items_uses [] t
@@ -49,7 +50,7 @@ told_of t is names e n =
 pub all_bound : (t : Items) (is : List Instruction) (names : List (List ℕ)) → is ≡ compiled t → names ≡ language_names → program_fault names is ≡ None → bound t ≡ Ok t
 all_bound t is names e n k = sym (told_of t is names e n) ∙ ap (told t) k
 
-pub one_unknown : (t : Items) (is : List Instruction) (names : List (List ℕ)) (s : Stop) → is ≡ compiled t → names ≡ language_names →
-    IfFault s (λ f. program_fault names is ≡ Some f) → Gives {X = Unit {0}} (λ done. t) (Err s) (bound t)
-one_unknown t is names (stop.Fault f) e n k = sym (told_of t is names e n) ∙ ap (told t) k
-one_unknown t is names stop.Memory e n k = tt
+pub one_unknown : (X : Type 0) (t : Items) (is : List Instruction) (names : List (List ℕ)) (s : Stop) → is ≡ compiled t → names ≡ language_names →
+    IfFault s (λ f. program_fault names is ≡ Some f) → Gives {X = X} (λ r. t) (Err s) (bound t)
+one_unknown X t is names (stop.Fault f) e n k = sym (told_of t is names e n) ∙ ap (told t) k
+one_unknown X t is names stop.Memory e n k = tt

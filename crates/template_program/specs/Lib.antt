@@ -1,2 +1,2 @@
 pub mod Emits
-pub mod Kept
+pub mod Places

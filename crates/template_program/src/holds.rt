@@ -1,12 +1,12 @@
 // What the items of a collection and of a block are.
 ghost use Rattle.std.specs.Prelude.{◌≡◌, ℕ, option_map};
 ghost use Rattle.star_tree.specs.View.{holds_of as plain_holds, item_kind_of};
-ghost use Rattle.template_place.specs.View.{branches_of, content_of, in_content, item_of, items_of};
+ghost use Rattle.template_tree.specs.View.{branches_of, content_of, in_content, item_of, items_of};
 ghost use Rattle.template_spec.specs.Compiled.{fragment_of, holds_of};
 ghost use Rattle.template_spec.specs.Template.{branches_have_nodes, branches_have_written, has_nodes, has_written, is_node, is_void, is_written};
 
 use star_tree::{Holds, ItemKind};
-use template_place::{TBranches, TContent, TItem, TItems, TNode};
+use template_tree::{TBranches, TContent, TItem, TItems, TNode};
 
 /// Whether an item stands among these, outside the blocks of functions.
 #[cycle(nodes)]

@@ -1,18 +1,14 @@
 //! From a whole template to its program.
 //!
-//! `compile` gives exactly the definition's program (`code`) for the template's file (`file`). `bound` refuses exactly the
-//! first name that neither the template nor the language binds. `narrow` gives the template in the types of what is built so
-//! far, or refuses exactly the first place that isn't built.
+//! `compile` gives exactly the definition's program (`code`) for the template's file (`file`), with the variable of each of its
+//! names, where all of it is built. It refuses exactly the first name that neither the template nor the language binds, and behind
+//! that the first place at the least line that isn't built (`passes`). The program runs as the template is built (`runs`).
 #![tactic(auto)]
 
 mod holds;
-mod names;
-mod narrowing;
 mod parts;
+mod passes;
 mod program;
-mod small;
 mod unbuilt;
 
-pub use names::bound;
-pub use narrowing::narrow;
-pub use program::compile;
+pub use passes::compile;

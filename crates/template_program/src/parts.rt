@@ -3,7 +3,7 @@ ghost use Rattle.std.specs.Prelude.{◌≡◌, ◌∷◌, IfOk, OnOk, option_map
 ghost use Rattle.star_spec.specs.Program.{begin_def, begin_elif, begin_for, begin_if, part};
 ghost use Rattle.star_tree.specs.View.{item_kind_of};
 ghost use Rattle.star_tree.specs.Whole.{expr_of, instruction_of, parameters_of, part_of};
-ghost use Rattle.template_place.specs.View.{code_of, in_key, notes_of};
+ghost use Rattle.template_tree.specs.View.{code_of, in_key, notes_of};
 ghost use Rattle.template_program.specs.Emits.{Emits};
 ghost use Rattle.template_spec.specs.Compiled.{item_code, key_code, notes_code};
 ghost use Rattle.ytt_base.specs.Outcomes.{place_at};
@@ -13,7 +13,7 @@ use star_tree::ItemKind;
 use star_tree::code::{Expr, NodeOp, Params, Stmt};
 use star_tree::copies::{copy_boxed, copy_exprs, copy_loaded, copy_params};
 use std::alloc::Global;
-use template_place::TNotes;
+use template_tree::TNotes;
 use ytt_base::fault::Place;
 use ytt_base::text::{Memory, Text};
 use ytt_base::tree::Key;

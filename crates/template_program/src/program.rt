@@ -1,7 +1,7 @@
 // Items as instructions.
 ghost use Rattle.std.specs.Prelude.{◌≡◌, ℕ, IfOk, OnOk};
 ghost use Rattle.star_tree.specs.Whole.{program_of};
-ghost use Rattle.template_place.specs.View.{branches_of, content_of, in_content, item_of, items_of, node_of, template_of};
+ghost use Rattle.template_tree.specs.View.{branches_of, content_of, in_content, item_of, items_of, node_of, template_of};
 ghost use Rattle.template_program.specs.Emits.{Emits};
 ghost use Rattle.template_spec.specs.Compiled.{branches_code, compiled, content_code, item_code, items_code};
 ghost use Rattle.ytt_base.specs.Outcomes.{place_at};
@@ -14,14 +14,14 @@ use sqlite_items::Items;
 use star_tree::code::{NodeOp, Program, Stmt};
 use star_tree::copies::copy_boxed;
 use std::alloc::Global;
-use template_place::{TBranches, TContent, TItem, TItems, TNode, Template};
+use template_tree::{TBranches, TContent, TItem, TItems, TNode, Template};
 use ytt_base::fault::Place;
 use ytt_base::text::Memory;
 
 /// The program of a template, in the template's file: its statements, the heads and ends of its blocks, and
 /// a part of a node for each start, note, key, value and end, in the order of the text. A block is closed
 /// at its own line. `Memory` comes where there was no room.
-pub fn compile(alloc: Global, template: &Template) -> Result<Program, Memory>
+pub(crate) fn program(alloc: Global, template: &Template) -> Result<Program, Memory>
     ensures code { IfOk result (λ p. program_of p ≡ compiled (template_of template.now)) }
     ensures file { IfOk result (λ p. p.file ≡ template.now.file) }
 {

@@ -1,34 +1,19 @@
-// Where a template isn't built yet.
-ghost use Rattle.std.specs.Prelude.{◌≡◌, [], ◌∷◌, ◌++◌, ℕ};
-ghost use Rattle.star_tree.specs.Whole.{binary_operator_of, expr_of, instruction_of, unary_operator_of};
-ghost use Rattle.star_spec.specs.Code.{int, text as plain_text};
-ghost use Rattle.template_place.specs.View.{code_of, content_of, item_of, items_of, node_of, notes_of, template_of};
-ghost use Rattle.template_program.specs.Kept.{earlier};
-ghost use Rattle.template_spec.specs.Unbuilt.{first_unbuilt as plain_first, is_built_binary, is_built_unary, unbuilt_content, unbuilt_expr, unbuilt_item, unbuilt_items, unbuilt_notes, unless_built};
+// Where a program isn't built yet.
+ghost use Rattle.std.specs.Prelude.{◌≡◌, List, [], ◌∷◌, ◌++◌, true, ℕ};
+ghost use Rattle.std.specs.Str.{is_utf8};
+ghost use Rattle.star_tree.specs.Whole.{expr_of, exprs_of, instruction_of, part_of, program_of};
+ghost use Rattle.star_spec.specs.Code.{Name, int, name as plain_name};
+ghost use Rattle.star_spec.specs.Unbuilt.{is_built_name, unbuilt_code, unbuilt_expr, unbuilt_exprs, unbuilt_instruction, unbuilt_part, unbuilt_target, unbuilt_targets, unless_built};
+ghost use Rattle.template_program.specs.Places.{earlier};
+ghost use Rattle.template_spec.specs.Unbuilt.{first_unbuilt as plain_first};
 ghost use Rattle.ytt_base.specs.Outcomes.{place_at};
 
-use star_tree::code::{BinOp, Expr, Stmt, UnOp};
-use template_place::{TContent, TItem, TItems, TNode, TNotes, Template};
+use sqlite_items::Items;
+use star_resolve::Scope;
+use star_tree::code::{Expr, NodeOp, Program, Stmt};
+use star_tree::names::is_own_function;
 use ytt_base::fault::Place;
 use ytt_base::text::Text;
-
-fn is_built_unary(op: UnOp) -> bool
-    ensures { result ≡ is_built_unary (unary_operator_of op) }
-{
-    match op {
-        UnOp::Minus => true,
-        _ => false,
-    }
-}
-
-fn is_built_binary(op: BinOp) -> bool
-    ensures { result ≡ is_built_binary (binary_operator_of op) }
-{
-    match op {
-        BinOp::Add | BinOp::Subtract | BinOp::Multiply | BinOp::FloorDivide => true,
-        _ => false,
-    }
-}
 
 /// Sees a place: it is the first from here on where it stands on a line before the first so far.
 fn see(place: Place, first: &mut Option<Place>)
@@ -55,43 +40,56 @@ fn see_unless(is_built: bool, place: Place, first: &mut Option<Place>)
 
 /// Sees nothing in an integer, which has 128 bits.
 fn see_integer(line: u32, n: i128)
-    ensures { (file : ℕ) → unbuilt_expr (int (place_at file line) n) ≡ [] }
+    ensures { (file : ℕ) → (names : List Name) → unbuilt_expr names (int (place_at file line) n) ≡ [] }
 {}
 
 /// Sees nothing in a text, which is in UTF-8.
-fn see_text(line: u32, text: &Text)
-    ensures { (file : ℕ) → unbuilt_expr (plain_text (place_at file line) text.now) ≡ [] }
+fn see_text(text: &Text)
+    ensures { is_utf8 text.now ≡ true }
 {
     let _bytes = text.as_str();
 }
 
+/// Whether a name is none of the language's own functions, in a file that binds these names.
+fn is_built_name(bound: &Scope, name: &Text) -> bool
+    ensures { result ≡ is_built_name bound.now name.now }
+{
+    bound.number(name).is_some() || !is_own_function(name.as_str())
+}
+
+/// Sees a name that isn't built.
+fn see_name(file: u32, bound: &Scope, line: u32, name: &Text, first: &mut Option<Place>)
+    ensures { first.new ≡ earlier first.old (unbuilt_expr bound.now (plain_name (place_at file line) name.now)) }
+{
+    let is_built = is_built_name(bound, name);
+    see_unless(is_built, Place { file, line }, first);
+}
+
 /// Sees where an expression isn't built.
 #[cycle(expressions)]
-fn see_expr(file: u32, expr: &Expr, first: &mut Option<Place>)
-    ensures { first.new ≡ earlier first.old (unbuilt_expr (expr_of file expr.now)) }
+fn see_expr(file: u32, bound: &Scope, expr: &Expr, first: &mut Option<Place>)
+    ensures { first.new ≡ earlier first.old (unbuilt_expr bound.now (expr_of file expr.now)) }
 {
     match expr {
         Expr::Int(line, n) => see_integer(*line, *n),
-        Expr::Text(line, text) => see_text(*line, text),
-        Expr::Unary(line, op, a) => {
-            see_unless(is_built_unary(*op), Place { file, line: *line }, first);
-            see_expr(file, a.get(), first);
+        Expr::Text(_, text) => see_text(text),
+        Expr::Name(line, name) => see_name(file, bound, *line, name, first),
+        Expr::Tuple(_, members) => see_exprs(file, bound, members, first),
+        Expr::Unary(_, _, a) => see_expr(file, bound, a.get(), first),
+        Expr::Binary(_, _, a, b) | Expr::And(_, a, b) | Expr::Or(_, a, b) => {
+            see_expr(file, bound, a.get(), first);
+            see_expr(file, bound, b.get(), first);
         }
-        Expr::Binary(line, op, a, b) => {
-            see_expr(file, a.get(), first);
-            see_unless(is_built_binary(*op), Place { file, line: *line }, first);
-            see_expr(file, b.get(), first);
+        Expr::If(_, test, a, b) => {
+            see_expr(file, bound, test.get(), first);
+            see_expr(file, bound, a.get(), first);
+            see_expr(file, bound, b.get(), first);
         }
-        Expr::And(line, a, _) => see_behind(file, *line, a.get(), first),
-        Expr::Or(line, a, _) => see_behind(file, *line, a.get(), first),
-        Expr::If(line, _, a, _) => see_behind(file, *line, a.get(), first),
-        Expr::Call(line, a, _) => see_behind(file, *line, a.get(), first),
-        Expr::Index(line, a, _) => see_behind(file, *line, a.get(), first),
-        Expr::Slice(line, a, _, _, _) => see_behind(file, *line, a.get(), first),
-        Expr::Dot(line, a, _) => see_behind(file, *line, a.get(), first),
-        Expr::Name(line, _)
-        | Expr::List(line, _)
-        | Expr::Tuple(line, _)
+        Expr::Call(line, a, _) => see_behind(file, bound, *line, a.get(), first),
+        Expr::Index(line, a, _) => see_behind(file, bound, *line, a.get(), first),
+        Expr::Slice(line, a, _, _, _) => see_behind(file, bound, *line, a.get(), first),
+        Expr::Dot(line, a, _) => see_behind(file, bound, *line, a.get(), first),
+        Expr::List(line, _)
         | Expr::Dict(line, _)
         | Expr::Named(line, _, _)
         | Expr::Star(line, _)
@@ -105,95 +103,97 @@ fn see_expr(file: u32, expr: &Expr, first: &mut Option<Place>)
 
 /// Sees a place behind those in an expression.
 #[cycle(expressions)]
-fn see_behind(file: u32, line: u32, expr: &Expr, first: &mut Option<Place>)
-    ensures { first.new ≡ earlier first.old (unbuilt_expr (expr_of file expr.now) ++ place_at file line ∷ []) }
+fn see_behind(file: u32, bound: &Scope, line: u32, expr: &Expr, first: &mut Option<Place>)
+    ensures { first.new ≡ earlier first.old (unbuilt_expr bound.now (expr_of file expr.now) ++ place_at file line ∷ []) }
 {
-    see_expr(file, expr, first);
+    see_expr(file, bound, expr, first);
     see(Place { file, line }, first);
 }
 
-/// The line of a simple statement.
-fn line_of(stmt: &Stmt) -> u32
-    ensures { (file : ℕ) → unbuilt_item (code_of file (instruction_of file stmt.now)) ≡ place_at file result ∷ [] }
+/// Sees where members aren't built.
+#[cycle(expressions)]
+fn see_exprs(file: u32, bound: &Scope, members: &Items<Expr>, first: &mut Option<Place>)
+    ensures { first.new ≡ earlier first.old (unbuilt_exprs bound.now (exprs_of file members.now)) }
+{
+    for member in members.as_slice() {
+        see_expr(file, bound, member, first);
+    }
+}
+
+/// Sees where a target isn't built.
+#[cycle(targets)]
+fn see_target(file: u32, bound: &Scope, target: &Expr, first: &mut Option<Place>)
+    ensures { first.new ≡ earlier first.old (unbuilt_target bound.now (expr_of file target.now)) }
+{
+    match target {
+        Expr::Name(_, _) => {}
+        Expr::List(_, members) => see_targets(file, bound, members, first),
+        Expr::Tuple(_, members) => see_targets(file, bound, members, first),
+        _ => see_expr(file, bound, target, first),
+    }
+}
+
+#[cycle(targets)]
+fn see_targets(file: u32, bound: &Scope, targets: &Items<Expr>, first: &mut Option<Place>)
+    ensures { first.new ≡ earlier first.old (unbuilt_targets bound.now (exprs_of file targets.now)) }
+{
+    for target in targets.as_slice() {
+        see_target(file, bound, target, first);
+    }
+}
+
+/// Sees where a target, and then the value that it gets, aren't built.
+fn see_binding(file: u32, bound: &Scope, target: &Expr, value: &Expr, first: &mut Option<Place>)
+    ensures { first.new ≡ earlier first.old (unbuilt_target bound.now (expr_of file target.now) ++ unbuilt_expr bound.now (expr_of file value.now)) }
+{
+    see_target(file, bound, target, first);
+    see_expr(file, bound, value, first);
+}
+
+/// Sees where a part of a node isn't built.
+fn see_part(file: u32, bound: &Scope, op: &NodeOp, first: &mut Option<Place>)
+    ensures { first.new ≡ earlier first.old (unbuilt_part bound.now (part_of file op.now)) }
+{
+    match op {
+        NodeOp::Note(place, _, _) => see(*place, first),
+        NodeOp::ValueFrom(_, value) => see_expr(file, bound, value.get(), first),
+        NodeOp::Start(_, _, _) => {}
+        NodeOp::Key(_, _) => {}
+        NodeOp::Value(_, _) => {}
+        NodeOp::End(_) => {}
+    }
+}
+
+/// Sees where an instruction isn't built.
+fn see_instruction(file: u32, bound: &Scope, stmt: &Stmt, first: &mut Option<Place>)
+    ensures { first.new ≡ earlier first.old (unbuilt_instruction bound.now (instruction_of file stmt.now)) }
 {
     match stmt {
-        Stmt::Expr(line, _) | Stmt::Assign(line, _, _) | Stmt::Augment(line, _, _, _, _) => *line,
-        Stmt::Load(line, _, _) | Stmt::Return(line, _) => *line,
-        Stmt::Break(line) | Stmt::Continue(line) | Stmt::Pass(line) => *line,
-        _ => 0,
+        Stmt::Expr(_, e) => see_expr(file, bound, e.get(), first),
+        Stmt::Return(_, e) => see_expr(file, bound, e.get(), first),
+        Stmt::If(_, e) => see_expr(file, bound, e.get(), first),
+        Stmt::Elif(_, e) => see_expr(file, bound, e.get(), first),
+        Stmt::Assign(_, t, e) => see_binding(file, bound, t.get(), e.get(), first),
+        Stmt::Augment(_, _, _, t, e) => see_binding(file, bound, t.get(), e.get(), first),
+        Stmt::For(_, t, e) => see_binding(file, bound, t.get(), e.get(), first),
+        Stmt::Load(line, _, _) => see(Place { file, line: *line }, first),
+        Stmt::Def(line, _, _, _, _) => see(Place { file, line: *line }, first),
+        Stmt::Node(op) => see_part(file, bound, op, first),
+        Stmt::Break(_) => {}
+        Stmt::Continue(_) => {}
+        Stmt::Pass(_) => {}
+        Stmt::Else(_) => {}
+        Stmt::Close(_) => {}
     }
 }
 
-/// Sees the notes of an item.
-fn see_notes(file: u32, notes: &TNotes, first: &mut Option<Place>)
-    ensures { first.new ≡ earlier first.old (unbuilt_notes (notes_of file notes.now)) }
-{
-    for note in notes.as_slice() {
-        let line = note.line;
-        see(Place { file, line }, first);
-    }
-}
-
-/// Sees where items aren't built.
-#[cycle(seen)]
-fn see_items(file: u32, items: &TItems, first: &mut Option<Place>)
-    ensures { first.new ≡ earlier first.old (unbuilt_items (items_of file items.now)) }
-{
-    for item in items.as_slice() {
-        see_item(file, item, first);
-    }
-}
-
-#[cycle(seen)]
-fn see_item(file: u32, item: &TItem, first: &mut Option<Place>)
-    ensures { first.new ≡ earlier first.old (unbuilt_item (item_of file item.now)) }
-{
-    match item {
-        TItem::Node(node) => see_node(file, node, first),
-        TItem::Code(stmt) => {
-            let line = line_of(stmt);
-            see(Place { file, line }, first);
-        }
-        TItem::If(place, _, body, _) => see_block(file, place.line, body, first),
-        TItem::For(place, _, _, body) => see_block(file, place.line, body, first),
-        TItem::Def(place, _, _, _, body) => see_block(file, place.line, body, first),
-    }
-}
-
-#[cycle(seen)]
-fn see_block(file: u32, line: u32, body: &TItems, first: &mut Option<Place>)
-    ensures { first.new ≡ earlier first.old (place_at file line ∷ unbuilt_items (items_of file body.now)) }
-{
-    see(Place { file, line }, first);
-    see_items(file, body, first);
-}
-
-#[cycle(seen)]
-fn see_node(file: u32, node: &TNode, first: &mut Option<Place>)
-    ensures { first.new ≡ earlier first.old (unbuilt_item (node_of file node.now)) }
-{
-    see_notes(file, &node.notes, first);
-    match &node.value {
-        Some(value) => see_expr(file, value.get(), first),
-        None => see_content(file, &node.content, first),
-    }
-}
-
-#[cycle(seen)]
-fn see_content(file: u32, content: &TContent, first: &mut Option<Place>)
-    ensures { first.new ≡ earlier first.old (unbuilt_content (content_of file content.now)) }
-{
-    match content {
-        TContent::Scalar(_) => {}
-        TContent::Map(items) | TContent::List(items) => see_items(file, items, first),
-    }
-}
-
-/// The first place at the least line where a template isn't built.
-pub(crate) fn first_unbuilt(template: &Template) -> Option<Place>
-    ensures { result ≡ plain_first (unbuilt_items (template_of template.now)) }
+/// The first place at the least line where a program isn't built, in a file that binds these names.
+pub(crate) fn first_unbuilt(bound: &Scope, program: &Program) -> Option<Place>
+    ensures { result ≡ plain_first (unbuilt_code bound.now (program_of program.now)) }
 {
     let mut first = None;
-    see_items(template.file, &template.items, &mut first);
+    for stmt in program.code.as_slice() {
+        see_instruction(program.file, bound, stmt, &mut first);
+    }
     first
 }

@@ -3,16 +3,20 @@ use Rattle.std.specs.Prelude.{ℕ, List, [], ◌∷◌, map as each, Option, Som
 use Rattle.ytt_base.specs.declared.tree.Key.{Key}
 use Rattle.ytt_base.specs.Outcomes.{place_at}
 use Rattle.ytt_base.specs.View.{key_of}
-use Rattle.star_tree.specs.declared.expr.Expr.{Expr}
-use Rattle.star_tree.specs.View.{expr_of, exprs_of, item_kind_of}
+use Rattle.star_spec.specs.Code.{pass}
+use Rattle.star_spec.specs.Program.{Instruction, statement}
+use Rattle.star_tree.specs.declared.code.Expr.{Expr}
+use Rattle.star_tree.specs.View.{item_kind_of}
+use Rattle.star_tree.specs.Whole.{expr_of, exprs_of, instruction_of, parameters_of}
 use Rattle.template_spec.specs.Template as plain
-use Rattle.template_spec.specs.Template.{Notes, no_notes, note, no_key, written_key, node, written_value, value_from, pairs, elements, Items, no_items, an_item}
+use Rattle.template_spec.specs.Template.{Notes, no_notes, note, no_key, written_key, node, code, if_block, for_block, def_block, Items, no_items, an_item, no_branch, else_branch, elif_branch, written_value, value_from, pairs, elements}
 use Rattle.template_tree.specs.declared.tree.TNote.{TNote}
+use Rattle.template_tree.specs.declared.tree.TBranches.{TBranches, fold-TBranches}
 use Rattle.template_tree.specs.declared.tree.TItem.{TItem, fold-TItem}
 use Rattle.template_tree.specs.declared.tree.TNode.{TNode, fold-TNode}
 use Rattle.template_tree.specs.declared.tree.TContent.{TContent, fold-TContent}
 use Rattle.template_tree.specs.declared.tree.Template.{Template}
-use Rattle.template_tree.specs.declared.tree.TContent.TheOpen.{TContent-F, TItem-F, TNode-F}
+use Rattle.template_tree.specs.declared.tree.TBranches.TheOpen.{TBranches-F, TContent-F, TItem-F, TNode-F}
 
 abbrev pub notes_of : (file : ℕ) → List TNote → Notes
 notes_of file [] = no_notes
@@ -31,33 +35,49 @@ abbrev pub in_content : (file : ℕ) → Option Expr → plain.Content → plain
 in_content file None written = written
 in_content file (Some e) written = value_from (expr_of file e)
 
--- ---- one level, where each item and each content inside is seen already
+-- a statement; the head or the end of a block is none, and does nothing
+abbrev pub code_of : (file : ℕ) → Instruction → plain.Item
+code_of file (statement s) = code s
+code_of file i = code (pass (place_at file 0))
 
-abbrev pub content_step : TContent-F plain.Content plain.Item plain.Item → plain.Content
+-- ---- one level, where each item, each content and what follows a branch is seen already; a block stands in the file of its code
+
+abbrev pub content_step : TContent-F plain.Branches plain.Content plain.Item plain.Item → plain.Content
 content_step (TContent-F.Scalar k) = written_value (key_of k)
 content_step (TContent-F.Map is) = pairs (in_items is)
 content_step (TContent-F.List is) = elements (in_items is)
 
-abbrev pub item_step : TItem-F plain.Content plain.Item plain.Item → plain.Item
-item_step (TItem-F.Node n) = n
+abbrev pub item_step : (file : ℕ) → TItem-F plain.Branches plain.Content plain.Item plain.Item → plain.Item
+item_step file (TItem-F.Node n) = n
+item_step file (TItem-F.Code s) = code_of file (instruction_of file s)
+item_step file (TItem-F.If p e is more) = if_block (place_at file p.line) (expr_of file e) (in_items is) more
+item_step file (TItem-F.For p x e is) = for_block (place_at file p.line) (expr_of file x) (expr_of file e) (in_items is)
+item_step file (TItem-F.Def p x ps k is) = def_block (place_at file p.line) 0 x (parameters_of file ps) (item_kind_of k) (in_items is)
 
-abbrev pub node_step : (file : ℕ) → TNode-F plain.Content plain.Item plain.Item → plain.Item
+abbrev pub branches_step : (file : ℕ) → TBranches-F plain.Branches plain.Content plain.Item plain.Item → plain.Branches
+branches_step file TBranches-F.Nothing = no_branch
+branches_step file (TBranches-F.Else p is) = else_branch (place_at file p.line) (in_items is)
+branches_step file (TBranches-F.Elif p e is more) = elif_branch (place_at file p.line) (expr_of file e) (in_items is) more
+
+abbrev pub node_step : (file : ℕ) → TNode-F plain.Branches plain.Content plain.Item plain.Item → plain.Item
 node_step file n = node n.place (item_kind_of n.kind) (notes_of file n.notes) (in_key n.key) (in_content file n.value n.content)
 
 -- ---- all levels, in a file of this number
 
 abbrev pub content_of : (file : ℕ) → TContent → plain.Content
-content_of file = fold-TContent plain.Content plain.Item plain.Item content_step item_step (node_step file)
+content_of file = fold-TContent plain.Branches plain.Content plain.Item plain.Item (branches_step file) content_step (item_step file) (node_step file)
 
 abbrev pub node_of : (file : ℕ) → TNode → plain.Item
-node_of file = fold-TNode plain.Content plain.Item plain.Item content_step item_step (node_step file)
+node_of file = fold-TNode plain.Branches plain.Content plain.Item plain.Item (branches_step file) content_step (item_step file) (node_step file)
+
+abbrev pub branches_of : (file : ℕ) → TBranches → plain.Branches
+branches_of file = fold-TBranches plain.Branches plain.Content plain.Item plain.Item (branches_step file) content_step (item_step file) (node_step file)
 
 abbrev pub item_of : (file : ℕ) → TItem → plain.Item
-item_of file = fold-TItem plain.Content plain.Item plain.Item content_step item_step (node_step file)
+item_of file = fold-TItem plain.Branches plain.Content plain.Item plain.Item (branches_step file) content_step (item_step file) (node_step file)
 
 abbrev pub items_of : (file : ℕ) → List TItem → Items
 items_of file is = in_items (each (item_of file) is)
 
--- the documents of a template
 abbrev pub template_of : Template → Items
 template_of t = items_of t.file t.items

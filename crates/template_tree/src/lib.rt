@@ -1,7 +1,22 @@
-//! Templates in which everything is built so far: the items that the program of today takes, and the plain template that they stand
-//! for (`specs/View`).
+//! Placing: noted documents into the template of their file, with its statements and blocks where they stand.
+//!
+//! `place` gives exactly the definition's template of the documents, or exactly the first fault of their comments and then of their
+//! placing, whichever reader reads code as the grammar says (`template`), in the documents' file (`file`). Of documents with keys on
+//! pairs alone it is placed (`placed`).
 #![tactic(auto)]
 
+mod ahead;
+mod blocks;
+mod faults;
+mod first;
+mod nest;
+mod placing;
+mod put;
+mod slots;
+mod statements;
 mod tree;
+mod walk;
+mod wrong;
 
-pub use tree::{TContent, TItem, TItems, TNode, TNote, TNotes, Template};
+pub use placing::place;
+pub use tree::{TBranches, TContent, TItem, TItems, TNode, TNote, TNotes, Template};

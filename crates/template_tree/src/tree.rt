@@ -1,7 +1,8 @@
 // The items of a template.
 
-use sqlite_items::Items;
-use star_tree::{Args, Expr, ItemKind};
+use sqlite_items::{Boxed, Items};
+use star_tree::ItemKind;
+use star_tree::code::{Args, Expr, Params, Stmt};
 use ytt_base::fault::Place;
 use ytt_base::text::Text;
 use ytt_base::tree::Key;
@@ -17,16 +18,34 @@ pub struct TNote {
 /// The notes of an item, in the order of the text.
 pub type TNotes = Items<TNote>;
 
-/// An item of a template.
+/// An item of a template, or what stands between items.
 #[cycle(template)]
 #[derive(Drop)]
 pub enum TItem {
     /// A document, a pair or an element: at the top of a template, in a map, or in a list.
     Node(TNode),
+    /// A simple statement.
+    Code(Stmt),
+    /// The place, the test, the first branch, and what follows it.
+    If(Place, Boxed<Expr>, TItems, TBranches),
+    /// The place, the target and the members, and the body.
+    For(Place, Boxed<Expr>, Boxed<Expr>, TItems),
+    /// The place, the name and the parameters, the kind of the items of the collection that it stands in, and the body.
+    Def(Place, Text, Params, ItemKind, TItems),
 }
 
 /// Items in the order of the text.
 pub type TItems = Items<TItem>;
+
+/// What follows the first branch of an `if`.
+#[cycle(template)]
+#[derive(Drop)]
+pub enum TBranches {
+    Nothing,
+    Else(Place, TItems),
+    /// The place, the test, the branch, and what follows it.
+    Elif(Place, Boxed<Expr>, TItems, Boxed<TBranches>),
+}
 
 /// A document, a pair of a map, or an element of a list.
 #[cycle(template)]
@@ -39,7 +58,7 @@ pub struct TNode {
     pub key: Option<Key>,
     pub notes: TNotes,
     /// The value expression on its line, which stands for what is written there.
-    pub value: Option<Expr>,
+    pub value: Option<Boxed<Expr>>,
     pub content: TContent,
 }
 

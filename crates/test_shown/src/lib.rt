@@ -1,14 +1,12 @@
 //! How values are shown as texts, so that tests compare them with texts written by hand.
 #![tactic(auto)]
 
-mod code;
 mod differing;
 mod faults;
 mod noted;
 mod trees;
 mod whole;
 
-pub use code::shown_expr;
 pub use differing::Differing;
 pub use faults::shown_stop;
 pub use noted::{shown_comments, shown_content, shown_documents};

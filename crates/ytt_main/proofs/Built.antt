@@ -7,15 +7,19 @@ use Rattle.ytt_base.specs.declared.fault.Stop.TheVariants as stop
 use Rattle.star_spec.specs.Calls.{no_natives}
 use Rattle.star_spec.specs.Eval.{starlark}
 use Rattle.star_spec.specs.Outcomes.{Ending, done, bad}
-use Rattle.star_spec.specs.Program.{Instruction}
+use Rattle.star_spec.specs.Scopes.{program_names}
+use Rattle.star_tree.specs.Whole.{program_of}
+use Rattle.star_resolve.specs.declared.binding.Resolved.{Resolved}
+use Rattle.star_resolve.specs.Variables.{each_once}
 use Rattle.template_spec.specs.Compiled.{compiled}
-use Rattle.template_spec.specs.ControlWords.{free, WordsStand}
 use Rattle.template_spec.specs.Files.{FileResult, Loader, nothing_to_load}
 use Rattle.template_spec.specs.Meaning.{RunFile}
+use Rattle.template_spec.specs.Names.{items_names}
 use Rattle.template_spec.specs.Template.{Items}
 use Rattle.template_spec.proofs.Theorem.{files_agree}
-use Rattle.star_eval.specs.Parts.{Shows}
-use Rattle.star_eval.specs.declared.run.FlatResult.{FlatResult}
+use Rattle.star_eval.specs.FileRun.{RunsAs, Shows}
+use Rattle.star_eval.specs.declared.file.FlatResult.{FlatResult}
+use Rattle.ytt_main.specs.Programs.{IsProgramOf}
 use Rattle.ytt_spec.specs.Meaning.{built, default_depth, outcome_of, started}
 
 -- what a run shows is its outcome
@@ -26,11 +30,10 @@ gives_shown (Err stop.Memory) ending h = tt
 gives_shown (Ok r) (bad e s) h = elim h [ ]
 gives_shown (Err (stop.Fault f)) (done x s) h = elim h [ ]
 
--- where its program is the template compiled, and no word leaves a node of the template, it is what the template builds
-pub gives_built : (steps : ℕ) (t : Items) (program : List Instruction) (result : Result FlatResult Stop) → WordsStand free t → program ≡ compiled t
-    → ((loader : Loader (Unit {0})) (files : ℕ → List Instruction) (depth : ℕ) → Shows result (RunFile starlark no_natives loader files depth program (started steps)))
-    → Gives (λ r. trees_of r.documents) result (built steps t)
-gives_built steps t program result stand same shows =
-    subst (λ e. Gives (λ r. trees_of r.documents) result (outcome_of e))
-    (files_agree starlark no_natives program t same stand (λ f. t) (λ f. stand) nothing_to_load default_depth (started steps))
-    (gives_shown result (RunFile starlark no_natives nothing_to_load (λ f. compiled t) default_depth program (started steps)) (shows nothing_to_load (λ f. compiled t) default_depth))
+-- where its program is the template's, it is what the template builds
+pub gives_built : (steps : ℕ) (t : Items) (r : Resolved) (result : Result FlatResult Stop) → IsProgramOf t r → (r.globals ≡ each_once (program_names (program_of r.program)) → RunsAs (program_of r.program) steps result)
+    → Gives (λ x. trees_of x.documents) result (built steps t)
+gives_built steps t r result is runs =
+    subst (λ e. Gives (λ x. trees_of x.documents) result (outcome_of e))
+    (files_agree starlark no_natives (program_of r.program) t is.code is.stands (λ f. t) (λ f. is.stands) nothing_to_load default_depth (started steps))
+    (gives_shown result (RunFile starlark no_natives nothing_to_load (λ f. compiled t) default_depth (program_of r.program) (started steps)) (runs is.globals (items_names t) is.built no_natives nothing_to_load (λ f. compiled t) default_depth))

@@ -3,7 +3,6 @@ pub mod Chains
 pub mod Lines
 pub mod Names
 pub mod Numbers
-pub mod Passed
 pub mod Refusals
 pub mod Texts
 pub mod Walk

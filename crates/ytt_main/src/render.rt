@@ -3,6 +3,7 @@ ghost use Rattle.std.specs.Prelude.{◌≡◌, ◌^◌, ◌<◌, IfOk, IfSome, l
 ghost use Rattle.ytt_base.specs.Outcomes.{and_then};
 ghost use Rattle.ytt_base.specs.Trees.{AreTrees, Writable};
 ghost use Rattle.ytt_base.specs.View.{trees_of};
+ghost use Rattle.yaml_held.specs.Keyed.{KeyedDocuments};
 ghost use Rattle.yaml_noted.specs.View.{documents_of};
 ghost use Rattle.star_grammar.specs.CodeReaders.{GivesCode};
 ghost use Rattle.template_spec.specs.Passes.{template_passed};
@@ -16,7 +17,7 @@ use notes_read::a_code_reader_exists;
 use sqlite_items::Items;
 use star_eval::run_flat;
 use std::alloc::Global;
-use template_compile::compile_flat;
+use yaml_held::reads_keyed;
 use yaml_read::{NotedDocs, has_code, plain_trees, read_noted};
 use ytt_base::fault::{Fault, FaultKind, Stop};
 use ytt_base::text::{Memory, Names, Text};
@@ -103,11 +104,11 @@ fn build(
     ignore_unknown: bool,
     steps: u64,
 ) -> Result<Trees, Stop>
+    requires { KeyedDocuments (documents_of documents) }
     ensures { GivesCode trees_of result (λ r. and_then (built steps) (template_passed r ignore_unknown 1 (documents_of documents))) }
 {
-    let template = pass_template(alloc, &documents, ignore_unknown)?;
-    let program = compile_flat(alloc, &template)?;
-    let ran = run_flat(alloc, &program, steps)?;
+    let passed = pass_template(alloc, &documents, ignore_unknown)?;
+    let ran = run_flat(alloc, &passed.program, steps)?;
     Ok(ran.documents)
 }
 
@@ -119,6 +120,7 @@ fn resolve(
     ignore_unknown: bool,
     steps: u64,
 ) -> Result<Trees, Stop>
+    requires { KeyedDocuments (documents_of documents) }
     ensures { GivesCode trees_of result (λ r. documents_meaning r ignore_unknown steps (documents_of documents)) }
 {
     if has_code(&documents) {
@@ -133,6 +135,7 @@ fn read_text(alloc: Global, bytes: &[u8], ignore_unknown: bool, steps: u64) -> R
     ensures { GivesCode trees_of result (λ r. text_meaning r ignore_unknown steps bytes.now) }
 {
     let documents = read_noted(alloc, bytes, 1)?;
+    reads_keyed();
     resolve(alloc, documents, ignore_unknown, steps)
 }
 

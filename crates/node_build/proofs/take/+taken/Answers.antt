@@ -54,12 +54,13 @@ member_trees-returns-in_err-tree-clause-meaning t c = λ store.
     c.in_err-tree.field-0.0 (in_store store c.member_tree.new.steps) c.from_residual.result (c.in_err-tree.ensures.meaning store) stopped
 
 pub member_trees-loop-member-preserved : goal.member_trees-loop-member-preserved
-member_trees-loop-member-preserved t c =
-    ((λ store. rw c.in_ok-push.ensures
-    (trees_next c.args.levels c.args.place c.args.members.now c.loop-member.member-index _ c.loop-member.trees (in_store store c.loop-member.steps)
-    c.member-item.result c.loop-member-test.true c.member-item.is (c.loop-member.invariant.0 store)
-    c.in_ok-tree.tree (in_store store c.member_tree.new.steps) (c.in_ok-tree.ensures.meaning store))),
-    omega (arith, c.loop-member.invariant.1, c.in_ok-tree.ensures.spent))
+member_trees-loop-member-preserved t c = (
+  (λ store. rw c.in_ok-push.ensures
+      (trees_next c.args.levels c.args.place c.args.members.now c.loop-member.member-index _ c.loop-member.trees (in_store store c.loop-member.steps)
+      c.member-item.result c.loop-member-test.true c.member-item.is (c.loop-member.invariant.0 store)
+      c.in_ok-tree.tree (in_store store c.member_tree.new.steps) (c.in_ok-tree.ensures.meaning store))),
+  omega (arith, c.loop-member.invariant.1, c.in_ok-tree.ensures.spent),
+)
 
 pub member_trees-returns-clause-meaning : goal.member_trees-returns-clause-meaning
 member_trees-returns-clause-meaning t c = λ store.

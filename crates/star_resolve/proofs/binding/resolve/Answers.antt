@@ -1,11 +1,10 @@
-use Rattle.std.proofs.Common.{◌≡◌, List, [], Err, length, rules, sym, ap, ◌∙◌}
+use Rattle.std.proofs.Common.{◌≡◌, List, [], Err, rules, sym, ap, ◌∙◌}
 use Rattle.star_spec.specs.Code.{Name}
 use Rattle.star_spec.specs.Program.{Instruction}
 use Rattle.star_resolve.specs.declared.event.Event.{Event}
 use Rattle.star_tree.specs.Whole.{program_of}
 use Rattle.star_resolve.specs.Answers.{answers, found_in, program_answers, refused}
 use Rattle.star_resolve.specs.Events.{program_events, sizes_in}
-use Rattle.star_resolve.specs.Functions.{scope_size}
 use Rattle.star_resolve.specs.Gathered.{all_names, behind, front}
 use Rattle.star_resolve.specs.Variables.{each_once}
 use Rattle.star_resolve.proofs.Found.{refused_is, variables_are}
@@ -33,7 +32,7 @@ returns-clause-variables c =
     c.in_ok-variables.ensures.bound ∙ ap found_in same ∙ variables_are c.args.builtins.now is c.requires
 
 pub returns-clause-globals : goal.returns-clause-globals
-returns-clause-globals c = c.len-globals.ensures ∙ ap length c.in_ok-walked.ensures.globals ∙ ap scope_size (globals_are (program_of c.args.program) c.requires)
+returns-clause-globals c = c.in_ok-walked.ensures.globals ∙ ap each_once (globals_are (program_of c.args.program) c.requires)
 
 pub returns-clause-functions : goal.returns-clause-functions
 returns-clause-functions c = c.in_ok-functions.ensures ∙ ap sizes_in c.in_ok-walked.ensures.events ∙ functions_are (program_of c.args.program) c.requires

@@ -1,9 +1,9 @@
 use Rattle.std.proofs.Common.{List, ap, sym, ◌∙◌, refl}
 use Rattle.template_spec.specs.Template.{branches_have_written, has_written, is_written}
-use Rattle.template_place.specs.declared.tree.TBranches.{TBranches}
-use Rattle.template_place.specs.declared.tree.TItem.{TItem}
-use Rattle.template_place.specs.View.{branches_of, item_of, items_of}
-use Rattle.template_place.proofs.Views.{branches_of-Elif, branches_of-Else, item_of-Def, item_of-For, item_of-If}
+use Rattle.template_tree.specs.declared.tree.TBranches.{TBranches}
+use Rattle.template_tree.specs.declared.tree.TItem.{TItem}
+use Rattle.template_tree.specs.View.{branches_of, item_of, items_of}
+use Rattle.template_tree.proofs.Views.{branches_of-Elif, branches_of-Else, item_of-Def, item_of-For, item_of-If}
 use Rattle.template_program.proofs.Turns.{first_of_two, found_here, found_later, found_nowhere, second_of_two}
 use Rattle.template_program.proofs.holds.+written.Goals as goal
 

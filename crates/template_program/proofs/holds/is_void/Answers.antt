@@ -1,6 +1,6 @@
 use Rattle.std.proofs.Common.{◌&&◌, not, ap, sym, ◌∙◌}
 use Rattle.template_spec.specs.Template.{has_nodes}
-use Rattle.template_place.specs.View.{items_of}
+use Rattle.template_tree.specs.View.{items_of}
 use Rattle.template_program.proofs.holds.is_void.Goals as goal
 
 pub returns-then-has_written : goal.returns-then-has_written

@@ -3,7 +3,7 @@ use Rattle.ytt_base.specs.declared.tree.Key.{Key}
 use Rattle.ytt_base.specs.View.{key_of}
 use Rattle.star_spec.specs.Program.{part, node_key}
 use Rattle.template_spec.specs.Compiled.{key_code}
-use Rattle.template_place.specs.View.{in_key}
+use Rattle.template_tree.specs.View.{in_key}
 use Rattle.template_program.proofs.Emitting.{on_ok_same}
 use Rattle.template_program.proofs.parts.put_key.Goals as goal
 

@@ -3,7 +3,7 @@ use Rattle.ytt_base.specs.Outcomes.{place_at}
 use Rattle.star_spec.specs.Program.{part, node_note}
 use Rattle.star_tree.specs.Whole.{exprs_of}
 use Rattle.template_spec.specs.Compiled.{notes_code}
-use Rattle.template_place.specs.View.{notes_of}
+use Rattle.template_tree.specs.View.{notes_of}
 use Rattle.template_program.proofs.Emitting.{emits_next, emits_same}
 use Rattle.template_program.proofs.parts.put_notes.Goals as goal
 

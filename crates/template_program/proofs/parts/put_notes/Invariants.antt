@@ -2,7 +2,7 @@ use Rattle.std.proofs.Common.{◌≡◌, List, ◌++◌, drop}
 use Rattle.star_spec.specs.Program.{Instruction}
 use Rattle.star_tree.specs.Whole.{instructions_of}
 use Rattle.template_spec.specs.Compiled.{notes_code}
-use Rattle.template_place.specs.View.{notes_of}
+use Rattle.template_tree.specs.View.{notes_of}
 use Rattle.template_program.proofs.parts.put_notes.Given as goal
 
 abbrev pub invariant-loop-note : goal.invariant-loop-note

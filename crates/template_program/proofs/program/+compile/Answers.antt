@@ -6,10 +6,10 @@ use Rattle.star_tree.specs.View.{item_kind_of}
 use Rattle.star_tree.specs.Whole.{expr_of, parameters_of}
 use Rattle.star_tree.specs.declared.code.Expr.{Expr}
 use Rattle.template_spec.specs.Compiled.{branches_code, content_code, item_code, items_code, key_code, notes_code}
-use Rattle.template_place.specs.declared.tree.TBranches.{TBranches}
-use Rattle.template_place.specs.declared.tree.TItem.{TItem}
-use Rattle.template_place.specs.View.{branches_of, content_of, in_content, in_key, item_of, items_of, notes_of}
-use Rattle.template_place.proofs.Views.{branches_of-Elif, branches_of-Else, branches_of-Nothing, content_of-List, content_of-Map, content_of-Scalar, item_of-Code, item_of-Def, item_of-For, item_of-If, item_of-Node, node_of-node}
+use Rattle.template_tree.specs.declared.tree.TBranches.{TBranches}
+use Rattle.template_tree.specs.declared.tree.TItem.{TItem}
+use Rattle.template_tree.specs.View.{branches_of, content_of, in_content, in_key, item_of, items_of, notes_of}
+use Rattle.template_tree.proofs.Views.{branches_of-Elif, branches_of-Else, branches_of-Nothing, content_of-List, content_of-Map, content_of-Scalar, item_of-Code, item_of-Def, item_of-For, item_of-If, item_of-Node, node_of-node}
 use Rattle.template_program.proofs.Emitting.{emits_after, emits_done, emits_next, on_ok_same}
 use Rattle.template_program.proofs.program.+compile.Goals as goal
 

@@ -2,7 +2,7 @@ use Rattle.std.proofs.Common.{◌≡◌, List, ◌++◌, drop}
 use Rattle.star_spec.specs.Program.{Instruction}
 use Rattle.star_tree.specs.Whole.{instructions_of}
 use Rattle.template_spec.specs.Compiled.{items_code}
-use Rattle.template_place.specs.View.{items_of}
+use Rattle.template_tree.specs.View.{items_of}
 use Rattle.template_program.proofs.program.+compile.Given as goal
 
 abbrev pub invariant-put_items-loop-item : goal.invariant-put_items-loop-item

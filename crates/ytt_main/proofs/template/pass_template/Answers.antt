@@ -1,6 +1,11 @@
-use Rattle.template_place.specs.View.{template_of}
-use Rattle.ytt_main.proofs.Passed.{gives_stands}
+use Rattle.template_spec.proofs.NestedWords.{placed_words}
+use Rattle.template_tree.specs.View.{template_of}
 use Rattle.ytt_main.proofs.template.pass_template.Goals as goal
 
-pub returns-clause-stands : goal.returns-clause-stands
-returns-clause-stands c = gives_stands (template_of c.in_ok-whole.whole) c.narrow.result c.narrow.ensures
+pub returns-clause-program : goal.returns-clause-program
+returns-clause-program c = record {
+  code = c.in_ok-program.ensures.code;
+  stands = placed_words (template_of c.in_ok-template.template) (c.in_ok-template.ensures.placed c.requires);
+  built = c.in_ok-program.ensures.built;
+  globals = c.in_ok-program.ensures.globals;
+}

@@ -1,7 +1,0 @@
-use Rattle.std.proofs.Common.{◌≡◌, drop}
-use Rattle.template_spec.specs.Adding.{overrides}
-use Rattle.star_eval.specs.View.{built_notes_of}
-use Rattle.star_eval.proofs.add.overrides.Given as goal
-
-abbrev pub invariant-loop-note : goal.invariant-loop-note
-invariant-loop-note l = overrides (built_notes_of l.notes) ≡ overrides (built_notes_of (drop l.note-index l.notes))

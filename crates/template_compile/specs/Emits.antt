@@ -1,9 +1,0 @@
--- What is put behind instructions.
-use Rattle.std.specs.Prelude.{◌≡◌, ℕ, List, ◌++◌}
-use Rattle.star_spec.specs.Program.{Instruction}
-use Rattle.star_tree.specs.declared.program.Instr.{Instr}
-use Rattle.star_tree.specs.View.{instructions_of}
-
--- Behind the old instructions, in a file of this number, are those that `code` puts in front of any that follow.
-abbrev pub Emits : (file : ℕ) → (old new : List Instr) → (code : List Instruction → List Instruction) → Type 0
-Emits file old new code = (is : List Instruction) → instructions_of file new ++ is ≡ instructions_of file old ++ code is

@@ -1,6 +1,0 @@
-use Rattle.template_place.specs.Nests.{nested_of}
-use Rattle.template_place.proofs.Nesting.{ok_same, statement_same}
-use Rattle.template_place.proofs.nest.put_statement.Goals as goal
-
-pub returns-then-is_statement : goal.returns-then-is_statement
-returns-then-is_statement c = λ file. ok_same file _ _ _ (c.put_item.ensures file) (statement_same file c.args.stmt (nested_of file c.args.nested) (c.if-is_statement.ensures file))

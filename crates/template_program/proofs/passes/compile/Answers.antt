@@ -1,0 +1,25 @@
+use Rattle.std.proofs.lemmas.Result.{err_from_is_err_and}
+use Rattle.star_resolve.specs.declared.binding.Resolved.{Resolved}
+use Rattle.template_tree.specs.View.{template_of}
+use Rattle.template_program.proofs.Telling.{built_whole, none_unbuilt, one_unbuilt, refused_first}
+use Rattle.template_program.proofs.passes.compile.Goals as goal
+
+pub returns-in_err-resolved-clause-passes : goal.returns-in_err-resolved-clause-passes
+returns-in_err-resolved-clause-passes c =
+    let p = err_from_is_err_and c.from_residual.result c.from_residual.ensures.1 in
+    rw (p.1, p.2) (refused_first Resolved (template_of c.args.template.now) c.in_err-resolved.field-0.0 c.in_err-resolved.ensures.passes)
+
+pub returns-in-None-clause-passes : goal.returns-in-None-clause-passes
+returns-in-None-clause-passes c =
+    let known = c.in_ok-resolved.ensures in
+    built_whole (template_of c.args.template.now) _ _ known.code known.globals c.first_unbuilt.result known.passes c.first_unbuilt.ensures c.in-None.is
+
+pub returns-in-None-clause-built : goal.returns-in-None-clause-built
+returns-in-None-clause-built c =
+    let known = c.in_ok-resolved.ensures in
+    none_unbuilt (template_of c.args.template.now) _ _ known.code known.globals c.first_unbuilt.result c.first_unbuilt.ensures c.in-None.is
+
+pub returns-in-Some-clause-passes : goal.returns-in-Some-clause-passes
+returns-in-Some-clause-passes c =
+    let known = c.in_ok-resolved.ensures in
+    one_unbuilt (template_of c.args.template.now) _ _ known.code known.globals c.first_unbuilt.result c.in-Some.place c.new.result known.passes c.first_unbuilt.ensures c.in-Some.is c.new.ensures

@@ -1,0 +1,220 @@
+-- What parts of a collection become, one after another.
+use Rattle.std.proofs.Common.{◌≡◌, ℕ, true, false, List, [], ◌∷◌, ◌++◌, reverse, map as each, Option, Some, None, Result, Ok, Err, IfOk, refl, ap, sym, ◌∙◌, append_assoc, rules}
+use Rattle.std.proofs.lemmas.List.{map-append, reverse-append, reverse-reverse}
+use Rattle.ytt_base.specs.declared.fault.Place.{Place}
+use Rattle.ytt_base.specs.Outcomes.{place_at}
+use Rattle.star_spec.specs.Code.{Expr, Name, Parameters}
+use Rattle.star_spec.specs.CodeReading.{for_header, def_header}
+use Rattle.star_spec.specs.CodeReading as plain_header
+use Rattle.star_spec.specs.Program.{ItemKind, Instruction, part, statement, begin_if, begin_elif, begin_else, begin_for, begin_def, close}
+use Rattle.star_tree.specs.declared.code.Expr as held_expr
+use Rattle.star_tree.specs.declared.code.Header.{Header}
+use Rattle.star_tree.specs.declared.code.Header.TheVariants as header
+use Rattle.star_tree.specs.declared.code.Param.{Param}
+use Rattle.star_tree.specs.declared.code.Stmt.{Stmt}
+use Rattle.star_tree.specs.declared.program.ItemKind as held_kind
+use Rattle.star_tree.specs.View.{item_kind_of}
+use Rattle.star_tree.specs.Whole.{expr_of, header_of, instruction_of, instructions_of, parameters_of}
+use Rattle.notes_read.specs.declared.comment.Comment.{Comment}
+use Rattle.notes_read.specs.View.{said_of}
+use Rattle.template_spec.specs.Nesting as nesting
+use Rattle.template_spec.specs.Nesting.{broken, at_top, inside, a_node, a_mark, nest, put, put_statements}
+use Rattle.template_spec.specs.Template.{Item, Items, Branches, an_item, code, no_items, no_branch, else_branch, elif_branch}
+use Rattle.template_tree.specs.declared.nest.Nested as held
+use Rattle.template_tree.specs.declared.nest.Nested.{Nested, the_lemmas}
+use Rattle.template_tree.specs.declared.nest.Part.{Part}
+use Rattle.template_tree.specs.declared.tree.TBranches.{TBranches}
+use Rattle.template_tree.specs.declared.tree.TBranches as branches
+use Rattle.ytt_base.specs.declared.text.Memory.{Memory}
+use Rattle.template_tree.specs.declared.tree.TItem.{TItem}
+use Rattle.template_tree.specs.declared.tree.TItem as item
+use Rattle.template_tree.specs.Nests.{is_no_branch, is_statement, nest_step, nested_of, part_of, parts_of}
+use Rattle.template_tree.specs.View.{branches_of, code_of, item_of, items_of}
+use Rattle.template_tree.proofs.Views.{item_of-Node, item_of-Code, item_of-If, item_of-For, item_of-Def, branches_of-Nothing, branches_of-Else, branches_of-Elif}
+
+pub nested_of-Broken : (file : ℕ) → nested_of file held.Broken ≡ broken
+nested_of-Broken file = search (rules, the_lemmas)
+
+pub nested_of-AtTop : (file : ℕ) (is : List TItem) → nested_of file (held.AtTop is) ≡ at_top (items_of file (reverse is))
+nested_of-AtTop file is = search (rules, the_lemmas)
+
+pub nested_of-Inside : (file : ℕ) (is : List TItem) (more : TBranches) (outer : Nested) → nested_of file (held.Inside is more outer) ≡ inside (items_of file (reverse is)) (branches_of file more) (nested_of file outer)
+nested_of-Inside file is more outer = search (rules, the_lemmas)
+
+pub ruleset nests = (nested_of-Broken, nested_of-AtTop, nested_of-Inside, item_of-Code, item_of-If, item_of-For, item_of-Def, branches_of-Nothing, branches_of-Else, branches_of-Elif)
+
+-- ---- statements
+
+pub statements_behind : (is : List Instruction) (i : Instruction) (n : nesting.Nested) → put_statements (is ++ i ∷ []) n ≡ put_statements is (put_statements (i ∷ []) n)
+statements_behind [] i n = refl
+statements_behind (part o ∷ is) i n = statements_behind is i n
+statements_behind (statement s ∷ is) i n = ap (put (code s)) (statements_behind is i n)
+statements_behind (begin_if p e ∷ is) i n = statements_behind is i n
+statements_behind (begin_elif p e ∷ is) i n = statements_behind is i n
+statements_behind (begin_else p ∷ is) i n = statements_behind is i n
+statements_behind (begin_for p x e ∷ is) i n = statements_behind is i n
+statements_behind (begin_def p k f x ps ∷ is) i n = statements_behind is i n
+statements_behind (close p ∷ is) i n = statements_behind is i n
+
+pub one_statement : (file : ℕ) (i : Instruction) (n : nesting.Nested) → is_statement i ≡ true → put_statements (i ∷ []) n ≡ put (code_of file i) n
+one_statement file (statement s) n e = refl
+one_statement file (part o) n e = cc
+one_statement file (begin_if p x) n e = cc
+one_statement file (begin_elif p x) n e = cc
+one_statement file (begin_else p) n e = cc
+one_statement file (begin_for p x y) n e = cc
+one_statement file (begin_def p k f x ps) n e = cc
+one_statement file (close p) n e = cc
+
+pub no_statement : (i : Instruction) (n : nesting.Nested) → is_statement i ≡ false → put_statements (i ∷ []) n ≡ n
+no_statement (statement s) n e = cc
+no_statement (part o) n e = refl
+no_statement (begin_if p x) n e = refl
+no_statement (begin_elif p x) n e = refl
+no_statement (begin_else p) n e = refl
+no_statement (begin_for p x y) n e = refl
+no_statement (begin_def p k f x ps) n e = refl
+no_statement (close p) n e = refl
+
+-- ---- parts
+
+pub nest_more : (file : ℕ) (kind : ItemKind) (p : nesting.Part) (ps : List nesting.Part) → nest file kind (p ∷ ps) ≡ nest_step file kind p (nest file kind ps)
+nest_more file kind (a_node i) ps = refl
+nest_more file kind (a_mark l s) ps = refl
+
+pub parts_behind : (file : ℕ) (ps : List Part) (p : Part) → parts_of file (ps ++ p ∷ []) ≡ part_of file p ∷ parts_of file ps
+parts_behind file ps p = ap (each (part_of file)) (reverse-append ps (p ∷ []))
+
+-- what these parts, the first one last, are before those that are left, the last one last
+pub record IsNesting (file : ℕ) (kind : ItemKind) (all left : List Part) (nested : Nested) : Type 0 where
+  pub done : List Part
+  pub whole : all ≡ done ++ reverse left
+  pub is_nested : nested_of file nested ≡ nest file kind (parts_of file done)
+
+pub nesting_starts : (file : ℕ) (kind : ItemKind) (all left : List Part) (none : List TItem) → left ≡ reverse all → none ≡ [] → IsNesting file kind all left (held.AtTop none)
+nesting_starts file kind all left none e f = record {
+  done = [];
+  whole = sym (reverse-reverse all) ∙ ap reverse (sym e);
+  is_nested = nested_of-AtTop file none ∙ ap (λ (is : List TItem). at_top (items_of file (reverse is))) f;
+}
+
+pub nesting_goes_on : (file : ℕ) (kind : ItemKind) (all left left2 : List Part) (p : Part) (nested nested2 : Nested) → IsNesting file kind all left nested → left ≡ left2 ++ p ∷ []
+    → nested_of file nested2 ≡ nest_step file kind (part_of file p) (nested_of file nested) → IsNesting file kind all left2 nested2
+nesting_goes_on file kind all left left2 p nested nested2 w e h = record {
+  done = w.done ++ p ∷ [];
+  whole = w.whole ∙ ap (λ (ps : List Part). w.done ++ ps) (ap reverse e ∙ reverse-append left2 (p ∷ [])) ∙ sym (append_assoc w.done (p ∷ []) (reverse left2));
+  is_nested = h ∙ ap (nest_step file kind (part_of file p)) w.is_nested ∙ sym (nest_more file kind (part_of file p) (parts_of file w.done)) ∙ ap (nest file kind) (sym (parts_behind file w.done p));
+}
+
+append_nil : (ps : List Part) → ps ++ [] ≡ ps
+append_nil [] = refl
+append_nil (p ∷ ps) = ap (λ qs. p ∷ qs) (append_nil ps)
+
+pub nesting_ends : (file : ℕ) (kind : ItemKind) (all left : List Part) (nested : Nested) → IsNesting file kind all left nested → left ≡ [] → nested_of file nested ≡ nest file kind (parts_of file all)
+nesting_ends file kind all left nested w e =
+    w.is_nested ∙ ap (λ (ps : List Part). nest file kind (parts_of file ps)) (sym (append_nil w.done) ∙ ap (λ (ps : List Part). w.done ++ reverse ps) (sym e) ∙ sym w.whole)
+
+-- ---- what each call gives
+
+pub ok_same : (file : ℕ) (r : Result Nested Memory) (a b : nesting.Nested) → IfOk r (λ n. nested_of file n ≡ a) → a ≡ b → IfOk r (λ n. nested_of file n ≡ b)
+ok_same file (Ok n) a b h e = h ∙ e
+ok_same file (Err m) a b h e = tt
+
+pub statement_same : (file : ℕ) (s : Stmt) (n : nesting.Nested) → true ≡ is_statement (instruction_of file s) → put (item_of file (item.Code s)) n ≡ put_statements (instruction_of file s ∷ []) n
+statement_same file s n e = ap (λ i. put i n) (item_of-Code file s) ∙ sym (one_statement file (instruction_of file s) n (sym e))
+
+branch_is : (m : Branches) → true ≡ is_no_branch m → m ≡ no_branch
+branch_is no_branch e = refl
+branch_is (else_branch p is) e = cc
+branch_is (elif_branch p x is m) e = cc
+
+for_none : (kind : ItemKind) (p : Place) (x y : Expr) (is : Items) (m : Branches) → false ≡ is_no_branch m → None ≡ nesting.block_of kind p (for_header x y) is m
+for_none kind p x y is no_branch e = cc
+for_none kind p x y is (else_branch q js) e = refl
+for_none kind p x y is (elif_branch q z js m) e = refl
+
+def_none : (kind : ItemKind) (p : Place) (x : Name) (ps : Parameters) (is : Items) (m : Branches) → false ≡ is_no_branch m → None ≡ nesting.block_of kind p (def_header x ps) is m
+def_none kind p x ps is no_branch e = cc
+def_none kind p x ps is (else_branch q js) e = refl
+def_none kind p x ps is (elif_branch q z js m) e = refl
+
+pub for_given : (file : ℕ) (kind : ItemKind) (p : Place) (h : Header) (x y : held_expr.Expr) (is : List TItem) (more : TBranches) → h ≡ header.For x y → true ≡ is_no_branch (branches_of file more)
+    → Some (item_of file (item.For p x y is)) ≡ nesting.block_of kind (place_at file p.line) (header_of file h) (items_of file is) (branches_of file more)
+for_given file kind p h x y is more e b =
+    ap (λ i. Some i) (item_of-For file p x y is) ∙ ap (λ (m : Branches). nesting.block_of kind (place_at file p.line) (header_of file (header.For x y)) (items_of file is) m) (sym (branch_is (branches_of file more) b))
+    ∙ ap (λ (g : Header). nesting.block_of kind (place_at file p.line) (header_of file g) (items_of file is) (branches_of file more)) (sym e)
+
+pub for_not_given : (file : ℕ) (kind : ItemKind) (p : Place) (h : Header) (x y : held_expr.Expr) (is : List TItem) (more : TBranches) → h ≡ header.For x y → false ≡ is_no_branch (branches_of file more)
+    → None ≡ nesting.block_of kind (place_at file p.line) (header_of file h) (items_of file is) (branches_of file more)
+for_not_given file kind p h x y is more e b =
+    for_none kind (place_at file p.line) (expr_of file x) (expr_of file y) (items_of file is) (branches_of file more) b
+    ∙ ap (λ (g : Header). nesting.block_of kind (place_at file p.line) (header_of file g) (items_of file is) (branches_of file more)) (sym e)
+
+pub def_given : (file : ℕ) (kind : held_kind.ItemKind) (p : Place) (h : Header) (x : Name) (ps : List Param) (is : List TItem) (more : TBranches) → h ≡ header.Def x ps → true ≡ is_no_branch (branches_of file more)
+    → Some (item_of file (item.Def p x ps kind is)) ≡ nesting.block_of (item_kind_of kind) (place_at file p.line) (header_of file h) (items_of file is) (branches_of file more)
+def_given file kind p h x ps is more e b =
+    ap (λ i. Some i) (item_of-Def file p x ps kind is) ∙ ap (λ (m : Branches). nesting.block_of (item_kind_of kind) (place_at file p.line) (header_of file (header.Def x ps)) (items_of file is) m) (sym (branch_is (branches_of file more) b))
+    ∙ ap (λ (g : Header). nesting.block_of (item_kind_of kind) (place_at file p.line) (header_of file g) (items_of file is) (branches_of file more)) (sym e)
+
+pub def_not_given : (file : ℕ) (kind : ItemKind) (p : Place) (h : Header) (x : Name) (ps : List Param) (is : List TItem) (more : TBranches) → h ≡ header.Def x ps → false ≡ is_no_branch (branches_of file more)
+    → None ≡ nesting.block_of kind (place_at file p.line) (header_of file h) (items_of file is) (branches_of file more)
+def_not_given file kind p h x ps is more e b =
+    def_none kind (place_at file p.line) x (parameters_of file ps) (items_of file is) (branches_of file more) b
+    ∙ ap (λ (g : Header). nesting.block_of kind (place_at file p.line) (header_of file g) (items_of file is) (branches_of file more)) (sym e)
+
+no_else : (p : Place) (is : Items) (m : Branches) (o : nesting.Nested) → false ≡ is_no_branch m → broken ≡ nesting.last_branch p (inside is m o)
+no_else p is no_branch o e = cc
+no_else p is (else_branch q js) o e = refl
+no_else p is (elif_branch q z js m) o e = refl
+
+pub else_given : (file : ℕ) (p : Place) (n : Nested) (is body new : List TItem) (more : TBranches) (outer : Nested) → n ≡ held.Inside is more outer → true ≡ is_no_branch (branches_of file more) → body ≡ reverse is → new ≡ []
+    → nested_of file (held.Inside new (branches.Else p body) outer) ≡ nesting.last_branch (place_at file p.line) (nested_of file n)
+else_given file p n is body new more outer e b t f =
+    nested_of-Inside file new (branches.Else p body) outer
+    ∙ ap (λ (js : List TItem). inside (items_of file (reverse js)) (branches_of file (branches.Else p body)) (nested_of file outer)) f
+    ∙ ap (λ (m : Branches). inside no_items m (nested_of file outer)) (branches_of-Else file p body ∙ ap (λ (js : List TItem). else_branch (place_at file p.line) (items_of file js)) t)
+    ∙ ap (λ (m : Branches). nesting.last_branch (place_at file p.line) (inside (items_of file (reverse is)) m (nested_of file outer))) (sym (branch_is (branches_of file more) b))
+    ∙ ap (nesting.last_branch (place_at file p.line)) (sym (nested_of-Inside file is more outer) ∙ ap (nested_of file) (sym e))
+
+pub else_not_given : (file : ℕ) (p : Place) (n : Nested) (is : List TItem) (more : TBranches) (outer : Nested) → n ≡ held.Inside is more outer → false ≡ is_no_branch (branches_of file more)
+    → nested_of file held.Broken ≡ nesting.last_branch (place_at file p.line) (nested_of file n)
+else_not_given file p n is more outer e b =
+    nested_of-Broken file ∙ no_else (place_at file p.line) (items_of file (reverse is)) (branches_of file more) (nested_of file outer) b
+    ∙ ap (nesting.last_branch (place_at file p.line)) (sym (nested_of-Inside file is more outer) ∙ ap (nested_of file) (sym e))
+
+front_pushed : (file : ℕ) (items rest : List TItem) (i : TItem) → items ≡ rest ++ i ∷ [] → items_of file (reverse items) ≡ an_item (item_of file i) (items_of file (reverse rest))
+front_pushed file items rest i e = ap (items_of file) (ap reverse e ∙ reverse-append rest (i ∷ []))
+
+pub top_none : (file : ℕ) (kind : ItemKind) (p : Place) (h : plain_header.Header) (items : List TItem) → items ≡ [] → nested_of file held.Broken ≡ nesting.around_one kind p h (at_top (items_of file (reverse items)))
+top_none file kind p h items e = nested_of-Broken file ∙ ap (λ (is : List TItem). nesting.around_one kind p h (at_top (items_of file (reverse is)))) (sym e)
+
+pub top_one : (file : ℕ) (kind : ItemKind) (p : Place) (h : plain_header.Header) (items rest : List TItem) (i : TItem) (b : Option Item) (front : nesting.Nested) → items ≡ rest ++ i ∷ []
+    → b ≡ nesting.block_of kind p h (an_item (item_of file i) no_items) no_branch → front ≡ nesting.put_block b (nested_of file (held.AtTop rest))
+    → front ≡ nesting.around_one kind p h (at_top (items_of file (reverse items)))
+top_one file kind p h items rest i b front e k f =
+    f ∙ (λ j. nesting.put_block (k j) (nested_of-AtTop file rest j)) ∙ ap (λ (is : Items). nesting.around_one kind p h (at_top is)) (sym (front_pushed file items rest i e))
+
+pub inside_none : (file : ℕ) (kind : ItemKind) (p : Place) (h : plain_header.Header) (items : List TItem) (more : Branches) (outer : nesting.Nested) → items ≡ []
+    → nested_of file held.Broken ≡ nesting.around_one kind p h (inside (items_of file (reverse items)) more outer)
+inside_none file kind p h items more outer e = nested_of-Broken file ∙ ap (λ (is : List TItem). nesting.around_one kind p h (inside (items_of file (reverse is)) more outer)) (sym e)
+
+pub inside_one : (file : ℕ) (kind : ItemKind) (p : Place) (h : plain_header.Header) (items rest : List TItem) (i : TItem) (more : TBranches) (outer : Nested) (b : Option Item) (front : nesting.Nested) → items ≡ rest ++ i ∷ []
+    → b ≡ nesting.block_of kind p h (an_item (item_of file i) no_items) no_branch → front ≡ nesting.put_block b (nested_of file (held.Inside rest more outer))
+    → front ≡ nesting.around_one kind p h (inside (items_of file (reverse items)) (branches_of file more) (nested_of file outer))
+inside_one file kind p h items rest i more outer b front e k f =
+    f ∙ (λ j. nesting.put_block (k j) (nested_of-Inside file rest more outer j)) ∙ ap (λ (is : Items). nesting.around_one kind p h (inside is (branches_of file more) (nested_of file outer))) (sym (front_pushed file items rest i e))
+
+pub block_opened : (file : ℕ) (kind : ItemKind) (p : Place) (h : plain_header.Header) (n : Nested) (items body : List TItem) (more : TBranches) (outer inner : Nested) (b : Option Item) (front : nesting.Nested) → n ≡ held.Inside items more outer
+    → body ≡ reverse items → inner ≡ outer → b ≡ nesting.block_of kind p h (items_of file body) (branches_of file more) → front ≡ nesting.put_block b (nested_of file inner) → front ≡ nesting.open_block kind p h (nested_of file n)
+block_opened file kind p h n items body more outer inner b front e t o k f =
+    f ∙ (λ j. nesting.put_block (k j) (nested_of file (o j))) ∙ ap (λ (is : List TItem). nesting.put_block (nesting.block_of kind p h (items_of file is) (branches_of file more)) (nested_of file outer)) t
+    ∙ ap (nesting.open_block kind p h) (sym (nested_of-Inside file items more outer) ∙ ap (nested_of file) (sym e))
+
+pub statements_on : (file : ℕ) (left left2 : List Stmt) (s : Stmt) (front front2 b : nesting.Nested) → left ≡ left2 ++ s ∷ [] → front2 ≡ put_statements (instruction_of file s ∷ []) front
+    → put_statements (instructions_of file left) front ≡ b → put_statements (instructions_of file left2) front2 ≡ b
+statements_on file left left2 s front front2 b e h k =
+    ap (put_statements (instructions_of file left2)) h ∙ sym (statements_behind (instructions_of file left2) (instruction_of file s) front)
+    ∙ ap (λ (is : List Instruction). put_statements is front) (sym (map-append (instruction_of file) left2 (s ∷ [])) ∙ ap (instructions_of file) (sym e)) ∙ k
+
+pub said_as : (file : ℕ) (kind : ItemKind) (p : Place) (n front : nesting.Nested) (comment mark : Comment) → comment ≡ mark → front ≡ nesting.nest_said kind p (said_of file mark) n → front ≡ nesting.nest_said kind p (said_of file comment) n
+said_as file kind p n front comment mark e h = h ∙ ap (λ (c : Comment). nesting.nest_said kind p (said_of file c) n) (sym e)

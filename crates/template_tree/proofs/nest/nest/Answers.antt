@@ -1,0 +1,12 @@
+use Rattle.template_tree.proofs.Nesting.{nesting_ends, nesting_goes_on, nesting_starts}
+use Rattle.star_tree.specs.View.{item_kind_of}
+use Rattle.template_tree.proofs.nest.nest.Goals as goal
+
+pub loop-part-init : goal.loop-part-init
+loop-part-init c = nesting_starts c.args.file (item_kind_of c.args.kind) c.args.parts _ _ c.in_ok-left.ensures c.new.ensures
+
+pub loop-part-preserved : goal.loop-part-preserved
+loop-part-preserved c = nesting_goes_on c.args.file (item_kind_of c.args.kind) c.args.parts _ _ _ _ _ c.loop-part.invariant c.in-Some.ensures c.in_ok-nested.ensures
+
+pub returns : goal.returns
+returns c = nesting_ends c.args.file (item_kind_of c.args.kind) c.args.parts _ _ c.loop-part.invariant c.in_default.ensures.0
