@@ -1,0 +1,130 @@
+-- The run of a file that loads nothing: a box for each of its names, and then its blocks.
+use Rattle.std.proofs.Common.{◌≡◌, ℕ, zero, suc, ◌+◌, List, [], ◌∷◌, ◌++◌, length, Option, Some, None, Result, Ok, Err, refl, sym, ap, ◌∙◌, subst}
+use Rattle.ytt_base.specs.declared.fault.Fault.{Fault}
+use Rattle.ytt_base.specs.declared.fault.FaultKind.TheVariants as kind
+use Rattle.ytt_base.specs.declared.fault.Stop.{Stop}
+use Rattle.ytt_base.specs.declared.fault.Stop.TheVariants as stop
+use Rattle.ytt_base.specs.Outcomes.{fault_of}
+use Rattle.ytt_base.specs.View.{trees_of}
+use Rattle.star_spec.specs.Blocks.{Op, op_part, op_statement, op_if, op_for, op_def, Ops, no_ops, an_op, blocks}
+use Rattle.star_spec.specs.Calls.{Host}
+use Rattle.star_spec.specs.Code as plain
+use Rattle.star_spec.specs.Code.{Name, Statement}
+use Rattle.star_spec.specs.Eval.{starlark}
+use Rattle.star_spec.specs.Flow.{Flow}
+use Rattle.star_spec.specs.Names.{with_boxes}
+use Rattle.star_spec.specs.Outcomes.{State, Ending, done, bad, give, then_do}
+use Rattle.star_spec.specs.Program.{Instruction}
+use Rattle.star_spec.specs.Scopes.{names_of_file, ops_names, program_names}
+use Rattle.star_spec.specs.Unbuilt.{unbuilt_op, unbuilt_ops}
+use Rattle.star_spec.specs.Store.{object}
+use Rattle.star_spec.specs.Values.{Env, of_box}
+use Rattle.star_spec.proofs.UnbuiltBlocks.{blocks_built, none_in_both}
+use Rattle.star_ops.specs.Meets.{in_store}
+use Rattle.star_resolve.specs.Frames.{boxed, unset_boxes, with_unset}
+use Rattle.star_resolve.specs.Variables.{each_once}
+use Rattle.star_resolve.proofs.Frames.{new_frames}
+use Rattle.template_spec.specs.Build.{built}
+use Rattle.template_spec.specs.Calls.{bottom, bottom_children, bottom_flow, program_calls}
+use Rattle.template_spec.specs.Files.{FileResult, File, Loader, ended, op_loads, ops_loads, statement_loads}
+use Rattle.template_spec.specs.Meaning.{RunFile, documents, loads_in, names_in, run_blocks}
+use Rattle.template_spec.specs.Run.{runs}
+use Rattle.star_eval.specs.declared.file.FlatResult.{FlatResult}
+use Rattle.star_eval.specs.declared.session.Slot.{Slot}
+use Rattle.star_eval.specs.View.{box_object, held_of, store_of}
+use Rattle.star_eval.specs.declared.frame.Flow.{Flow as Held}
+use Rattle.star_eval.specs.declared.frame.Flow.TheVariants as held
+use Rattle.star_eval.specs.FileRun.{LeftBy, Shows}
+use Rattle.star_eval.specs.Frames.{flow_ending_of}
+use Rattle.star_eval.specs.Meets.{Here}
+use Rattle.star_eval.specs.PartsSoFar.{Nodes}
+
+-- ---- nothing is loaded
+
+statement_loads_none : (bound : List Name) (s : Statement) → unbuilt_op bound (op_statement s) ≡ [] → statement_loads s ≡ []
+statement_loads_none bound (plain.load p path xs) h = cc
+statement_loads_none bound s h = refl
+
+op_loads_none : (bound : List Name) (o : Op) → unbuilt_op bound o ≡ [] → op_loads o ≡ []
+op_loads_none bound (op_statement s) h = statement_loads_none bound s h
+op_loads_none bound o h = refl
+
+loads_none : (bound : List Name) (os : Ops) → unbuilt_ops bound os ≡ [] → ops_loads os ≡ []
+loads_none bound no_ops h = refl
+loads_none bound (an_op o os) h = let both = none_in_both (unbuilt_op bound o) (unbuilt_ops bound os) h in λ i. op_loads_none bound o both.0 i ++ loads_none bound os both.1 i
+
+-- ---- the file
+
+-- what a file gives after its blocks, in its scope
+abbrev after_run : Env → Ending Here (Flow Nodes) → Ending Here FileResult
+after_run env o = then_do (then_do o (λ f. give (built (bottom_flow f)))) (ended 0 env)
+
+module _ (host : Host Here) (loader : Loader Here) (files : ℕ → List Instruction) (depth : ℕ) (is : List Instruction) (n : ℕ) where
+  abbrev Scope : Ops → List Name
+  Scope os = each_once (ops_names os)
+
+  run_from : (bound : List Name) (os : Ops) → blocks is ≡ Some os → unbuilt_ops bound os ≡ [] →
+      RunFile starlark host loader files depth is (in_store [] n)
+      ≡ after_run (boxed 0 (Scope os) []) (runs starlark (program_calls starlark host files depth) os (boxed 0 (Scope os) []) (bottom 0 ∷ []) (with_unset (length (Scope os)) (in_store [] n)))
+  run_from bound os e h =
+      let call = program_calls starlark host files depth in
+      (λ i. File loader (loads_in (e i)) (names_in (e i)) (λ env. run_blocks starlark call (e i) env) (in_store [] n))
+      ∙ (λ i. File loader (loads_none bound os h i) (ops_names os) (λ env. run_blocks starlark call (Some os) env) (in_store [] n))
+      ∙ ap (λ o. then_do o (λ env. then_do_all call os env)) (new_frames (ops_names os) (in_store [] n)).0
+    where
+      abbrev then_do_all : _ → Ops → Env → State Here → Ending Here FileResult
+      then_do_all call os env s = then_do (run_blocks starlark call (Some os) env s) (ended 0 env)
+
+  -- a program that isn't closed as it should be
+  pub broken_run : blocks is ≡ None → RunFile starlark host loader files depth is (in_store [] n) ≡ bad (fault_of kind.CodeForm) (in_store [] n)
+  broken_run e = λ i. File loader (loads_in (e i)) (names_in (e i)) (λ env. run_blocks starlark (program_calls starlark host files depth) (e i) env) (in_store [] n)
+
+  -- ---- what is shown
+
+  pub shows_documents : (bound : List Name) (os : Ops) (g : List Name) (w : Held) (k : Nodes) (s : State Here) (r : FlatResult) → blocks is ≡ Some os → unbuilt_ops bound os ≡ [] → g ≡ Scope os →
+      flow_ending_of (Ok w) k s ≡ runs starlark (program_calls starlark host files depth) os (boxed 0 g []) (bottom 0 ∷ []) (with_unset (length g) (in_store [] n)) →
+      trees_of r.documents ≡ documents (bottom_children k) → r.steps_left ≡ s.steps → Shows (Ok r) (RunFile starlark host loader files depth is (in_store [] n))
+  shows_documents bound os g w k s r e h same ran d left =
+      subst (Shows (Ok r))
+      (sym (run_from bound os e h ∙ (λ i. after_run (boxed 0 (sym same i) []) (runs starlark (program_calls starlark host files depth) os (boxed 0 (sym same i) []) (bottom 0 ∷ []) (with_unset (length (sym same i)) (in_store [] n)))) ∙ ap (after_run (boxed 0 g [])) (sym ran)))
+      (by w)
+    where
+      by : (w : Held) → Shows (Ok r) (after_run (boxed 0 g []) (flow_ending_of (Ok w) k s))
+      by held.On = (sym d, sym left)
+      by held.Break = (sym d, sym left)
+      by held.Continue = (sym d, sym left)
+      by (held.Return v) = (sym d, sym left)
+
+  pub shows_fault : (bound : List Name) (os : Ops) (g : List Name) (f : Fault) (k : Nodes) (s : State Here) → blocks is ≡ Some os → unbuilt_ops bound os ≡ [] → g ≡ Scope os →
+      flow_ending_of (Err f) k s ≡ runs starlark (program_calls starlark host files depth) os (boxed 0 g []) (bottom 0 ∷ []) (with_unset (length g) (in_store [] n)) →
+      Shows (Err (stop.Fault f)) (RunFile starlark host loader files depth is (in_store [] n))
+  shows_fault bound os g f k s e h same ran =
+      subst (Shows (Err (stop.Fault f)))
+      (sym (run_from bound os e h ∙ (λ i. after_run (boxed 0 (sym same i) []) (runs starlark (program_calls starlark host files depth) os (boxed 0 (sym same i) []) (bottom 0 ∷ []) (with_unset (length (sym same i)) (in_store [] n)))) ∙ ap (after_run (boxed 0 g [])) (sym ran)))
+      refl
+
+  -- what a block left is what its run shows
+  pub shows_left : (bound : List Name) (os : Ops) (g : List Name) (w : Result Held Fault) (k : Nodes) (s : State Here) (r : Result FlatResult Stop) → blocks is ≡ Some os → unbuilt_ops bound os ≡ [] → g ≡ Scope os →
+      flow_ending_of w k s ≡ runs starlark (program_calls starlark host files depth) os (boxed 0 g []) (bottom 0 ∷ []) (with_unset (length g) (in_store [] n)) → LeftBy w k s.steps r → Shows r (RunFile starlark host loader files depth is (in_store [] n))
+  shows_left bound os g (Ok w) k s (Ok r) e h same ran left = shows_documents bound os g w k s r e h same ran left.0 left.1
+  shows_left bound os g (Ok w) k s (Err (stop.Fault f)) e h same ran left = elim left [ ]
+  shows_left bound os g (Ok w) k s (Err stop.Memory) e h same ran left = tt
+  shows_left bound os g (Err f) k s (Ok r) e h same ran left = elim left [ ]
+  shows_left bound os g (Err f) k s (Err (stop.Fault d)) e h same ran left = subst (λ d. Shows (Err (stop.Fault d)) (RunFile starlark host loader files depth is (in_store [] n))) (sym left) (shows_fault bound os g f k s e h same ran)
+  shows_left bound os g (Err f) k s (Err stop.Memory) e h same ran left = tt
+
+-- ---- boxes
+
+pub one_unset : (slots : List Slot) (n : ℕ) (slot : Slot) → store_of slots ≡ unset_boxes n → slot.value ≡ None → store_of (slots ++ slot ∷ []) ≡ unset_boxes (n + 1)
+one_unset slots n slot e v = all_unset slots n e ∙ sym (more n)
+  where
+    more : (n : ℕ) → unset_boxes (n + 1) ≡ unset_boxes n ++ object (of_box None) ∷ []
+    more zero = refl
+    more (suc n) = ap (λ l. object (of_box None) ∷ l) (more n)
+
+    both : (slots : List Slot) → store_of (slots ++ slot ∷ []) ≡ store_of slots ++ object (of_box None) ∷ []
+    both [] = ap (λ o. object (of_box (held_of o)) ∷ []) v
+    both (s ∷ slots) = ap (λ l. box_object s ∷ l) (both slots)
+
+    all_unset : (slots : List Slot) (n : ℕ) → store_of slots ≡ unset_boxes n → store_of (slots ++ slot ∷ []) ≡ unset_boxes n ++ object (of_box None) ∷ []
+    all_unset slots n e = both slots ∙ ap (λ l. l ++ object (of_box None) ∷ []) e

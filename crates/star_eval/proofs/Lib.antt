@@ -1,0 +1,11 @@
+pub mod Chaining
+pub mod Built
+pub mod Boxes
+pub mod Loops
+pub mod Onward
+pub mod PartsBuilt
+pub mod Sorts
+pub mod Rows
+pub mod Open
+pub mod Fronts
+pub mod FileRuns

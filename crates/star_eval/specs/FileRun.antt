@@ -1,0 +1,44 @@
+-- What the run of a file shows.
+use Rattle.std.specs.Prelude.{◌≡◌, ℕ, List, [], Result, Ok, Err}
+use Rattle.ytt_base.specs.declared.fault.Fault.{Fault}
+use Rattle.ytt_base.specs.declared.fault.Stop.{Stop}
+use Rattle.ytt_base.specs.declared.fault.Stop.TheVariants as stop
+use Rattle.ytt_base.specs.View.{trees_of}
+use Rattle.star_spec.specs.Calls.{Host}
+use Rattle.star_spec.specs.Code.{Name}
+use Rattle.star_spec.specs.Eval.{starlark}
+use Rattle.star_spec.specs.Outcomes.{State, Ending, done, bad}
+use Rattle.star_spec.specs.Program.{Instruction}
+use Rattle.star_spec.specs.Unbuilt.{unbuilt_code}
+use Rattle.star_ops.specs.Meets.{in_store}
+use Rattle.template_spec.specs.Calls.{bottom_children}
+use Rattle.template_spec.specs.Files.{FileResult, Loader}
+use Rattle.template_spec.specs.Meaning.{RunFile, documents}
+use Rattle.star_eval.specs.declared.file.FlatResult.{FlatResult}
+use Rattle.star_eval.specs.declared.frame.Flow.{Flow}
+use Rattle.star_eval.specs.Meets.{Here}
+use Rattle.star_eval.specs.PartsSoFar.{Nodes}
+
+-- What a call returned is how a run ends: the same documents and as many steps left, or the same fault; want of memory
+-- says nothing.
+abbrev pub Shows : Result FlatResult Stop → Ending Here FileResult → Type 0
+Shows (Ok r) (done x s) = (documents x.documents ≡ trees_of r.documents) × (s.steps ≡ r.steps_left)
+Shows (Ok r) (bad f s) = ⊥
+Shows (Err (stop.Fault f)) (bad e s) = e ≡ f
+Shows (Err (stop.Fault f)) (done x s) = ⊥
+Shows (Err stop.Memory) ending = Unit {0}
+
+-- a program that is built whole runs so, whatever its host gives, with so many steps from a state without objects
+abbrev pub RunsAs : List Instruction → (steps : ℕ) → Result FlatResult Stop → Type 0
+RunsAs is n result =
+    (bound : List Name) → unbuilt_code bound is ≡ [] → (host : Host Here) (loader : Loader Here) (files : ℕ → List Instruction) (depth : ℕ) → Shows result (RunFile starlark host loader files depth is (in_store [] n))
+
+-- what a block left: the documents of the nodes that are open then with the steps that are left, or its fault; want of memory
+-- says nothing
+abbrev pub LeftBy : Result Flow Fault → Nodes → (steps : ℕ) → Result FlatResult Stop → Type 0
+LeftBy (Ok w) k n (Ok r) = (trees_of r.documents ≡ documents (bottom_children k)) × (r.steps_left ≡ n)
+LeftBy (Ok w) k n (Err (stop.Fault f)) = ⊥
+LeftBy (Ok w) k n (Err stop.Memory) = Unit {0}
+LeftBy (Err f) k n (Ok r) = ⊥
+LeftBy (Err f) k n (Err (stop.Fault g)) = g ≡ f
+LeftBy (Err f) k n (Err stop.Memory) = Unit {0}

@@ -1,7 +1,0 @@
-pub mod View
-pub mod Meets
-pub mod SoFar
-pub mod Frames
-pub mod PartsSoFar
-pub mod Written
-pub mod Targets
