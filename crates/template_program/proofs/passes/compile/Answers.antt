@@ -1,5 +1,8 @@
 use Rattle.std.proofs.lemmas.Result.{err_from_is_err_and}
 use Rattle.star_resolve.specs.declared.binding.Resolved.{Resolved}
+use Rattle.star_spec.specs.Eval.{starlark}
+use Rattle.star_tree.specs.Whole.{program_of}
+use Rattle.template_spec.proofs.Theorem.{agrees}
 use Rattle.template_tree.specs.View.{template_of}
 use Rattle.template_program.proofs.Telling.{built_whole, none_unbuilt, one_unbuilt, refused_first}
 use Rattle.template_program.proofs.passes.compile.Goals as goal
@@ -13,6 +16,9 @@ pub returns-in-None-clause-passes : goal.returns-in-None-clause-passes
 returns-in-None-clause-passes c =
     let known = c.in_ok-resolved.ensures in
     built_whole (template_of c.args.template.now) _ _ known.code known.globals c.first_unbuilt.result known.passes c.first_unbuilt.ensures c.in-None.is
+
+pub returns-in-None-clause-runs : goal.returns-in-None-clause-runs
+returns-in-None-clause-runs c = λ host stand. agrees starlark host (program_of c.in_ok-resolved.resolved.program) (template_of c.args.template.now) c.in_ok-resolved.ensures.code stand
 
 pub returns-in-None-clause-built : goal.returns-in-None-clause-built
 returns-in-None-clause-built c =
