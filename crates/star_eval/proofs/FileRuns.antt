@@ -1,25 +1,24 @@
 -- The run of a file that loads nothing: a box for each of its names, and then its blocks.
-use Rattle.std.proofs.Common.{◌≡◌, ℕ, zero, suc, ◌+◌, List, [], ◌∷◌, ◌++◌, length, Option, Some, None, Result, Ok, Err, refl, sym, ap, ◌∙◌, subst}
+use Rattle.std.proofs.Common.{◌≡◌, ℕ, zero, suc, ◌+◌, List, [], ◌∷◌, ◌++◌, length, Some, None, Result, Ok, Err, refl, sym, ap, ◌∙◌, subst, arith}
 use Rattle.ytt_base.specs.declared.fault.Fault.{Fault}
 use Rattle.ytt_base.specs.declared.fault.FaultKind.TheVariants as kind
 use Rattle.ytt_base.specs.declared.fault.Stop.{Stop}
 use Rattle.ytt_base.specs.declared.fault.Stop.TheVariants as stop
 use Rattle.ytt_base.specs.Outcomes.{fault_of}
 use Rattle.ytt_base.specs.View.{trees_of}
-use Rattle.star_spec.specs.Blocks.{Op, op_part, op_statement, op_if, op_for, op_def, Ops, no_ops, an_op, blocks}
+use Rattle.star_spec.specs.Blocks.{Op, op_statement, Ops, no_ops, an_op, blocks}
 use Rattle.star_spec.specs.Calls.{Host}
 use Rattle.star_spec.specs.Code as plain
 use Rattle.star_spec.specs.Code.{Name, Statement}
 use Rattle.star_spec.specs.Eval.{starlark}
 use Rattle.star_spec.specs.Flow.{Flow}
-use Rattle.star_spec.specs.Names.{with_boxes}
-use Rattle.star_spec.specs.Outcomes.{State, Ending, done, bad, give, then_do}
+use Rattle.star_spec.specs.Outcomes.{State, Ending, bad, give, then_do}
 use Rattle.star_spec.specs.Program.{Instruction}
-use Rattle.star_spec.specs.Scopes.{names_of_file, ops_names, program_names}
+use Rattle.star_spec.specs.Scopes.{ops_names}
 use Rattle.star_spec.specs.Unbuilt.{unbuilt_op, unbuilt_ops}
 use Rattle.star_spec.specs.Store.{object}
 use Rattle.star_spec.specs.Values.{Env, of_box}
-use Rattle.star_spec.proofs.UnbuiltBlocks.{blocks_built, none_in_both}
+use Rattle.star_spec.proofs.UnbuiltBlocks.{none_in_both}
 use Rattle.star_ops.specs.Meets.{in_store}
 use Rattle.star_resolve.specs.Frames.{boxed, unset_boxes, with_unset}
 use Rattle.star_resolve.specs.Variables.{each_once}
@@ -70,10 +69,7 @@ module _ (host : Host Here) (loader : Loader Here) (files : ℕ → List Instruc
       let call = program_calls starlark host files depth in
       (λ i. File loader (loads_in (e i)) (names_in (e i)) (λ env. run_blocks starlark call (e i) env) (in_store [] n))
       ∙ (λ i. File loader (loads_none bound os h i) (ops_names os) (λ env. run_blocks starlark call (Some os) env) (in_store [] n))
-      ∙ ap (λ o. then_do o (λ env. then_do_all call os env)) (new_frames (ops_names os) (in_store [] n)).0
-    where
-      abbrev then_do_all : _ → Ops → Env → State Here → Ending Here FileResult
-      then_do_all call os env s = then_do (run_blocks starlark call (Some os) env s) (ended 0 env)
+      ∙ ap (λ o. then_do o (λ env s. then_do (run_blocks starlark call (Some os) env s) (ended 0 env))) (new_frames (ops_names os) (in_store [] n)).0
 
   -- a program that isn't closed as it should be
   pub broken_run : blocks is ≡ None → RunFile starlark host loader files depth is (in_store [] n) ≡ bad (fault_of kind.CodeForm) (in_store [] n)
@@ -116,9 +112,12 @@ module _ (host : Host Here) (loader : Loader Here) (files : ℕ → List Instruc
 -- ---- boxes
 
 pub one_unset : (slots : List Slot) (n : ℕ) (slot : Slot) → store_of slots ≡ unset_boxes n → slot.value ≡ None → store_of (slots ++ slot ∷ []) ≡ unset_boxes (n + 1)
-one_unset slots n slot e v = all_unset slots n e ∙ sym (more n)
+one_unset slots n slot e v = all_unset slots n e ∙ sym (ap unset_boxes (next n) ∙ more n)
   where
-    more : (n : ℕ) → unset_boxes (n + 1) ≡ unset_boxes n ++ object (of_box None) ∷ []
+    next : (n : ℕ) → n + 1 ≡ suc n
+    next n = omega arith
+
+    more : (n : ℕ) → unset_boxes (suc n) ≡ unset_boxes n ++ object (of_box None) ∷ []
     more zero = refl
     more (suc n) = ap (λ l. object (of_box None) ∷ l) (more n)
 

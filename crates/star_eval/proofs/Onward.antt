@@ -1,5 +1,5 @@
 -- What went on from one thing goes on from what is the same.
-use Rattle.std.proofs.Common.{◌≡◌, ◌≤◌, ◌+◌, ◌++◌, ℕ, List, [], ◌∷◌, length, reverse, Result, Ok, Err, IfOk, ap, ◌∙◌, arith, rules}
+use Rattle.std.proofs.Common.{◌≡◌, ◌≤◌, ◌+◌, ◌++◌, ℕ, List, [], ◌∷◌, length, reverse, Result, Ok, Err, IfOk, ap, ◌∙◌, arith}
 use Rattle.std.proofs.lemmas.List.{length_push, reverse-append}
 use Rattle.star_spec.specs.Flow.{Flow}
 use Rattle.star_spec.specs.Outcomes.{Ending, then_do}

@@ -1,17 +1,15 @@
 -- Rows of targets.
-use Rattle.std.proofs.Common.{◌≡◌, ◌==◌, ℕ, zero, suc, Bool, true, false, List, [], ◌∷◌, length, drop, refl, sym, ap, ◌∙◌, map as each}
+use Rattle.std.proofs.Common.{◌≡◌, ◌==◌, ℕ, suc, true, false, List, [], ◌∷◌, length, drop, refl, sym, ap, ◌∙◌}
 use Rattle.ytt_base.specs.declared.fault.FaultKind.TheVariants as kind
 use Rattle.ytt_base.specs.declared.fault.Place.{Place}
 use Rattle.ytt_base.specs.Outcomes.{fault_at}
-use Rattle.star_spec.specs.Code as plain
-use Rattle.star_spec.specs.Code.{Exprs, no_exprs, an_expr}
 use Rattle.star_spec.specs.Eval.{count_exprs}
 use Rattle.star_spec.specs.Outcomes.{State, Ending, Computation, bad, need, give, then_do, ◌>>=◌}
 use Rattle.star_spec.specs.Values.{Value, tuple_value, values_in, values_from, Env}
 use Rattle.star_tree.specs.declared.code.Expr.{Expr}
 use Rattle.star_tree.specs.Whole.{expr_of, exprs_of}
 use Rattle.star_ops.specs.declared.value.Value.{Value as Held}
-use Rattle.star_ops.specs.View.{value_of, values_of}
+use Rattle.star_ops.specs.View.{values_of}
 use Rattle.star_eval.specs.declared.assign.Row.{Row}
 use Rattle.star_eval.specs.Meets.{Here}
 use Rattle.star_eval.specs.PartsSoFar.{assigned, assigned_each}

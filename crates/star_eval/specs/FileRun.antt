@@ -7,7 +7,7 @@ use Rattle.ytt_base.specs.View.{trees_of}
 use Rattle.star_spec.specs.Calls.{Host}
 use Rattle.star_spec.specs.Code.{Name}
 use Rattle.star_spec.specs.Eval.{starlark}
-use Rattle.star_spec.specs.Outcomes.{State, Ending, done, bad}
+use Rattle.star_spec.specs.Outcomes.{Ending, done, bad}
 use Rattle.star_spec.specs.Program.{Instruction}
 use Rattle.star_spec.specs.Unbuilt.{unbuilt_code}
 use Rattle.star_ops.specs.Meets.{in_store}

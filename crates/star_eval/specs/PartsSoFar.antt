@@ -10,7 +10,7 @@ use Rattle.star_spec.specs.Outcomes.{Computation, paid, give, need, not_built, i
 use Rattle.star_spec.specs.Names.{box_of, read_name, write_name}
 use Rattle.star_spec.specs.Eval.{augment_row, count_exprs, members_of, truth_of}
 use Rattle.star_spec.specs.Language.{breaks, continues, returns}
-use Rattle.star_spec.specs.Flow.{Flow, on, out, Part, in_turn, over_members}
+use Rattle.star_spec.specs.Flow.{on, out, Part, in_turn, over_members}
 use Rattle.star_spec.specs.Program.{NodePart, node_start, node_note, node_key, node_key_from, node_value, node_value_from, node_end}
 use Rattle.star_spec.specs.Blocks.{Op, op_part, op_statement, op_if, op_for, op_def, Ops, no_ops, an_op, Arms, no_arm, else_arm, arm}
 use Rattle.template_spec.specs.Run.{Node, on_top}

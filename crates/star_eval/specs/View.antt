@@ -1,5 +1,5 @@
 -- The plain data that boxes and scopes of the machine stand for.
-use Rattle.std.specs.Prelude.{ℕ, List, Option, Some, None, map as each}
+use Rattle.std.specs.Prelude.{List, [], Option, Some, None, map as each}
 use Rattle.star_spec.specs.Code.{Name}
 use Rattle.star_resolve.specs.Frames.{boxed}
 use Rattle.star_spec.specs.Values as plain

@@ -206,9 +206,7 @@ pub(crate) fn assign(
     ensures steps { session.new.steps ≡ session.old.steps }
 {
     let mut rows = Items::new(alloc);
-    begin(
-        alloc, file, env, session, place, target, value, &mut rows,
-    )?;
+    begin(alloc, file, env, session, place, target, value, &mut rows)?;
     finish(alloc, file, env, session, place, rows)
 }
 
@@ -222,15 +220,7 @@ pub(crate) fn assign_to<'p>(
 ) -> Result<Control<'p>, Memory>
     ensures { GoesToFlow result m.new m.old (concluded (assigned place (expr_of m.old.file target.now) (value_of value) (env_in m.old)) (nodes_in m.old)) }
 {
-    match assign(
-        alloc,
-        m.file,
-        m.env,
-        &mut m.session,
-        place,
-        target,
-        value,
-    ) {
+    match assign(alloc, m.file, m.env, &mut m.session, place, target, value) {
         Ok(_) => Ok(Control::Went(Flow::On)),
         Err(Stop::Fault(fault)) => Ok(Control::Left(fault)),
         Err(Stop::Memory) => Err(Memory),

@@ -84,7 +84,11 @@ pub(crate) fn fill<'p>(
         NodeOp::ValueFrom(_, expr) => {
             if m.nodes.holds_two() {
                 m.frames.push(Frame::Block(InBlock::Rest(rest)))?;
-                push(m, Frame::Statement(InStatement::Take), Control::Eval(expr.get()))
+                push(
+                    m,
+                    Frame::Statement(InStatement::Take),
+                    Control::Eval(expr.get()),
+                )
             } else {
                 Ok(ill_flow(alloc))
             }

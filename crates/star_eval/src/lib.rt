@@ -1,4 +1,9 @@
-//! What code does: one loop over a stack of frames.
+//! What a program does: expressions, statements and blocks by one loop over a stack of frames, which calls itself on no part of the
+//! program, so no nesting costs the machine's stack.
+//!
+//! `run_flat` gives the documents that a program means and the steps that are left, or the fault that it ends with, where all of the
+//! program is built. What each frame waits for is the definitions' continuation: each step keeps what the machine stands for
+//! (`specs/Frames`) and leaves less to do. What parts of nodes build is `node_build`'s.
 #![tactic(auto)]
 
 mod assign;

@@ -13,8 +13,8 @@ ghost use Rattle.star_eval.specs.PartsSoFar.{arms_so_far, augmented, done_after,
 ghost use Rattle.star_eval.specs.SoFar.{value_so_far};
 ghost use Rattle.star_eval.specs.Written.{begins_written};
 
-use crate::frame::{Control, Flow, Frame, InBlock, InStatement, Machine};
 use crate::build::{build, fill};
+use crate::frame::{Control, Flow, Frame, InBlock, InStatement, Machine};
 use crate::machine::{ill_flow, left, push};
 use crate::names::read;
 use star_blocks::{Arm, Op, Statement};

@@ -98,15 +98,7 @@ fn enter<'p>(
 ) -> Result<Control<'p>, Memory>
     ensures { GoesToFlowBy 21 result m.new m.old (λ s. then_do (turn_of m.old.file (env_in m.old) place target.now body.now (value_of value) (nodes_in m.old) s) (next_turn (turns_from m.old.file (env_in m.old) place target.now body.now members.value next))) }
 {
-    match assign(
-        alloc,
-        m.file,
-        m.env,
-        &mut m.session,
-        place,
-        target,
-        value,
-    ) {
+    match assign(alloc, m.file, m.env, &mut m.session, place, target, value) {
         Ok(_) => {
             let frame = Frame::Block(InBlock::Turn(place, target, body, members, next));
             push(m, frame, Control::Run(body))

@@ -1,4 +1,4 @@
-use Rattle.std.proofs.Common.{◌≡◌, ◌==◌, length, true, false, reverse, map as each, rules, sym, refl}
+use Rattle.std.proofs.Common.{◌≡◌, ◌==◌, length, true, false, reverse, map as each, rules, refl}
 use Rattle.star_spec.specs.Values.{tuple_value, values_from}
 use Rattle.star_ops.specs.declared.value.Value.{the_lemmas}
 use Rattle.star_ops.specs.View.{value_of}

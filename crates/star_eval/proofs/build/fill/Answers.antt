@@ -1,5 +1,4 @@
 use Rattle.std.proofs.Common.{◌≡◌, reverse, true, rules, sym, ap, ◌∙◌, arith}
-use Rattle.star_spec.specs.Blocks.{an_op, op_part}
 use Rattle.star_spec.specs.Flow.{go_on}
 use Rattle.star_spec.specs.Outcomes.{then_do, ◌>>=◌}
 use Rattle.star_spec.specs.Program.{node_value_from}
