@@ -1,13 +1,6 @@
-pub mod Bare
-pub mod Earliest
 pub mod Nesting
 pub mod Placings
 pub mod Putting
-pub mod Returning
-pub mod Rowwise
 pub mod Slotting
-pub mod Steps
 pub mod Views
-pub mod Waiting
-pub mod Walking
 pub mod Wholes

@@ -21,7 +21,7 @@ use Rattle.template_placed.proofs.AllPlaced.{all_placed}
 use Rattle.template_events.specs.Heard.{HasRows}
 use Rattle.template_events.specs.View.{rows_of}
 use Rattle.template_events.specs.declared.event.Row as code
-use Rattle.template_tree.specs.Walk.{placed_by_levels}
+use Rattle.template_tree.specs.Marked.{placed_by_levels}
 use Rattle.template_tree.specs.View.{template_of}
 use Rattle.template_tree.specs.declared.tree.Template.{Template}
 

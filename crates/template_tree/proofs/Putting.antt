@@ -6,7 +6,7 @@ use Rattle.notes_read.specs.View.{said_of}
 use Rattle.template_events.specs.declared.event.Row.{Row}
 use Rattle.template_events.specs.View.{row_of, rows_of}
 use Rattle.template_pass.specs.Building.{Before, Put, put_mark, waiting}
-use Rattle.template_tree.specs.Walk.{put_at, puts_at, said_at}
+use Rattle.template_tree.specs.Marked.{put_at, puts_at, said_at}
 
 pub put_one : (file d : ℕ) (ds : List ℕ) (left left2 : List Row) (row : Row) (ns ns2 : List Before) (ps ps2 : List Put) → left ≡ left2 ++ row ∷ []
     → ps2 ≡ ps ++ put_at d ns (row_of file row) → ns2 ≡ waiting ns (row_of file row)

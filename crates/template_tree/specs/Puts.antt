@@ -7,7 +7,7 @@ use Rattle.notes_read.specs.View.{said_of}
 use Rattle.template_events.specs.View.{rows_of, shape_of}
 use Rattle.template_events.specs.declared.event.Row.{Row}
 use Rattle.template_pass.specs.Building as build
-use Rattle.template_tree.specs.Walk.{puts_at}
+use Rattle.template_tree.specs.Marked.{puts_at}
 use Rattle.template_tree.specs.declared.put.Put.{Put}
 use Rattle.template_tree.specs.declared.put.Put.TheVariants as put
 use Rattle.template_tree.specs.declared.tree.TNote.{TNote}

@@ -5,18 +5,11 @@
 //! pairs alone it is placed (`placed`).
 #![tactic(auto)]
 
-mod ahead;
-mod blocks;
-mod faults;
-mod first;
 mod nest;
 mod placing;
 mod put;
 mod slots;
-mod statements;
 mod tree;
-mod walk;
-mod wrong;
 
 pub use placing::place;
 pub use tree::{TBranches, TContent, TItem, TItems, TNode, TNote, TNotes, Template};

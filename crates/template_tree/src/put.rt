@@ -7,7 +7,7 @@ ghost use Rattle.template_spec.specs.Comments.{a_note};
 ghost use Rattle.template_pass.specs.Building as building;
 ghost use Rattle.template_pass.specs.Rows as plain;
 ghost use Rattle.template_tree.specs.Puts.{PutNext, befores_of, puts_of};
-ghost use Rattle.template_tree.specs.Walk.{put_at, puts_at, said_at};
+ghost use Rattle.template_tree.specs.Marked.{put_at, puts_at, said_at};
 
 use crate::tree::{TNote, TNotes};
 use notes_read::Comment;

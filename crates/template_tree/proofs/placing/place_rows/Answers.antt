@@ -3,7 +3,8 @@ use Rattle.template_events.specs.View.{rows_of}
 use Rattle.template_pass.specs.Building.{built, documents_in}
 use Rattle.template_pass.specs.Levels.{fault_by_levels}
 use Rattle.template_tree.specs.View.{items_of}
-use Rattle.template_tree.specs.Walk.{mark_levels, puts_at}
+use Rattle.template_checks.specs.Walk.{mark_levels}
+use Rattle.template_tree.specs.Marked.{puts_at}
 use Rattle.template_tree.proofs.Wholes.{is_placed}
 use Rattle.template_tree.proofs.placing.place_rows.Goals as goal
 

@@ -1,7 +1,7 @@
 use Rattle.std.proofs.Common.{◌≡◌, ℕ, ◌++◌, [], drop, reverse}
 use Rattle.template_events.specs.View.{rows_of}
 use Rattle.template_tree.specs.Puts.{befores_of, puts_of}
-use Rattle.template_tree.specs.Walk.{puts_at}
+use Rattle.template_tree.specs.Marked.{puts_at}
 use Rattle.template_tree.proofs.put.puts.Given as goal
 
 abbrev pub invariant-loop-level : goal.invariant-loop-level
