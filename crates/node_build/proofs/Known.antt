@@ -5,7 +5,7 @@ use Rattle.ytt_base.specs.Trees.{Scalar}
 use Rattle.ytt_laws.proofs.Keys.{same_key-sym}
 use Rattle.yaml_keys.specs.declared.seen.Seen.{Seen}
 use Rattle.yaml_keys.specs.Seen.{is_seen}
-use Rattle.template_spec.specs.Adding.{keys_equal}
+use Rattle.template_meaning.specs.Adding.{keys_equal}
 use Rattle.node_build.specs.declared.built.BuiltItem.{BuiltItem}
 use Rattle.node_build.specs.Positions.{AreKnown, here_or, in_scalar_key, is_known, position_of, stands}
 

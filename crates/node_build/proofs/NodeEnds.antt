@@ -5,11 +5,11 @@ use Rattle.ytt_base.specs.declared.fault.Stop.{Stop}
 use Rattle.ytt_base.specs.View.{tree_of}
 use Rattle.star_spec.specs.Flow.{Flow, on}
 use Rattle.star_spec.specs.Outcomes.{Computation, State, done, give, then_do}
-use Rattle.star_spec.specs.Program.{node_end}
+use Rattle.code_spec.specs.Program.{node_end}
 use Rattle.star_spec.specs.Values.{Children, one, taken}
 use Rattle.star_tree.specs.View.{holds_of}
-use Rattle.template_spec.specs.Adding.{add_child, add_taken}
-use Rattle.template_spec.specs.Run.{Node, closed_with}
+use Rattle.template_meaning.specs.Adding.{add_child, add_taken}
+use Rattle.template_meaning.specs.Run.{Node, closed_with}
 use Rattle.node_build.specs.Parts.{written_part}
 use Rattle.node_build.specs.declared.built.BuiltItem.{BuiltItem}
 use Rattle.node_build.specs.declared.members.Members.{Members}

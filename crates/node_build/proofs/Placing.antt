@@ -4,7 +4,7 @@ use Rattle.ytt_base.specs.declared.fault.Place.{Place}
 use Rattle.ytt_base.specs.Trees.{Scalar}
 use Rattle.star_spec.specs.Outcomes.{State, done, then_do, give, ◌>>=◌}
 use Rattle.star_spec.specs.Values.{Child, Children, a_child}
-use Rattle.template_spec.specs.Adding.{add_child, in_place_if, keys_equal, overrides}
+use Rattle.template_meaning.specs.Adding.{add_child, in_place_if, keys_equal, overrides}
 use Rattle.node_build.specs.declared.built.BuiltItem.{BuiltItem}
 use Rattle.node_build.specs.declared.built.BuiltNote.{BuiltNote}
 use Rattle.node_build.specs.Positions.{here_or, in_scalar_key, position_of}

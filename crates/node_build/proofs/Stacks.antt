@@ -1,6 +1,6 @@
 -- The open nodes of a stack.
 use Rattle.std.proofs.Common.{◌≡◌, ◌≤◌, ℕ, suc, ◌+◌, ◌-◌, nat_le, true, List, [], ◌∷◌, ◌++◌, length, length-append, refl, sym, ap, ◌∙◌, add-one, arith}
-use Rattle.template_spec.specs.Run.{Node}
+use Rattle.template_meaning.specs.Run.{Node}
 use Rattle.node_build.specs.declared.node.OpenNode.{OpenNode}
 use Rattle.node_build.specs.View.{has_two, node_at, nodes_from, nodes_in}
 

@@ -2,12 +2,12 @@
 use Rattle.std.specs.Prelude.{suc, List, [], ◌∷◌, Some}
 use Rattle.star_spec.specs.Flow.{on, Part}
 use Rattle.star_spec.specs.Outcomes.{Computation, paid, give, ill_formed, ◌>>=◌}
-use Rattle.star_spec.specs.Program.{NodePart, node_start, node_note, node_key, node_key_from, node_value, node_value_from, node_end}
+use Rattle.code_spec.specs.Program.{NodePart, node_start, node_note, node_key, node_key_from, node_value, node_value_from, node_end}
 use Rattle.star_spec.specs.Values.{Value, one, taken}
 use Rattle.ytt_base.specs.Trees.{scalar}
-use Rattle.template_spec.specs.Adding.{add_taken}
-use Rattle.template_spec.specs.Run.{Node, closed_with, on_top, opened}
-use Rattle.template_spec.specs.Take.{take_over}
+use Rattle.template_meaning.specs.Adding.{add_taken}
+use Rattle.template_meaning.specs.Run.{Node, closed_with, on_top, opened}
+use Rattle.template_meaning.specs.Take.{take_over}
 
 -- a start, a key, a written value and an end; nothing else is such a part
 abbrev pub written_part : {H : Type 0} → NodePart → Part H (List Node)

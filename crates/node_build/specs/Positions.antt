@@ -8,7 +8,7 @@ use Rattle.ytt_base.specs.Trees.{Scalar}
 use Rattle.ytt_base.specs.View.{key_of}
 use Rattle.yaml_keys.specs.declared.seen.Seen.{Seen}
 use Rattle.yaml_keys.specs.Seen.{is_seen}
-use Rattle.template_spec.specs.Adding.{keys_equal}
+use Rattle.template_meaning.specs.Adding.{keys_equal}
 use Rattle.node_build.specs.declared.built.BuiltItem.{BuiltItem}
 
 abbrev pub in_scalar_key : Option Key → Option Scalar

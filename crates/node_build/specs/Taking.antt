@@ -6,7 +6,7 @@ use Rattle.ytt_base.specs.Trees.{Tree, Trees, scalar, string, list}
 use Rattle.star_spec.specs.Keys.{text_cost}
 use Rattle.star_spec.specs.Outcomes.{Computation, fail, give, paid, paid_by, ◌>>=◌}
 use Rattle.star_spec.specs.Values.{Value}
-use Rattle.template_spec.specs.Take.{tree_of_value, trees_by}
+use Rattle.template_meaning.specs.Take.{tree_of_value, trees_by}
 
 abbrev pub text_taken : Place → (text : List ℕ) → Computation (Unit {0}) Tree
 text_taken p t = paid_by (text_cost (length t)) p (give (scalar (string t)))

@@ -8,7 +8,7 @@ ghost use Rattle.yaml_keys.specs.Seen.{is_seen};
 ghost use Rattle.star_ops.specs.Meets.{Tells};
 ghost use Rattle.node_build.specs.Positions.{AreKnown, fault_with, in_scalar_key, is_known, position_of};
 ghost use Rattle.node_build.specs.View.{built_notes_of, child_of, children_of};
-ghost use Rattle.template_spec.specs.Adding.{add_child, key_shown, keys_equal, overrides};
+ghost use Rattle.template_meaning.specs.Adding.{add_child, key_shown, keys_equal, overrides};
 
 use crate::built::{Built, BuiltItem, BuiltNotes};
 use crate::list::push;

@@ -24,8 +24,8 @@ impl Builder {
     ghost use Rattle.node_build.specs.View.{has_two, nodes_of};
     ghost use Rattle.star_spec.specs.Flow.{on};
     ghost use Rattle.star_tree.specs.Whole.{part_of};
-    ghost use Rattle.template_spec.specs.Calls.{bottom, bottom_children};
-    ghost use Rattle.template_spec.specs.Meaning.{documents};
+    ghost use Rattle.template_meaning.specs.Calls.{bottom, bottom_children};
+    ghost use Rattle.template_meaning.specs.Meaning.{documents};
 
     /// The place under all nodes, alone.
     pub fn new(alloc: Global) -> Result<Builder, Memory>

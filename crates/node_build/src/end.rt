@@ -7,11 +7,11 @@ ghost use Rattle.node_build.specs.Parts.{written_part};
 ghost use Rattle.node_build.specs.Positions.{in_scalar_key};
 ghost use Rattle.node_build.specs.View.{body_of, built_notes_of, child_of, children_of, node_at};
 ghost use Rattle.star_spec.specs.Flow.{on};
-ghost use Rattle.star_spec.specs.Program.{node_end};
+ghost use Rattle.code_spec.specs.Program.{node_end};
 ghost use Rattle.star_spec.specs.Values.{Children, one, taken};
 ghost use Rattle.star_tree.specs.View.{holds_of};
-ghost use Rattle.template_spec.specs.Adding.{add_child, add_taken};
-ghost use Rattle.template_spec.specs.Run.{Node, closed_with};
+ghost use Rattle.template_meaning.specs.Adding.{add_child, add_taken};
+ghost use Rattle.template_meaning.specs.Run.{Node, closed_with};
 
 use crate::add::add_item;
 use crate::built::{Built, BuiltItem, BuiltValue};

@@ -8,10 +8,10 @@ ghost use Rattle.star_ops.specs.View.{value_of};
 ghost use Rattle.node_build.specs.Parts.{taking, written_part};
 ghost use Rattle.node_build.specs.View.{node_at};
 ghost use Rattle.star_spec.specs.Flow.{on};
-ghost use Rattle.star_spec.specs.Program.{ItemKind, node_key, node_value};
+ghost use Rattle.code_spec.specs.Program.{ItemKind, node_key, node_value};
 ghost use Rattle.star_spec.specs.Values.{one, taken};
-ghost use Rattle.template_spec.specs.Run.{Node};
-ghost use Rattle.template_spec.specs.Take.{take_over};
+ghost use Rattle.template_meaning.specs.Run.{Node};
+ghost use Rattle.template_meaning.specs.Take.{take_over};
 
 use crate::node::OpenNode;
 use crate::take::taken_tree;

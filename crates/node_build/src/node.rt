@@ -27,7 +27,7 @@ impl OpenNode {
     ghost use Rattle.std.specs.Prelude.{◌≡◌, ℕ};
     ghost use Rattle.node_build.specs.View.{node_at};
     ghost use Rattle.star_tree.specs.View.{holds_of, item_kind_of};
-    ghost use Rattle.template_spec.specs.Run.{opened};
+    ghost use Rattle.template_meaning.specs.Run.{opened};
 
     /// A node of which nothing came yet.
     pub fn new(alloc: Global, place: Place, kind: ItemKind, holds: Holds) -> OpenNode

@@ -8,12 +8,12 @@ ghost use Rattle.node_build.specs.Parts.{taking, written_part};
 ghost use Rattle.node_build.specs.View.{node_at, nodes_in};
 ghost use Rattle.star_spec.specs.Flow.{Flow, on};
 ghost use Rattle.star_spec.specs.Outcomes.{Ending, State};
-ghost use Rattle.star_spec.specs.Program.{node_end, node_start};
+ghost use Rattle.code_spec.specs.Program.{node_end, node_start};
 ghost use Rattle.star_tree.specs.View.{holds_of, item_kind_of};
 ghost use Rattle.star_tree.specs.Whole.{part_of};
-ghost use Rattle.template_spec.specs.Calls.{bottom, bottom_children};
-ghost use Rattle.template_spec.specs.Meaning.{documents};
-ghost use Rattle.template_spec.specs.Run.{Node};
+ghost use Rattle.template_meaning.specs.Calls.{bottom, bottom_children};
+ghost use Rattle.template_meaning.specs.Meaning.{documents};
+ghost use Rattle.template_meaning.specs.Run.{Node};
 
 use crate::documents::documents_of;
 use crate::end::ended;

@@ -5,7 +5,7 @@ ghost use Rattle.star_ops.specs.Meets.{Spends};
 ghost use Rattle.star_ops.specs.View.{value_of, values_of};
 ghost use Rattle.star_spec.specs.Outcomes.{paid};
 ghost use Rattle.node_build.specs.Taking.{list_taken, member_taken, members_taken, text_taken};
-ghost use Rattle.template_spec.specs.Take.{tree_of_value};
+ghost use Rattle.template_meaning.specs.Take.{tree_of_value};
 
 use crate::list::push;
 use crate::steps::{pay, refusal};

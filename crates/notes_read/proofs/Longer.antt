@@ -8,7 +8,7 @@ use Rattle.ytt_base.specs.declared.fault.Stop.TheVariants as stop
 use Rattle.ytt_base.specs.Outcomes.{place_at}
 use Rattle.yaml_spec.specs.Bytes.{first, skip_white, is_white}
 use Rattle.yaml_spec.specs.Noted.{is_code, code_in}
-use Rattle.star_spec.specs.CodeReading.{CodeReader}
+use Rattle.code_spec.specs.CodeReading.{CodeReader}
 use Rattle.star_grammar.specs.declared.token.Origin.TheVariants as origin
 use Rattle.star_grammar.specs.CodeReaders.{IsCodeReader, brackets, leaves_open, tokens_at}
 use Rattle.star_grammar.specs.Tokens.{Tokens}

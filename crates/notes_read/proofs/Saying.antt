@@ -8,7 +8,7 @@ use Rattle.ytt_base.specs.declared.fault.Stop.TheVariants as stop
 use Rattle.ytt_base.specs.Outcomes.{Gives, Outcome, fault_at}
 use Rattle.yaml_spec.specs.Bytes.{is_empty, is_word}
 use Rattle.yaml_spec.specs.Noted.{Comment, is_note, is_code, code_in}
-use Rattle.star_spec.specs.CodeReading.{CodeReader}
+use Rattle.code_spec.specs.CodeReading.{CodeReader}
 use Rattle.star_tree.specs.declared.code.Expr.{Expr}
 use Rattle.star_tree.specs.Whole.{exprs_of}
 use Rattle.template_spec.specs.Comments.{Said, begins, name_in, arguments_in, note_names, is_bare_note, note_with, known_said, note_said, code_said, marked_said, comment_said}

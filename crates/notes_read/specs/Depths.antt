@@ -2,7 +2,7 @@
 use Rattle.std.specs.Prelude.{◌≡◌, ℕ, nat_lt, Bool, false, ◌&&◌, if◌then◌else◌, List, ◌∷◌, ◌++◌, Option, Some, None}
 use Rattle.ytt_base.specs.declared.fault.Place.{Place}
 use Rattle.yaml_spec.specs.Noted.{is_code, code_in}
-use Rattle.star_spec.specs.CodeReading.{CodeReader}
+use Rattle.code_spec.specs.CodeReading.{CodeReader}
 use Rattle.star_grammar.specs.CodeReaders.{IsCodeReader}
 use Rattle.star_lines.specs.Depths.{depth_behind}
 use Rattle.template_spec.specs.Comments.{without_end}

@@ -2,8 +2,8 @@
 use Rattle.std.proofs.Common.{◌≡◌, List, rules, ℕ, Option}
 use Rattle.std.specs.Option.{option_map}
 use Rattle.ytt_base.specs.Outcomes.{place_at}
-use Rattle.star_spec.specs.Code as plain
-use Rattle.star_spec.specs.Blocks.{op_part, op_statement, op_if, op_for, op_def}
+use Rattle.code_spec.specs.Code as plain
+use Rattle.code_spec.specs.Blocks.{op_part, op_statement, op_if, op_for, op_def}
 use Rattle.star_tree.specs.View.{item_kind_of}
 use Rattle.star_tree.specs.Whole.{expr_of, binary_operator_of, loaded_names_of, parameters_of, part_of}
 use Rattle.star_tree.specs.declared.code.BinOp.{BinOp}

@@ -3,8 +3,8 @@ use Rattle.std.proofs.Common.{◌≡◌, ℕ, List, [], ◌∷◌, map as each, 
 use Rattle.std.proofs.lemmas.List.{reverse-append, reverse-reverse}
 use Rattle.ytt_base.specs.Outcomes.{place_at}
 use Rattle.ytt_base.specs.declared.text.Memory.{Memory}
-use Rattle.star_spec.specs.Blocks as blocks
-use Rattle.star_spec.specs.Blocks.{Arms, Ops, Parsed, arm, broken, inside, no_arm, op_if, open_block, open_if, parse, put, whole}
+use Rattle.code_spec.specs.Blocks as blocks
+use Rattle.code_spec.specs.Blocks.{Arms, Ops, Parsed, arm, broken, inside, no_arm, op_if, open_block, open_if, parse, put, whole}
 use Rattle.star_tree.specs.declared.code.Expr.{Expr}
 use Rattle.star_tree.specs.Whole.{expr_of}
 use Rattle.star_blocks.specs.Nested.{Branch, arms_from, arms_of, branch_of, else_branch, op_of, ops_of, test_branch}

@@ -2,9 +2,9 @@
 use Rattle.std.specs.Prelude.{ℕ, List, [], ◌∷◌, map as each}
 use Rattle.std.specs.Option.{option_map}
 use Rattle.ytt_base.specs.Outcomes.{place_at}
-use Rattle.star_spec.specs.Code as plain
-use Rattle.star_spec.specs.Blocks as blocks
-use Rattle.star_spec.specs.Blocks.{op_part, op_statement, op_if, op_for, op_def, Ops, no_ops, an_op, Arms, no_arm, else_arm, arm}
+use Rattle.code_spec.specs.Code as plain
+use Rattle.code_spec.specs.Blocks as blocks
+use Rattle.code_spec.specs.Blocks.{op_part, op_statement, op_if, op_for, op_def, Ops, no_ops, an_op, Arms, no_arm, else_arm, arm}
 use Rattle.star_tree.specs.View.{item_kind_of}
 use Rattle.star_tree.specs.Whole.{expr_of, binary_operator_of, loaded_names_of, parameters_of, part_of}
 use Rattle.star_blocks.specs.declared.block.Op.{Op, fold-Op}

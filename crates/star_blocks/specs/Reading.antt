@@ -1,9 +1,9 @@
 -- What is read of a program from its end.
 use Rattle.std.specs.Prelude.{◌≡◌, ℕ, List, [], ◌∷◌, Option, Some, None, Result, Ok, Err, reverse}
 use Rattle.ytt_base.specs.declared.text.Memory.{Memory}
-use Rattle.star_spec.specs.Blocks as blocks
-use Rattle.star_spec.specs.Blocks.{Ops, no_ops, Arms, no_arm, Parsed, broken, at_top, inside, put, open_if, next_arm, last_arm, open_block, op_part, op_statement, op_for, op_def}
-use Rattle.star_spec.specs.Program.{Instruction, part, statement, begin_if, begin_elif, begin_else, begin_for, begin_def, close}
+use Rattle.code_spec.specs.Blocks as blocks
+use Rattle.code_spec.specs.Blocks.{Ops, no_ops, Arms, no_arm, Parsed, broken, at_top, inside, put, open_if, next_arm, last_arm, open_block, op_part, op_statement, op_for, op_def}
+use Rattle.code_spec.specs.Program.{Instruction, part, statement, begin_if, begin_elif, begin_else, begin_for, begin_def, close}
 use Rattle.star_blocks.specs.Nested.{ops_of, arms_of}
 use Rattle.star_blocks.specs.declared.block.Op.{Op}
 use Rattle.star_blocks.specs.declared.level.Level.{Level}

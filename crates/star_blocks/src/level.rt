@@ -1,7 +1,7 @@
 // What is read of a program from its end: the blocks that are closed further on.
 ghost use Rattle.std.specs.Prelude.{◌≡◌, ℕ, reverse, IfOk, OnOk};
 ghost use Rattle.ytt_base.specs.Outcomes.{place_at};
-ghost use Rattle.star_spec.specs.Blocks.{broken, inside, last_arm, next_arm, no_arm, no_ops, open_if, put};
+ghost use Rattle.code_spec.specs.Blocks.{broken, inside, last_arm, next_arm, no_arm, no_ops, open_if, put};
 ghost use Rattle.star_tree.specs.Whole.{expr_of};
 ghost use Rattle.star_blocks.specs.Nested.{op_of};
 ghost use Rattle.star_blocks.specs.Reading.{Taken, parsed_of};

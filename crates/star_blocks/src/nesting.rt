@@ -2,8 +2,8 @@
 ghost use Rattle.std.specs.Prelude.{◌≡◌, ℕ, IfOk, OnOk};
 ghost use Rattle.std.specs.Option.{option_map};
 ghost use Rattle.ytt_base.specs.Outcomes.{place_at};
-ghost use Rattle.star_spec.specs.Blocks.{blocks, op_def, op_for, op_statement, open_block, parse, put};
-ghost use Rattle.star_spec.specs.Code.{assign, augment, load};
+ghost use Rattle.code_spec.specs.Blocks.{blocks, op_def, op_for, op_statement, open_block, parse, put};
+ghost use Rattle.code_spec.specs.Code.{assign, augment, load};
 ghost use Rattle.star_tree.specs.View.{item_kind_of};
 ghost use Rattle.star_tree.specs.Whole.{binary_operator_of, expr_of, instruction_of, instructions_of, loaded_names_of, parameters_of};
 ghost use Rattle.star_blocks.specs.Nested.{ops_of};

@@ -1,15 +1,15 @@
 -- Where all of an expression is built, what the machine does is what the language says.
 use Rattle.std.proofs.Common.{◌≡◌, List, [], ◌∷◌, ◌++◌, if◌then◌else◌, refl}
 use Rattle.ytt_base.specs.declared.fault.Place.{Place}
-use Rattle.star_spec.specs.Code as plain
-use Rattle.star_spec.specs.Code.{Name}
+use Rattle.code_spec.specs.Code as plain
+use Rattle.code_spec.specs.Code.{Name}
 use Rattle.star_spec.specs.Eval.{eval, eval_all, truth_of}
 use Rattle.star_spec.specs.Language.{Call}
 use Rattle.star_spec.specs.Operators.{unary_row, binary_row}
 use Rattle.star_spec.specs.Outcomes.{paid, give, ◌>>=◌}
-use Rattle.star_spec.specs.Unbuilt.{unbuilt_expr, unbuilt_exprs}
+use Rattle.code_spec.specs.Unbuilt.{unbuilt_expr, unbuilt_exprs}
 use Rattle.star_spec.specs.Values.{tuple_value, values_from, Env}
-use Rattle.star_spec.proofs.UnbuiltBlocks.{none_in_both}
+use Rattle.code_spec.proofs.UnbuiltBlocks.{none_in_both}
 use Rattle.star_eval.specs.SoFar.{value_so_far, values_so_far}
 
 -- a place stands behind those of its operand

@@ -6,28 +6,28 @@ use Rattle.ytt_base.specs.declared.fault.Stop.{Stop}
 use Rattle.ytt_base.specs.declared.fault.Stop.TheVariants as stop
 use Rattle.ytt_base.specs.Outcomes.{fault_of}
 use Rattle.ytt_base.specs.View.{trees_of}
-use Rattle.star_spec.specs.Blocks.{Op, op_statement, Ops, no_ops, an_op, blocks}
+use Rattle.code_spec.specs.Blocks.{Op, op_statement, Ops, no_ops, an_op, blocks}
 use Rattle.star_spec.specs.Calls.{Host}
-use Rattle.star_spec.specs.Code as plain
-use Rattle.star_spec.specs.Code.{Name, Statement}
+use Rattle.code_spec.specs.Code as plain
+use Rattle.code_spec.specs.Code.{Name, Statement}
 use Rattle.star_spec.specs.Eval.{starlark}
 use Rattle.star_spec.specs.Flow.{Flow}
 use Rattle.star_spec.specs.Outcomes.{State, Ending, bad, give, then_do}
-use Rattle.star_spec.specs.Program.{Instruction}
-use Rattle.star_spec.specs.Scopes.{ops_names}
-use Rattle.star_spec.specs.Unbuilt.{unbuilt_op, unbuilt_ops}
+use Rattle.code_spec.specs.Program.{Instruction}
+use Rattle.code_spec.specs.Scopes.{ops_names}
+use Rattle.code_spec.specs.Unbuilt.{unbuilt_op, unbuilt_ops}
 use Rattle.star_spec.specs.Store.{object}
 use Rattle.star_spec.specs.Values.{Env, of_box}
-use Rattle.star_spec.proofs.UnbuiltBlocks.{none_in_both}
+use Rattle.code_spec.proofs.UnbuiltBlocks.{none_in_both}
 use Rattle.star_ops.specs.Meets.{in_store}
 use Rattle.star_resolve.specs.Frames.{boxed, unset_boxes, with_unset}
 use Rattle.star_resolve.specs.Variables.{each_once}
 use Rattle.star_resolve.proofs.Frames.{new_frames}
-use Rattle.template_spec.specs.Build.{built}
-use Rattle.template_spec.specs.Calls.{bottom, bottom_children, bottom_flow, program_calls}
-use Rattle.template_spec.specs.Files.{FileResult, File, Loader, ended, op_loads, ops_loads, statement_loads}
-use Rattle.template_spec.specs.Meaning.{RunFile, documents, loads_in, names_in, run_blocks}
-use Rattle.template_spec.specs.Run.{runs}
+use Rattle.template_meaning.specs.Build.{built}
+use Rattle.template_meaning.specs.Calls.{bottom, bottom_children, bottom_flow, program_calls}
+use Rattle.template_meaning.specs.Files.{FileResult, File, Loader, ended, op_loads, ops_loads, statement_loads}
+use Rattle.template_meaning.specs.Meaning.{RunFile, documents, loads_in, names_in, run_blocks}
+use Rattle.template_meaning.specs.Run.{runs}
 use Rattle.star_eval.specs.declared.file.FlatResult.{FlatResult}
 use Rattle.star_eval.specs.declared.session.Slot.{Slot}
 use Rattle.star_eval.specs.View.{box_object, held_of, store_of}

@@ -1,7 +1,7 @@
 -- Loops over tuples.
 use Rattle.std.proofs.Common.{◌≡◌, ◌+◌, ℕ, zero, suc, List, [], ◌∷◌, drop, slice_get, Some, None, refl, sym, ap, ◌∙◌, rules, arith}
 use Rattle.ytt_base.specs.declared.fault.Place.{Place}
-use Rattle.star_spec.specs.Code as plain
+use Rattle.code_spec.specs.Code as plain
 use Rattle.star_spec.specs.Flow.{Part, on, turns}
 use Rattle.star_spec.specs.Outcomes.{State, Ending, done, bad, finally, on_store, ◌>>=◌}
 use Rattle.star_spec.specs.Store.{end_loop}

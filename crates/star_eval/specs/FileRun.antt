@@ -5,15 +5,15 @@ use Rattle.ytt_base.specs.declared.fault.Stop.{Stop}
 use Rattle.ytt_base.specs.declared.fault.Stop.TheVariants as stop
 use Rattle.ytt_base.specs.View.{trees_of}
 use Rattle.star_spec.specs.Calls.{Host}
-use Rattle.star_spec.specs.Code.{Name}
+use Rattle.code_spec.specs.Code.{Name}
 use Rattle.star_spec.specs.Eval.{starlark}
 use Rattle.star_spec.specs.Outcomes.{Ending, done, bad}
-use Rattle.star_spec.specs.Program.{Instruction}
-use Rattle.star_spec.specs.Unbuilt.{unbuilt_code}
+use Rattle.code_spec.specs.Program.{Instruction}
+use Rattle.code_spec.specs.Unbuilt.{unbuilt_code}
 use Rattle.star_ops.specs.Meets.{in_store}
-use Rattle.template_spec.specs.Calls.{bottom_children}
-use Rattle.template_spec.specs.Files.{FileResult, Loader}
-use Rattle.template_spec.specs.Meaning.{RunFile, documents}
+use Rattle.template_meaning.specs.Calls.{bottom_children}
+use Rattle.template_meaning.specs.Files.{FileResult, Loader}
+use Rattle.template_meaning.specs.Meaning.{RunFile, documents}
 use Rattle.star_eval.specs.declared.file.FlatResult.{FlatResult}
 use Rattle.star_eval.specs.declared.frame.Flow.{Flow}
 use Rattle.star_eval.specs.Meets.{Here}

@@ -4,8 +4,8 @@ use Rattle.ytt_base.specs.declared.fault.FaultKind.TheVariants as kind
 use Rattle.ytt_base.specs.declared.fault.Place.{Place}
 use Rattle.ytt_base.specs.declared.fault.Stop.{Stop}
 use Rattle.ytt_base.specs.declared.fault.Stop.TheVariants as stop
-use Rattle.star_spec.specs.Code as plain
-use Rattle.star_spec.specs.Code.{Exprs, no_exprs, an_expr}
+use Rattle.code_spec.specs.Code as plain
+use Rattle.code_spec.specs.Code.{Exprs, no_exprs, an_expr}
 use Rattle.star_spec.specs.Outcomes.{State, Ending, Computation, bad, give, need, then_do, ◌>>=◌}
 use Rattle.star_spec.specs.Eval.{count_exprs, members_of}
 use Rattle.star_spec.specs.Values.{Value, Env}

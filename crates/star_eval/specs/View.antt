@@ -1,6 +1,6 @@
 -- The plain data that boxes and scopes of the machine stand for.
 use Rattle.std.specs.Prelude.{List, [], Option, Some, None, map as each}
-use Rattle.star_spec.specs.Code.{Name}
+use Rattle.code_spec.specs.Code.{Name}
 use Rattle.star_resolve.specs.Frames.{boxed}
 use Rattle.star_spec.specs.Values as plain
 use Rattle.star_spec.specs.Values.{Env, of_box, Object, Store}

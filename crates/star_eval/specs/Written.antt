@@ -3,7 +3,7 @@ use Rattle.std.specs.Prelude.{◌≡◌, ℕ, suc, length, Bool, true, false, Li
 use Rattle.std.specs.Borrow.{Bor}
 use Rattle.ytt_base.specs.declared.fault.Stop.{Stop}
 use Rattle.ytt_base.specs.declared.fault.Stop.TheVariants as stop
-use Rattle.star_spec.specs.Blocks.{Ops, no_ops, an_op, op_part, op_statement, op_if, op_for, op_def}
+use Rattle.code_spec.specs.Blocks.{Ops, no_ops, an_op, op_part, op_statement, op_if, op_for, op_def}
 use Rattle.star_spec.specs.Flow.{Flow}
 use Rattle.star_spec.specs.Outcomes.{State, Ending, bad}
 use Rattle.star_spec.specs.Values.{Env}

@@ -1,7 +1,7 @@
 // Parts of nodes in a block.
 ghost use Rattle.std.specs.Prelude.{◌≡◌, ◌≤◌, IfOk, List, ℕ, false, reverse};
 ghost use Rattle.star_blocks.specs.Nested.{ops_of};
-ghost use Rattle.star_spec.specs.Blocks.{an_op, op_part};
+ghost use Rattle.code_spec.specs.Blocks.{an_op, op_part};
 ghost use Rattle.star_spec.specs.Values.{Env};
 ghost use Rattle.star_tree.specs.Whole.{part_of};
 ghost use Rattle.node_build.specs.View.{nodes_of};

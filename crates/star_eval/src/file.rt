@@ -3,7 +3,7 @@ ghost use Rattle.std.specs.Prelude.{◌≡◌, IfOk};
 ghost use Rattle.ytt_base.specs.declared.fault.FaultKind.TheVariants as kind;
 ghost use Rattle.ytt_base.specs.declared.fault.Stop.TheVariants as stop;
 ghost use Rattle.ytt_base.specs.Outcomes.{fault_of};
-ghost use Rattle.star_spec.specs.Scopes.{program_names};
+ghost use Rattle.code_spec.specs.Scopes.{program_names};
 ghost use Rattle.star_tree.specs.Whole.{program_of};
 ghost use Rattle.node_build.specs.View.{nodes_of};
 ghost use Rattle.star_resolve.specs.Frames.{unset_boxes};

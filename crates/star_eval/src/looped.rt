@@ -3,12 +3,12 @@ ghost use Rattle.std.specs.Prelude.{◌≡◌, ◌∷◌, [], reverse, List, IfO
 ghost use Rattle.ytt_base.specs.declared.fault.FaultKind.TheVariants as kind;
 ghost use Rattle.ytt_base.specs.Outcomes.{fault_of};
 ghost use Rattle.star_blocks.specs.Nested.{ops_of};
-ghost use Rattle.star_spec.specs.Code.{Name};
+ghost use Rattle.code_spec.specs.Code.{Name};
 ghost use Rattle.star_spec.specs.Eval.{starlark};
 ghost use Rattle.star_spec.specs.Language.{Call};
-ghost use Rattle.star_spec.specs.Unbuilt.{unbuilt_ops};
+ghost use Rattle.code_spec.specs.Unbuilt.{unbuilt_ops};
 ghost use Rattle.node_build.specs.View.{nodes_of};
-ghost use Rattle.template_spec.specs.Run.{runs};
+ghost use Rattle.template_meaning.specs.Run.{runs};
 ghost use Rattle.star_eval.specs.Frames.{Goes, flow_ending_of, flow_ends, inside, is_active, means, work};
 ghost use Rattle.star_eval.specs.Meets.{Here, state_of};
 ghost use Rattle.star_eval.specs.View.{env_of};

@@ -5,7 +5,7 @@ use Rattle.ytt_base.specs.declared.fault.FaultKind.TheVariants as kind
 use Rattle.ytt_base.specs.declared.fault.Place.{Place}
 use Rattle.ytt_base.specs.declared.fault.Stop.{Stop}
 use Rattle.ytt_base.specs.Outcomes.{Gives, Outcome, fault_at, place_at}
-use Rattle.star_spec.specs.CodeReading.{CodeReader}
+use Rattle.code_spec.specs.CodeReading.{CodeReader}
 use Rattle.star_tree.specs.Whole.{expr_of, exprs_of, header_of, instructions_of}
 use Rattle.star_grammar.specs.declared.part.Part.{Part}
 use Rattle.star_grammar.specs.declared.start.Start.{Start}

@@ -1,10 +1,10 @@
 -- Numbers change nothing of which names stand in code.
 use Rattle.std.proofs.Common.{◌≡◌, ℕ, suc, List, [], ◌∷◌, refl, sym, ap, ◌∙◌}
-use Rattle.star_spec.specs.Allowed.{AllowedClauses, AllowedEntries, AllowedExpr, AllowedExprs, AllowedFunction, AllowedOptional, AllowedParameters, AllowedPieces, AllowedStatement, AllowedTarget, AllowedTargets, ParametersLeft, after_default, all_left, are_distinct, is_single, named_left, none_left, parameter_names}
-use Rattle.star_spec.specs.Code as code
-use Rattle.star_spec.specs.Code.{Name, Expr, Exprs, no_exprs, an_expr, OptionalExpr, absent, present, Entries, no_entries, an_entry, Clauses, no_clauses, for_clause, if_clause, Pieces, no_pieces, text_piece, expr_piece, Parameters, no_parameters, required, defaulted, bare_star, starred_parameter, double_starred_parameter, Statement, evaluate, assign, augment, load, return, break, continue, pass}
-use Rattle.star_spec.specs.Numbering.{number_clauses, number_entries, number_expr, number_exprs, number_optional, number_parameters, number_pieces, number_statement}
-use Rattle.star_spec.specs.Program.{NodePart, node_start, node_note, node_key, node_key_from, node_value, node_value_from, node_end, Instruction, part, statement, begin_if, begin_elif, begin_else, begin_for, begin_def, close}
+use Rattle.code_spec.specs.Allowed.{AllowedClauses, AllowedEntries, AllowedExpr, AllowedExprs, AllowedFunction, AllowedOptional, AllowedParameters, AllowedPieces, AllowedStatement, AllowedTarget, AllowedTargets, ParametersLeft, after_default, all_left, are_distinct, is_single, named_left, none_left, parameter_names}
+use Rattle.code_spec.specs.Code as code
+use Rattle.code_spec.specs.Code.{Name, Expr, Exprs, no_exprs, an_expr, OptionalExpr, absent, present, Entries, no_entries, an_entry, Clauses, no_clauses, for_clause, if_clause, Pieces, no_pieces, text_piece, expr_piece, Parameters, no_parameters, required, defaulted, bare_star, starred_parameter, double_starred_parameter, Statement, evaluate, assign, augment, load, return, break, continue, pass}
+use Rattle.code_spec.specs.Numbering.{number_clauses, number_entries, number_expr, number_exprs, number_optional, number_parameters, number_pieces, number_statement}
+use Rattle.code_spec.specs.Program.{NodePart, node_start, node_note, node_key, node_key_from, node_value, node_value_from, node_end, Instruction, part, statement, begin_if, begin_elif, begin_else, begin_for, begin_def, close}
 use Rattle.template_spec.specs.Numbered.{number_instruction, number_part, number_program}
 use Rattle.template_spec.specs.WellNested.{AllowedInstruction, AllowedPart, AllowedProgram}
 

@@ -1,10 +1,10 @@
 -- Numbers change nothing of which blocks and nodes a program has.
 use Rattle.std.proofs.Common.{◌≡◌, ℕ, suc, List, [], ◌∷◌, Option, Some, None, IsSome, refl, sym, subst, ◌∙◌}
 use Rattle.ytt_base.specs.declared.fault.Place.{Place}
-use Rattle.star_spec.specs.Blocks.{Op, op_part, op_statement, op_if, op_for, op_def, Ops, no_ops, an_op, Arms, no_arm, else_arm, arm, Parsed, broken, at_top, inside, put, open_if, next_arm, last_arm, open_block, parse, whole, blocks}
-use Rattle.star_spec.specs.Code.{Expr, Statement, evaluate, assign, augment, load, return, break, continue, pass}
-use Rattle.star_spec.specs.Numbering.{number_expr, number_parameters, number_statement}
-use Rattle.star_spec.specs.Program.{document_item, pair_item, element_item, NodePart, node_start, node_note, node_key, node_key_from, node_value, node_value_from, node_end, Instruction, part, statement, begin_if, begin_elif, begin_else, begin_for, begin_def, close}
+use Rattle.code_spec.specs.Blocks.{Op, op_part, op_statement, op_if, op_for, op_def, Ops, no_ops, an_op, Arms, no_arm, else_arm, arm, Parsed, broken, at_top, inside, put, open_if, next_arm, last_arm, open_block, parse, whole, blocks}
+use Rattle.code_spec.specs.Code.{Expr, Statement, evaluate, assign, augment, load, return, break, continue, pass}
+use Rattle.code_spec.specs.Numbering.{number_expr, number_parameters, number_statement}
+use Rattle.code_spec.specs.Program.{document_item, pair_item, element_item, NodePart, node_start, node_note, node_key, node_key_from, node_value, node_value_from, node_end, Instruction, part, statement, begin_if, begin_elif, begin_else, begin_for, begin_def, close}
 use Rattle.template_spec.specs.Numbered.{number_part, number_program}
 use Rattle.template_spec.specs.WellNested.{IfAny, Nested, NestedArms, Stage, Ways, WellNestedBlocks, after_part, begun, below_innermost, block_of, filled, in_a_branch, in_a_file, in_a_function, in_a_loop, innermost, keyed, place_of, stands, ways_at}
 

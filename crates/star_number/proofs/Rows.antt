@@ -1,8 +1,8 @@
 -- Passes over what stands in lists.
 use Rattle.std.proofs.Common.{◌≡◌, ℕ, ◌+◌, ◌<◌, ◌≤◌, List, [], ◌∷◌, ◌++◌, length, drop, get_or, refl, sym, ap, ◌∙◌, append_assoc, append-nil, map as each}
 use Rattle.std.proofs.lemmas.List.{drop_more, drop_all}
-use Rattle.star_spec.specs.Code as plain
-use Rattle.star_spec.specs.Numbering.{Pass, Passed, number_clauses, number_entries, number_expr, number_exprs, number_parameters, number_pieces, over_one}
+use Rattle.code_spec.specs.Code as plain
+use Rattle.code_spec.specs.Numbering.{Pass, Passed, number_clauses, number_entries, number_expr, number_exprs, number_parameters, number_pieces, over_one}
 use Rattle.star_tree.specs.Whole.{Clause, for_part, if_part, Entry, Parameter, named_part, default_part, bare_part, star_part, stars_part, Piece, written_part, expr_part, clauses_from, entries_from, exprs_from, parameters_from, pieces_from}
 use Rattle.star_number.specs.Rows.{behind, in_row, number_clause, number_entry, number_parameter, number_piece}
 

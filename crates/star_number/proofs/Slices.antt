@@ -1,8 +1,8 @@
 -- A slice, part by part.
 use Rattle.std.proofs.Common.{◌≡◌, ℕ, Option, sym, ap, ◌∙◌}
 use Rattle.ytt_base.specs.Outcomes.{place_at}
-use Rattle.star_spec.specs.Code as plain
-use Rattle.star_spec.specs.Numbering.{number_expr, number_optional}
+use Rattle.code_spec.specs.Code as plain
+use Rattle.code_spec.specs.Numbering.{number_expr, number_optional}
 use Rattle.star_tree.specs.Listed.{optional_of}
 use Rattle.star_tree.specs.Whole.{expr_of}
 use Rattle.star_tree.specs.declared.code.Expr as held

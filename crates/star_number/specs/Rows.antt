@@ -1,6 +1,6 @@
 -- The numbers of lambdas in what stands in lists.
 use Rattle.std.specs.Prelude.{List, [], ◌∷◌, ◌++◌}
-use Rattle.star_spec.specs.Numbering.{Pass, Passed, keep, over_one, over_two, number_expr}
+use Rattle.code_spec.specs.Numbering.{Pass, Passed, keep, over_one, over_two, number_expr}
 use Rattle.star_tree.specs.Whole.{Clause, for_part, if_part, Entry, Parameter, named_part, default_part, bare_part, star_part, stars_part, Piece, written_part, expr_part}
 
 -- a pass over each, in their order

@@ -1,7 +1,7 @@
 // Expressions with the numbers of their lambdas. `file` is the file of the places in them.
 ghost use Rattle.std.specs.Prelude.{◌≡◌, IfOk, OnOk};
 ghost use Rattle.star_number.specs.Rows.{number_clause, number_entry, number_parameter, number_piece};
-ghost use Rattle.star_spec.specs.Numbering.{number_clauses, number_entries, number_expr, number_exprs, number_optional, number_parameters, number_pieces};
+ghost use Rattle.code_spec.specs.Numbering.{number_clauses, number_entries, number_expr, number_exprs, number_optional, number_parameters, number_pieces};
 ghost use Rattle.star_tree.specs.Listed.{clause_of, clauses_of, entries_of, entry_of, optional_of, piece_of, pieces_of};
 ghost use Rattle.star_tree.specs.Whole.{expr_of, exprs_of, parameter_of, parameters_of};
 

@@ -1,7 +1,7 @@
 // That numbers change nothing else of a program.
 ghost use Rattle.std.specs.Prelude.{List, IsSome};
-ghost use Rattle.star_spec.specs.Blocks.{blocks};
-ghost use Rattle.star_spec.specs.Program.{Instruction};
+ghost use Rattle.code_spec.specs.Blocks.{blocks};
+ghost use Rattle.code_spec.specs.Program.{Instruction};
 ghost use Rattle.template_spec.specs.Numbered.{numbered_program};
 ghost use Rattle.template_spec.specs.WellNested.{WellNested};
 

@@ -3,7 +3,7 @@ use Rattle.std.proofs.Common.{◌≡◌, ◌==◌, ℕ, ℤ, Bool, true, false, 
 use Rattle.std.proofs.lemmas.List.{length-map}
 use Rattle.ytt_base.specs.declared.fault.Place.{Place}
 use Rattle.ytt_base.specs.Outcomes.{fault_at}
-use Rattle.star_spec.specs.Code as code
+use Rattle.code_spec.specs.Code as code
 use Rattle.star_spec.specs.Equality.{among, equality}
 use Rattle.star_spec.specs.Members.{truth_in, is_empty}
 use Rattle.star_spec.specs.Operators.{answered, denied, compared, binary_row, contained_in, cost_in, join_tuples, part_of_text, product_row, repeat_tuple, sum_row}

@@ -3,7 +3,7 @@ ghost use Rattle.std.specs.Prelude.{◌≡◌, ◌^◌, ◌≤◌, false, pos, F
 ghost use Rattle.std.specs.Int.{w128};
 ghost use Rattle.std.specs.Option.{SomeIff};
 ghost use Rattle.star_spec.specs.Numbers.{at_least_zero, complement, floor_quotient, floor_remainder, is_negative, is_zero, shifted_left, shifted_right};
-ghost use Rattle.star_spec.specs.Code as code;
+ghost use Rattle.code_spec.specs.Code as code;
 ghost use Rattle.star_spec.specs.Operators.{int_of, unary_row};
 ghost use Rattle.star_ops.specs.Meets.{Tells};
 ghost use Rattle.star_ops.specs.Acts.{integer_act, integer_row};

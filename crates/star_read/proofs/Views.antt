@@ -1,7 +1,7 @@
 -- The plain expression of each form of expression that is built so far.
 use Rattle.std.proofs.Common.{◌≡◌, List, rules, ℤ, ℕ}
 use Rattle.ytt_base.specs.Outcomes.{place_at}
-use Rattle.star_spec.specs.Code.{int, text, unary, binary}
+use Rattle.code_spec.specs.Code.{int, text, unary, binary}
 use Rattle.star_tree.specs.declared.code.UnOp.{UnOp}
 use Rattle.star_tree.specs.declared.code.BinOp.{BinOp}
 use Rattle.star_tree.specs.declared.code.Expr as code

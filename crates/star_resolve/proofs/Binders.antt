@@ -1,7 +1,7 @@
 -- The names that one member more binds.
 use Rattle.std.proofs.Common.{◌≡◌, ℕ, List, [], ◌∷◌, ◌++◌, refl, sym, ap, append-nil, map as each}
-use Rattle.star_spec.specs.Names.{clauses_names, target_names}
-use Rattle.star_spec.specs.Allowed.{parameter_names}
+use Rattle.code_spec.specs.Names.{clauses_names, target_names}
+use Rattle.code_spec.specs.Allowed.{parameter_names}
 use Rattle.star_tree.specs.declared.code.Clause.{Clause}
 use Rattle.star_tree.specs.declared.code.Param.{Param}
 use Rattle.star_tree.specs.Whole as whole

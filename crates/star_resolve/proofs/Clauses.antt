@@ -1,6 +1,6 @@
 -- The events of one clause more.
 use Rattle.std.proofs.Common.{◌≡◌, ℕ, ◌+◌, ◌<◌, length, drop, get_or, true, false, Bool, List, [], ◌∷◌, ◌++◌, sym, ap, ◌∙◌, append_assoc, map as each}
-use Rattle.star_spec.specs.Code.{Name, Expr}
+use Rattle.code_spec.specs.Code.{Name, Expr}
 use Rattle.star_tree.specs.declared.code.Clause as held
 use Rattle.star_tree.specs.declared.code.Clause.{Clause}
 use Rattle.star_tree.specs.declared.code.Expr as tree

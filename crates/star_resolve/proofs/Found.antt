@@ -6,11 +6,11 @@ use Rattle.std.specs.List.{list_any, position}
 use Rattle.std.specs.Option.{option_map}
 use Rattle.std.specs.Prelude.{bytes_eq, IsSome}
 use Rattle.ytt_base.specs.declared.fault.Place.{Place}
-use Rattle.star_spec.specs.Blocks.{blocks}
-use Rattle.star_spec.specs.Code.{Name}
-use Rattle.star_spec.specs.Keys.{further, or_else}
-use Rattle.star_spec.specs.Program.{Instruction}
-use Rattle.star_spec.specs.Scopes.{Around, Use, Home, local, global, builtin, unknown, use_at, binds, first_if_unknown, home_by, home_of, outward, program_names, program_uses, unknown_first}
+use Rattle.code_spec.specs.Blocks.{blocks}
+use Rattle.code_spec.specs.Code.{Name}
+use Rattle.code_spec.specs.Options.{further, or_else}
+use Rattle.code_spec.specs.Program.{Instruction}
+use Rattle.code_spec.specs.Scopes.{Around, Use, Home, local, global, builtin, unknown, use_at, binds, first_if_unknown, home_by, home_of, outward, program_names, program_uses, unknown_first}
 use Rattle.star_resolve.specs.declared.event.Event.{Event}
 use Rattle.star_resolve.specs.declared.event.Event.TheVariants as event
 use Rattle.star_resolve.specs.declared.levels.Variable.{Variable}

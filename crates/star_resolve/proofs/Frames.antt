@@ -3,13 +3,13 @@ use Rattle.std.proofs.Common.{◌≡◌, ℕ, suc, ◌+◌, Bool, true, false, �
 use Rattle.std.proofs.lemmas.Slice.Eq.{bytes_eq-Decides}
 use Rattle.std.specs.List.{list_any, position, position_or_len, slice_get}
 use Rattle.std.specs.Prelude.{bytes_eq}
-use Rattle.star_spec.specs.Allowed.{are_distinct, has_name, parameter_names}
+use Rattle.code_spec.specs.Allowed.{are_distinct, has_name, parameter_names}
 use Rattle.star_spec.specs.Binding.{Given, given, rest_given, boxes_of, value_given}
-use Rattle.star_spec.specs.Code.{Name}
-use Rattle.star_spec.specs.Keys.{further, or_else}
+use Rattle.code_spec.specs.Code.{Name}
+use Rattle.code_spec.specs.Options.{further, or_else}
 use Rattle.star_spec.specs.Names.{box_of, with_box, with_boxes}
 use Rattle.star_spec.specs.Outcomes.{State, Ending, done, bad, then_do, give, on_store}
-use Rattle.star_spec.specs.Scopes.{Around, Use, Home, local, global, builtin, unknown, binds, home_by, home_of, outward}
+use Rattle.code_spec.specs.Scopes.{Around, Use, Home, local, global, builtin, unknown, binds, home_by, home_of, outward}
 use Rattle.star_spec.specs.Store.{object, with_object}
 use Rattle.star_spec.specs.Values.{Env, of_box}
 use Rattle.star_resolve.specs.Environments.{Parts, box_at_home, has_box, joined, part_at}

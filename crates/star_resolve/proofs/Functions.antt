@@ -1,11 +1,11 @@
 -- The functions of a program whose blocks are closed where they should be are those that stand in its events.
 use Rattle.std.proofs.Common.{◌≡◌, ℕ, List, [], ◌∷◌, ◌++◌, Option, refl, sym, ap, ◌∙◌, append_assoc, append-nil, reverse, IsSome, map as each}
 use Rattle.std.proofs.lemmas.List.{map-append, reverse-reverse}
-use Rattle.star_spec.specs.Allowed.{parameter_names}
-use Rattle.star_spec.specs.Blocks.{Op, op_part, op_statement, op_if, op_for, op_def, no_arm, else_arm, arm, Parsed, broken, at_top, inside, put, open_if, next_arm, last_arm, open_block, parse, whole, blocks}
-use Rattle.star_spec.specs.Code.{Name, Expr, Parameters}
-use Rattle.star_spec.specs.Program.{ItemKind, Instruction, part, statement, begin_if, begin_elif, begin_else, begin_for, begin_def, close}
-use Rattle.star_spec.specs.Scopes.{ops_names}
+use Rattle.code_spec.specs.Allowed.{parameter_names}
+use Rattle.code_spec.specs.Blocks.{Op, op_part, op_statement, op_if, op_for, op_def, no_arm, else_arm, arm, Parsed, broken, at_top, inside, put, open_if, next_arm, last_arm, open_block, parse, whole, blocks}
+use Rattle.code_spec.specs.Code.{Name, Expr, Parameters}
+use Rattle.code_spec.specs.Program.{ItemKind, Instruction, part, statement, begin_if, begin_elif, begin_else, begin_for, begin_def, close}
+use Rattle.code_spec.specs.Scopes.{ops_names}
 use Rattle.ytt_base.specs.declared.fault.Place.{Place}
 use Rattle.star_resolve.specs.declared.event.Event.{Event}
 use Rattle.star_resolve.specs.Events.{program_events, sizes_in}

@@ -2,7 +2,7 @@
 use Rattle.std.proofs.Common.{◌≡◌, ℕ, ◌+◌, ◌-◌, ◌<◌, ◌≤◌, List, ◌∷◌, length, drop, get_or, map as each, ap, arith, sym, ◌∙◌, Result, Ok, Err, OnOk, IfOk}
 use Rattle.ytt_base.specs.declared.text.Memory.{Memory}
 use Rattle.std.proofs.lemmas.List.{drop_more}
-use Rattle.star_spec.specs.Code.{Name}
+use Rattle.code_spec.specs.Code.{Name}
 use Rattle.star_tree.specs.declared.code.Stmt.{Stmt}
 use Rattle.star_tree.specs.Whole.{instruction_of}
 use Rattle.star_resolve.specs.Gathered.{Gathered, gather, gathered}

@@ -1,12 +1,12 @@
 -- The events of a program whose blocks are closed where they should be: the names in them are the uses of its blocks.
 use Rattle.std.proofs.Common.{◌≡◌, ℕ, List, [], ◌∷◌, ◌++◌, Option, Some, None, refl, sym, ap, ◌∙◌, append_assoc, append-nil, reverse, IsSome}
 use Rattle.std.proofs.lemmas.List.{reverse-append, reverse-reverse}
-use Rattle.star_spec.specs.Code.{Name, Expr, Parameters}
-use Rattle.star_spec.specs.Names.{target_names, statement_names}
-use Rattle.star_spec.specs.Program.{ItemKind, Instruction, part, statement, begin_if, begin_elif, begin_else, begin_for, begin_def, close}
-use Rattle.star_spec.specs.Blocks.{Op, op_part, op_statement, op_if, op_for, op_def, Ops, no_arm, else_arm, arm, Parsed, broken, at_top, inside, put, open_if, next_arm, last_arm, open_block, parse, whole, blocks}
-use Rattle.star_spec.specs.Allowed.{parameter_names}
-use Rattle.star_spec.specs.Scopes.{Use, use_at, arms_names, arms_uses, expr_uses, op_names, op_uses, ops_names, ops_uses, parameters_uses, names_of_file, program_names, program_uses, uses_of_file}
+use Rattle.code_spec.specs.Code.{Name, Expr, Parameters}
+use Rattle.code_spec.specs.Names.{target_names, statement_names}
+use Rattle.code_spec.specs.Program.{ItemKind, Instruction, part, statement, begin_if, begin_elif, begin_else, begin_for, begin_def, close}
+use Rattle.code_spec.specs.Blocks.{Op, op_part, op_statement, op_if, op_for, op_def, Ops, no_arm, else_arm, arm, Parsed, broken, at_top, inside, put, open_if, next_arm, last_arm, open_block, parse, whole, blocks}
+use Rattle.code_spec.specs.Allowed.{parameter_names}
+use Rattle.code_spec.specs.Scopes.{Use, use_at, arms_names, arms_uses, expr_uses, op_names, op_uses, ops_names, ops_uses, parameters_uses, names_of_file, program_names, program_uses, uses_of_file}
 use Rattle.ytt_base.specs.declared.fault.Place.{Place}
 use Rattle.star_resolve.specs.Events.{program_events}
 use Rattle.star_resolve.specs.Functions.{scope_size}

@@ -3,7 +3,7 @@ use Rattle.std.proofs.Common.{◌≡◌, ℕ, zero, suc, ◌+◌, ◌<◌, Bool,
 use Rattle.std.proofs.lemmas.Bool.Decides.{nat_tests}
 use Rattle.std.specs.List.{list_any, position, position_or_len, slice_get}
 use Rattle.std.specs.Prelude.{bytes_eq}
-use Rattle.star_spec.specs.Code.{Name}
+use Rattle.code_spec.specs.Code.{Name}
 use Rattle.star_spec.specs.Names.{box_of}
 use Rattle.star_resolve.specs.Frames.{box_in, boxed, counted}
 use Rattle.star_resolve.specs.Variables.{each_once, with_name}

@@ -2,10 +2,10 @@
 use Rattle.std.proofs.Common.{◌≡◌, pos, List, [], ◌∷◌, Some, None, refl, map as each}
 use Rattle.ytt_base.specs.declared.fault.Place.{Place}
 use Rattle.ytt_base.specs.Outcomes.{place_at}
-use Rattle.star_spec.specs.Code as code
-use Rattle.star_spec.specs.Code.{Name, Expr, no_exprs, an_expr, no_clauses, for_clause, Parameters, no_parameters, required, defaulted, evaluate, assign}
-use Rattle.star_spec.specs.Program.{node_note, node_value_from, Instruction, part, statement, begin_for, begin_def, close}
-use Rattle.star_spec.specs.Scopes.{Home, local, global, builtin, unknown, home_of, program_names, program_uses, unknown_first, use_at}
+use Rattle.code_spec.specs.Code as code
+use Rattle.code_spec.specs.Code.{Name, Expr, no_exprs, an_expr, no_clauses, for_clause, Parameters, no_parameters, required, defaulted, evaluate, assign}
+use Rattle.code_spec.specs.Program.{node_note, node_value_from, Instruction, part, statement, begin_for, begin_def, close}
+use Rattle.code_spec.specs.Scopes.{Home, local, global, builtin, unknown, home_of, program_names, program_uses, unknown_first, use_at}
 
 -- `f`, `g`, `x`, `y`
 abbrev f : Name

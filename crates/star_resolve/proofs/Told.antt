@@ -4,7 +4,7 @@ use Rattle.std.proofs.lemmas.List.{drop_more}
 use Rattle.ytt_base.specs.declared.fault.Fault.{Fault}
 use Rattle.ytt_base.specs.declared.fault.Stop.{Stop}
 use Rattle.ytt_base.specs.declared.fault.Stop.TheVariants as stop
-use Rattle.star_spec.specs.Code.{Name}
+use Rattle.code_spec.specs.Code.{Name}
 use Rattle.star_resolve.specs.declared.event.Event.{Event}
 use Rattle.star_resolve.specs.declared.levels.Variable.{Variable}
 use Rattle.star_resolve.specs.Answers.{Answer, Open, after_event, answer_here, answers, refused, refused_if}

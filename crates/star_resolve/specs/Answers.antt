@@ -3,9 +3,9 @@ use Rattle.std.specs.Prelude.{ℕ, ◌+◌, List, [], ◌∷◌, ◌++◌, Optio
 use Rattle.std.specs.Option.{option_map}
 use Rattle.ytt_base.specs.declared.fault.Fault.{Fault}
 use Rattle.ytt_base.specs.declared.fault.Place.{Place}
-use Rattle.star_spec.specs.Code.{Name}
-use Rattle.star_spec.specs.Keys.{or_else}
-use Rattle.star_spec.specs.Program.{Instruction}
+use Rattle.code_spec.specs.Code.{Name}
+use Rattle.code_spec.specs.Options.{or_else}
+use Rattle.code_spec.specs.Program.{Instruction}
 use Rattle.star_resolve.specs.declared.event.Event.{Event}
 use Rattle.star_resolve.specs.declared.event.Event.TheVariants as event
 use Rattle.star_resolve.specs.declared.levels.Variable.{Variable}

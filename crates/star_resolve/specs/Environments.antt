@@ -1,12 +1,12 @@
 -- The scopes of a name against the environments in which code is evaluated, which have a box for each name.
 use Rattle.std.specs.Prelude.{◌≡◌, ℕ, zero, suc, Bool, true, false, List, [], ◌∷◌, ◌++◌, Option, None, is_some}
 use Rattle.ytt_base.specs.declared.fault.Place.{Place}
-use Rattle.star_spec.specs.Allowed.{AllowedParameters, all_left, parameter_names}
+use Rattle.code_spec.specs.Allowed.{AllowedParameters, all_left, parameter_names}
 use Rattle.star_spec.specs.Binding.{scope_of_call}
-use Rattle.star_spec.specs.Code.{Name, Parameters}
+use Rattle.code_spec.specs.Code.{Name, Parameters}
 use Rattle.star_spec.specs.Names.{box_of, with_boxes}
 use Rattle.star_spec.specs.Outcomes.{State, done}
-use Rattle.star_spec.specs.Scopes.{Around, Use, Home, local, global, builtin, unknown, home_of, binds}
+use Rattle.code_spec.specs.Scopes.{Around, Use, Home, local, global, builtin, unknown, home_of, binds}
 use Rattle.star_spec.specs.Values.{Value, Arguments, Env}
 
 -- the boxes are those of these names, and of no others

@@ -2,12 +2,12 @@
 -- name: so that what is said of names holds of their variables.
 use Rattle.std.specs.Prelude.{◌≡◌, ℕ, zero, suc, Bool, true, false, List, [], ◌∷◌, ◌++◌, length, slice_get, Option, Some, None, is_some, bytes_eq, position, if◌then◌else◌, map as each, IsTrue}
 use Rattle.std.specs.List.{list_any}
-use Rattle.star_spec.specs.Allowed.{AllowedParameters, all_left, are_distinct, parameter_names}
+use Rattle.code_spec.specs.Allowed.{AllowedParameters, all_left, are_distinct, parameter_names}
 use Rattle.star_spec.specs.Binding.{Given, all_bound, boxes_of}
-use Rattle.star_spec.specs.Code.{Name, Parameters}
+use Rattle.code_spec.specs.Code.{Name, Parameters}
 use Rattle.star_spec.specs.Names.{box_of, with_boxes}
 use Rattle.star_spec.specs.Outcomes.{State, done, on_store}
-use Rattle.star_spec.specs.Scopes.{Around, Use, home_of}
+use Rattle.code_spec.specs.Scopes.{Around, Use, home_of}
 use Rattle.star_spec.specs.Store.{object}
 use Rattle.star_spec.specs.Values.{Value, Arguments, Env, Store, of_box}
 use Rattle.star_resolve.specs.declared.levels.Variable.{Variable}

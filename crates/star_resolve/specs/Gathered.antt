@@ -1,9 +1,9 @@
 -- What is read of a program's names from its end.
 use Rattle.std.specs.Prelude.{List, [], ◌∷◌, ◌++◌, reverse}
-use Rattle.star_spec.specs.Code.{Name}
-use Rattle.star_spec.specs.Names.{target_names, statement_names}
-use Rattle.star_spec.specs.Program.{Instruction, part, statement, begin_if, begin_elif, begin_else, begin_for, begin_def, close}
-use Rattle.star_spec.specs.Allowed.{parameter_names}
+use Rattle.code_spec.specs.Code.{Name}
+use Rattle.code_spec.specs.Names.{target_names, statement_names}
+use Rattle.code_spec.specs.Program.{Instruction, part, statement, begin_if, begin_elif, begin_else, begin_for, begin_def, close}
+use Rattle.code_spec.specs.Allowed.{parameter_names}
 use Rattle.star_resolve.specs.declared.gather.Blocks.{Blocks}
 
 -- the names so far of the blocks that are closed further on, the innermost first, each from its end; and the names that

@@ -6,9 +6,9 @@ use Rattle.ytt_base.specs.declared.fault.FaultKind.TheVariants as kind
 use Rattle.ytt_base.specs.declared.fault.Place.{Place}
 use Rattle.ytt_base.specs.declared.fault.Stop.{Stop}
 use Rattle.ytt_base.specs.declared.fault.Stop.TheVariants as stop
-use Rattle.star_spec.specs.Code.{Name}
-use Rattle.star_spec.specs.Program.{Instruction}
-use Rattle.star_spec.specs.Scopes.{Around, Use, Home, local, global, builtin, unknown, home_of, program_names, program_uses, unknown_first}
+use Rattle.code_spec.specs.Code.{Name}
+use Rattle.code_spec.specs.Program.{Instruction}
+use Rattle.code_spec.specs.Scopes.{Around, Use, Home, local, global, builtin, unknown, home_of, program_names, program_uses, unknown_first}
 use Rattle.star_resolve.specs.declared.levels.Variable.{Variable}
 use Rattle.star_resolve.specs.declared.levels.Variable.TheVariants as variable
 

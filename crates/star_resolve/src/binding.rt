@@ -1,7 +1,7 @@
 // Each name of a program as a variable.
 ghost use Rattle.std.specs.Prelude.{◌≡◌, ◌∷◌, ◌++◌, [], Some, None, reverse, map as each, IfOk, OnOk, IsSome};
-ghost use Rattle.star_spec.specs.Blocks.{blocks};
-ghost use Rattle.star_spec.specs.Scopes.{program_names};
+ghost use Rattle.code_spec.specs.Blocks.{blocks};
+ghost use Rattle.code_spec.specs.Scopes.{program_names};
 ghost use Rattle.star_resolve.specs.Answers.{answer_here, answers, found_in, refused};
 ghost use Rattle.star_resolve.specs.Functions.{program_functions, scope_size};
 ghost use Rattle.star_resolve.specs.Variables.{IfFault, IfRefused, each_once, program_fault, program_variables, unknown_name};

@@ -1,6 +1,6 @@
 // The names that files and functions bind, read from the end of a program, so that they are known at its heads.
 ghost use Rattle.std.specs.Prelude.{◌≡◌, ℕ, [], ◌∷◌, ◌++◌, reverse, map as each, IfOk, OnOk};
-ghost use Rattle.star_spec.specs.Names.{target_names};
+ghost use Rattle.code_spec.specs.Names.{target_names};
 ghost use Rattle.star_resolve.specs.Gathered.{all_names, begun_by, bind, gather, gathered, gathered_of, merged, own_names, with_function};
 ghost use Rattle.star_tree.specs.Whole.{expr_of, instruction_of};
 

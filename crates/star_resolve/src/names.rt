@@ -1,7 +1,7 @@
 // The names that targets, clauses and parameters bind.
 ghost use Rattle.std.specs.Prelude.{◌≡◌, ◌++◌, ℕ, ◌∷◌, [], IfOk, OnOk};
-ghost use Rattle.star_spec.specs.Names.{clauses_names, loaded_names, target_names, targets_names};
-ghost use Rattle.star_spec.specs.Allowed.{parameter_names};
+ghost use Rattle.code_spec.specs.Names.{clauses_names, loaded_names, target_names, targets_names};
+ghost use Rattle.code_spec.specs.Allowed.{parameter_names};
 ghost use Rattle.star_tree.specs.Listed.{clauses_of};
 ghost use Rattle.star_tree.specs.Whole.{expr_of, exprs_of, loaded_names_of, parameters_of};
 

@@ -1,6 +1,6 @@
 // The events of expressions.
 ghost use Rattle.std.specs.Prelude.{◌≡◌, ℕ, ◌∷◌, ◌++◌, [], true, OnOk};
-ghost use Rattle.star_spec.specs.Names.{clauses_names};
+ghost use Rattle.code_spec.specs.Names.{clauses_names};
 ghost use Rattle.star_resolve.specs.declared.event.Event.TheVariants as event;
 ghost use Rattle.star_resolve.specs.Functions.{scope_size};
 ghost use Rattle.star_resolve.specs.Events.{clauses_events, entries_events, expr_events, exprs_events, optional_events, parameters_events, pieces_events};

@@ -5,7 +5,7 @@ use Rattle.ytt_base.specs.declared.fault.FaultKind.TheVariants as kind
 use Rattle.ytt_base.specs.declared.fault.Place.{Place}
 use Rattle.star_spec.specs.Binding.{field_of, without_field, has_field, has_twice, or_default, Given, given, rest_given, in_front, unless_named, bound, all_bound, text_pairs, value_given, boxes_of, scope_of_call}
 use Rattle.star_spec.specs.Calls.{Code, of_lambda, of_def, Table, parameters_of, names_of, Enter, enter_code, Reply, answer, call_then, Host, no_natives, resumed_with, after_reply, native_call, call_by_kind, no_keys, keys_by, with_keys, any_call, call_with_natives, function_of, function_call, too_deep, apply}
-use Rattle.star_spec.specs.Code.{Name, Expr, Exprs, BinaryOperator, Parameters, no_parameters, required, defaulted, bare_star, starred_parameter, double_starred_parameter, Statement, evaluate, assign, augment, load, return, break, continue, pass}
+use Rattle.code_spec.specs.Code.{Name, Expr, Exprs, BinaryOperator, Parameters, no_parameters, required, defaulted, bare_star, starred_parameter, double_starred_parameter, Statement, evaluate, assign, augment, load, return, break, continue, pass}
 use Rattle.star_spec.specs.Eval.{starlark}
 use Rattle.star_spec.specs.Held.{HeldValue, HeldValues, HeldFields, HeldExpr, HeldExprs, HeldParameters, HeldStatement, HeldList, has_equal_key, HeldPairs, HeldStore, HeldArguments}
 use Rattle.star_spec.specs.Language.{Call, Keyed, without_keys, asks_keys, Language, Word, breaks, continues, returns, new_function, execute, define}

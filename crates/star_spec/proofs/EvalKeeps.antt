@@ -5,15 +5,17 @@ use Rattle.ytt_base.specs.declared.fault.FaultKind.{FaultKind}
 use Rattle.ytt_base.specs.declared.fault.FaultKind.TheVariants as kind
 use Rattle.ytt_base.specs.declared.fault.Place.{Place}
 use Rattle.ytt_base.specs.Trees.{max_depth}
-use Rattle.star_spec.specs.Code as code
-use Rattle.star_spec.specs.Code.{Name, BinaryOperator, addition, Expr, Exprs, no_exprs, an_expr, OptionalExpr, absent, present, Entries, no_entries, an_entry, Clauses, no_clauses, for_clause, if_clause, Pieces, no_pieces, text_piece, expr_piece, Parameters, no_parameters, required, defaulted, bare_star, starred_parameter, double_starred_parameter}
+use Rattle.code_spec.specs.Code as code
+use Rattle.code_spec.specs.Code.{Name, BinaryOperator, addition, Expr, Exprs, no_exprs, an_expr, OptionalExpr, absent, present, Entries, no_entries, an_entry, Clauses, no_clauses, for_clause, if_clause, Pieces, no_pieces, text_piece, expr_piece, Parameters, no_parameters, required, defaulted, bare_star, starred_parameter, double_starred_parameter}
 use Rattle.star_spec.specs.Eval.{truth_of, members_of, new_list, new_dict, need_key, display_pair, turn_pair, and_values, and_fields, with_values, with_fields, field_in_front, as_fields, spread_fields, built_so_far, augment_row, eval, eval_all, eval_arguments, eval_optional, eval_entries, eval_pieces, comprehend, clauses_in_turn, default_values, assign_to, assign_each, augment_to}
 use Rattle.star_spec.specs.Flow.{Flow, on, out, Part, next_turn, turns, walk, over_members}
 use Rattle.star_spec.specs.Held.{HeldValue, HeldValues, HeldFields, HeldNumbers, HeldExpr, HeldExprs, HeldOptional, HeldEntries, HeldClauses, HeldPieces, HeldParameters, HeldList, has_equal_key, HeldPairs, HeldIfAny, HeldStore, HeldArguments}
-use Rattle.star_spec.specs.Keys.{same_key, key_offence, key_cost, further, place_of_key}
+use Rattle.star_spec.specs.Keys.{same_key, key_offence, key_cost, place_of_key}
+use Rattle.code_spec.specs.Options.{further}
 use Rattle.star_spec.specs.Language.{Call, breaks, continues, returns}
 use Rattle.star_spec.specs.Members.{keys_in, members_in, walked_in, truth_in}
-use Rattle.star_spec.specs.Names.{constant, own_functions, is_among, box_of, with_box, with_boxes, value_or_unset, unbound, read_name, fill_box, write_name, target_names, clauses_names}
+use Rattle.star_spec.specs.Names.{constant, box_of, with_box, with_boxes, value_or_unset, unbound, read_name, fill_box, write_name}
+use Rattle.code_spec.specs.Names.{own_functions, is_among, target_names, clauses_names}
 use Rattle.star_spec.specs.Operators.{unary_row, binary_row}
 use Rattle.star_spec.specs.Outcomes.{State, Computation, ◌>>=◌, give, reads}
 use Rattle.star_spec.specs.Store.{object_at, pairs_at, with_value, with_pair, put_pair, with_contents, begin_loop, end_loop, box_at}

@@ -4,4 +4,3 @@ pub mod EvalKeeps
 pub mod Keeping
 pub mod OperatorExamples
 pub mod RowsHeld
-pub mod UnbuiltBlocks

@@ -3,7 +3,7 @@ use Rattle.std.proofs.Common.{◌≡◌, ℕ, ℤ, pos, negsuc, ◌-◌, ◌^◌
 use Rattle.ytt_base.specs.declared.fault.FaultKind.{FaultKind}
 use Rattle.ytt_base.specs.declared.fault.FaultKind.TheVariants as kind
 use Rattle.ytt_base.specs.Outcomes.{fault_at, first_place}
-use Rattle.star_spec.specs.Code.{inversion, logical_not, BinaryOperator, addition, multiplication, floor_division, remainder, bit_and, shift_left, shift_right, equal, unequal, less, at_most, contained, not_contained}
+use Rattle.code_spec.specs.Code.{inversion, logical_not, BinaryOperator, addition, multiplication, floor_division, remainder, bit_and, shift_left, shift_right, equal, unequal, less, at_most, contained, not_contained}
 use Rattle.star_spec.specs.Operators.{unary_row, binary_row, tuple_of}
 use Rattle.star_spec.specs.Outcomes.{State, done, bad}
 use Rattle.star_spec.specs.Values.{Value, none_value, bool_value, int_value, text_value}

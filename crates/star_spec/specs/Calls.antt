@@ -5,8 +5,8 @@ use Rattle.std.specs.Prelude.{ℕ, zero, suc, List, [], ◌∷◌, Option, Some,
 use Rattle.ytt_base.specs.declared.fault.Fault.{Fault}
 use Rattle.ytt_base.specs.declared.fault.FaultKind.TheVariants as kind
 use Rattle.ytt_base.specs.declared.fault.Place.{Place}
-use Rattle.star_spec.specs.Code.{Name, Expr, Parameters}
-use Rattle.star_spec.specs.Program.{ItemKind}
+use Rattle.code_spec.specs.Code.{Name, Expr, Parameters}
+use Rattle.code_spec.specs.Program.{ItemKind}
 use Rattle.star_spec.specs.Values.{Value, function_value, builtin_value, method_value, native_value, Values, Arguments, one_value, Env, Function}
 use Rattle.star_spec.specs.Outcomes.{Ending, done, bad, then_do, Computation, paid, give, fail, or_fail, ill_formed, or_ill_formed, reads, ◌>>=◌}
 use Rattle.star_spec.specs.Language.{Call, Keyed, without_keys, asks_keys, Language}

@@ -1,7 +1,7 @@
 -- What parts of a block do, in sequence, in branches and in loops, to what is built so far (a K).
 use Rattle.std.specs.Prelude.{Bool, List, [], ◌∷◌, Option, Some, None, if◌then◌else◌}
 use Rattle.ytt_base.specs.declared.fault.Place.{Place}
-use Rattle.star_spec.specs.Code.{Expr}
+use Rattle.code_spec.specs.Code.{Expr}
 use Rattle.star_spec.specs.Values.{Value, Env}
 use Rattle.star_spec.specs.Outcomes.{Computation, paid, give, finally, on_store, ◌>>=◌}
 use Rattle.star_spec.specs.Members.{walked_in}

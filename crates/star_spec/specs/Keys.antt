@@ -4,6 +4,7 @@ use Rattle.ytt_base.specs.declared.fault.FaultKind.{FaultKind}
 use Rattle.ytt_base.specs.declared.fault.FaultKind.TheVariants as kind
 use Rattle.ytt_base.specs.Trees.{same_bool, same_integer}
 use Rattle.star_spec.specs.Values.{Value, none_value, bool_value, int_value, text_value, tuple_value, Values, no_values, a_value}
+use Rattle.code_spec.specs.Options.{or_else, further}
 
 -- the keys are equal: the kind counts too
 abbrev mutual
@@ -19,11 +20,6 @@ abbrev mutual
   same_keys no_values no_values = true
   same_keys (a_value a more) (a_value b others) = same_key a b && same_keys more others
   same_keys _ _ = false
-
--- the first of two
-abbrev pub or_else : {A : Type 0} → Option A → Option A → Option A
-or_else None o = o
-or_else (Some a) o = Some a
 
 -- why a value is no key, where so many tuples may stand in one another
 abbrev mutual
@@ -56,10 +52,6 @@ abbrev mutual
   key_costs (a_value v vs) = 1 + key_cost v + key_costs vs
 
 -- ---- pairs by their keys
-
-abbrev pub further : Option ℕ → Option ℕ
-further None = None
-further (Some n) = Some (suc n)
 
 -- where the first pair with this key stands
 abbrev pub place_of_key : Value → List (Value × Value) → Option ℕ

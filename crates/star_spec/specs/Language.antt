@@ -2,7 +2,7 @@
 -- a value is a parameter of each.
 use Rattle.std.specs.Prelude.{ℕ, Bool, List, Option, Some, None, codes}
 use Rattle.ytt_base.specs.declared.fault.Place.{Place}
-use Rattle.star_spec.specs.Code.{Name, Expr, Exprs, BinaryOperator, Parameters, Statement, evaluate, assign, augment, load, return, break, continue, pass}
+use Rattle.code_spec.specs.Code.{Name, Expr, Exprs, BinaryOperator, Parameters, Statement, evaluate, assign, augment, load, return, break, continue, pass}
 use Rattle.star_spec.specs.Values.{Value, function_value, Values, Arguments, Env, of_function}
 use Rattle.star_spec.specs.Outcomes.{Computation, paid, give, new_object, ◌>>=◌}
 

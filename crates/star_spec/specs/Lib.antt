@@ -1,9 +1,5 @@
-pub mod Allowed
 pub mod Binding
-pub mod Blocks
 pub mod Calls
-pub mod Code
-pub mod CodeReading
 pub mod Equality
 pub mod Eval
 pub mod Flow
@@ -13,13 +9,9 @@ pub mod Lambdas
 pub mod Language
 pub mod Members
 pub mod Names
-pub mod Numbering
 pub mod Numbers
 pub mod Operators
 pub mod Order
 pub mod Outcomes
-pub mod Program
-pub mod Scopes
 pub mod Store
-pub mod Unbuilt
 pub mod Values

@@ -4,7 +4,7 @@ use Rattle.std.specs.Prelude.{ℕ, zero, suc, ◌+◌, ◌*◌, ℤ, neg_ℤ, �
 use Rattle.std.specs.Int.{w128, int_bit_and, int_bit_or, int_bit_xor}
 use Rattle.ytt_base.specs.declared.fault.FaultKind.TheVariants as kind
 use Rattle.ytt_base.specs.declared.fault.Place.{Place}
-use Rattle.star_spec.specs.Code.{UnaryOperator, negation, positive, inversion, logical_not, BinaryOperator, addition, subtraction, multiplication, floor_division, remainder, bit_and, bit_or, bit_xor, shift_left, shift_right, equal, unequal, less, greater, at_most, at_least, contained, not_contained}
+use Rattle.code_spec.specs.Code.{UnaryOperator, negation, positive, inversion, logical_not, BinaryOperator, addition, subtraction, multiplication, floor_division, remainder, bit_and, bit_or, bit_xor, shift_left, shift_right, equal, unequal, less, greater, at_most, at_least, contained, not_contained}
 use Rattle.star_spec.specs.Values.{Value, bool_value, int_value, text_value, tuple_value, values_from, Store}
 use Rattle.star_spec.specs.Outcomes.{Computation, give, fail, not_built, paid_by, reads, ◌>>=◌}
 use Rattle.star_spec.specs.Numbers.{fits, is_zero, is_negative, at_least_zero, floor_quotient, floor_remainder, complement, shifted_left, shifted_right}

@@ -2,8 +2,8 @@
 use Rattle.std.specs.Prelude.{ℕ, ℤ, Bool, List, [], ◌∷◌, Option}
 use Rattle.ytt_base.specs.declared.fault.Place.{Place}
 use Rattle.ytt_base.specs.Trees.{Scalar, Tree}
-use Rattle.star_spec.specs.Code.{Name}
-use Rattle.star_spec.specs.Program.{ItemKind}
+use Rattle.code_spec.specs.Code.{Name}
+use Rattle.code_spec.specs.Program.{ItemKind}
 
 mutual
   -- A text is its bytes in UTF-8. A list, a dict and a function are the positions of their objects. A fragment is items

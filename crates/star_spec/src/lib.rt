@@ -1,3 +1,3 @@
-//! The definitions of Starlark code: its tokens, its grammar, its syntax as plain data, values, stores and steps, operators,
-//! evaluating, and programs. They stand in `specs/`.
+//! The definitions of what Starlark code means: values, stores and steps, operators, evaluating, and calls. They stand in
+//! `specs/`.
 #![tactic(auto)]

@@ -2,7 +2,7 @@
 use Rattle.std.proofs.Common.{◌≡◌, List, rules, ℤ, ℕ, Option, Some, None, refl, ◌∙◌}
 use Rattle.std.specs.Option.{option_map}
 use Rattle.ytt_base.specs.Outcomes.{place_at}
-use Rattle.star_spec.specs.Code as plain
+use Rattle.code_spec.specs.Code as plain
 use Rattle.star_tree.specs.declared.code.UnOp.{UnOp}
 use Rattle.star_tree.specs.declared.code.BinOp.{BinOp}
 use Rattle.star_tree.specs.declared.code.Clause.{Clause}

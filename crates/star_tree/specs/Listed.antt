@@ -1,6 +1,6 @@
 -- The plain data of parts of code.
 use Rattle.std.specs.Prelude.{ℕ, List, Option, Some, None, map as each}
-use Rattle.star_spec.specs.Code as plain
+use Rattle.code_spec.specs.Code as plain
 use Rattle.star_tree.specs.declared.code.Clause.{Clause, fold-Clause}
 use Rattle.star_tree.specs.declared.code.Entry.{Entry, fold-Entry}
 use Rattle.star_tree.specs.declared.code.Piece.{Piece, fold-Piece}

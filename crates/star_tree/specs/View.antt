@@ -1,6 +1,6 @@
 -- What items and nodes are, as plain data.
-use Rattle.star_spec.specs.Program as program
-use Rattle.star_spec.specs.Program.{document_item, pair_item, element_item, holds_one, holds_map, holds_list, holds_void}
+use Rattle.code_spec.specs.Program as program
+use Rattle.code_spec.specs.Program.{document_item, pair_item, element_item, holds_one, holds_map, holds_list, holds_void}
 use Rattle.star_tree.specs.declared.program.Holds.{Holds}
 use Rattle.star_tree.specs.declared.program.Holds.TheVariants as holds
 use Rattle.star_tree.specs.declared.program.ItemKind.{ItemKind}

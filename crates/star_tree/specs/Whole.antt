@@ -4,9 +4,9 @@ use Rattle.std.specs.Option.{option_map}
 use Rattle.ytt_base.specs.Outcomes.{place_at}
 use Rattle.ytt_base.specs.View.{key_of}
 use Rattle.star_tree.specs.View.{holds_of, item_kind_of}
-use Rattle.star_spec.specs.Code as plain
-use Rattle.star_spec.specs.CodeReading as read
-use Rattle.star_spec.specs.Program as program
+use Rattle.code_spec.specs.Code as plain
+use Rattle.code_spec.specs.CodeReading as read
+use Rattle.code_spec.specs.Program as program
 use Rattle.star_tree.specs.declared.code.UnOp.{UnOp}
 use Rattle.star_tree.specs.declared.code.UnOp.TheVariants as unary
 use Rattle.star_tree.specs.declared.code.BinOp.{BinOp}

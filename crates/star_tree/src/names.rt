@@ -1,6 +1,6 @@
 // The names of the language.
 ghost use Rattle.std.specs.Prelude.{◌≡◌, ◌++◌, map as each, IfOk, OnOk};
-ghost use Rattle.star_spec.specs.Names.{is_among, language_names, own_functions};
+ghost use Rattle.code_spec.specs.Names.{is_among, language_names, own_functions};
 
 use sqlite_items::Items;
 use std::alloc::Global;

@@ -1,7 +1,7 @@
 -- Statements one after another.
 use Rattle.std.proofs.Common.{◌≡◌, ℕ, List, [], ◌∷◌, ◌++◌, Option, Some, None, refl}
-use Rattle.star_spec.specs.Code.{evaluate, assign, augment, load, return, break, continue, pass}
-use Rattle.star_spec.specs.Program.{Instruction, part, statement, begin_if, begin_elif, begin_else, begin_for, begin_def, close}
+use Rattle.code_spec.specs.Code.{evaluate, assign, augment, load, return, break, continue, pass}
+use Rattle.code_spec.specs.Program.{Instruction, part, statement, begin_if, begin_elif, begin_else, begin_for, begin_def, close}
 use Rattle.template_spec.specs.OpenBlocks.{first_of}
 use Rattle.template_pass.specs.Levels.{Open, returned_in, statements_fault}
 use Rattle.template_checks.specs.Walk.{instruction_fault}

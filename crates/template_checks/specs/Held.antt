@@ -2,8 +2,8 @@
 use Rattle.std.specs.Prelude.{List, [], map as each, reverse, Option, option_map}
 use Rattle.ytt_base.specs.declared.fault.Fault.{Fault}
 use Rattle.ytt_base.specs.Outcomes.{fault_at}
-use Rattle.star_spec.specs.Code.{no_parameters}
-use Rattle.star_spec.specs.CodeReading.{Header, if_header, for_header, def_header, end_header}
+use Rattle.code_spec.specs.Code.{no_parameters}
+use Rattle.code_spec.specs.CodeReading.{Header, if_header, for_header, def_header, end_header}
 use Rattle.template_spec.specs.Misplaced.{Returned}
 use Rattle.template_pass.specs.Levels.{Open}
 use Rattle.template_checks.specs.declared.blocks.Block.{Block}

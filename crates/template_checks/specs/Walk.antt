@@ -4,9 +4,9 @@ use Rattle.std.specs.List.{list_any}
 use Rattle.ytt_base.specs.declared.fault.Fault.{Fault}
 use Rattle.ytt_base.specs.declared.fault.FaultKind.TheVariants as kind
 use Rattle.ytt_base.specs.Outcomes.{fault_at, place_at}
-use Rattle.star_spec.specs.Code.{Expr, name, no_parameters}
-use Rattle.star_spec.specs.CodeReading.{Header, if_header, elif_header, else_header, for_header, def_header, end_header}
-use Rattle.star_spec.specs.Program.{Instruction, statement}
+use Rattle.code_spec.specs.Code.{Expr, name, no_parameters}
+use Rattle.code_spec.specs.CodeReading.{Header, if_header, elif_header, else_header, for_header, def_header, end_header}
+use Rattle.code_spec.specs.Program.{Instruction, statement}
 use Rattle.template_spec.specs.Comments.{opens, elif, otherwise, closes}
 use Rattle.template_spec.specs.Misplaced.{Returned, fault_on, line_of, option_list}
 use Rattle.template_pass.specs.Building.{innermost}

@@ -5,8 +5,8 @@ use Rattle.ytt_laws.proofs.Yielded.{ok_same}
 use Rattle.ytt_base.specs.declared.fault.Fault.{Fault}
 use Rattle.ytt_base.specs.Outcomes.{Outcome, ◌>>=◌, place_at}
 use Rattle.yaml_spec.specs.Noted.{Comment, is_code, code_in}
-use Rattle.star_spec.specs.CodeReading.{CodeReader}
-use Rattle.star_spec.specs.Program.{ItemKind}
+use Rattle.code_spec.specs.CodeReading.{CodeReader}
+use Rattle.code_spec.specs.Program.{ItemKind}
 use Rattle.template_spec.specs.Comments.{Said, ignored, comment_said, without_end}
 use Rattle.template_spec.specs.Events.{Path, Raw, begun, trails, loose, Event, heard, gathered, continues_it}
 use Rattle.template_spec.specs.Events as events

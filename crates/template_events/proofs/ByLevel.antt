@@ -2,7 +2,7 @@
 use Rattle.std.proofs.Common.{◌≡◌, ℕ, suc, List, [], ◌∷◌, ◌++◌, Bool, true, false, Option, Some, None, refl, sym, ap, ◌∙◌, length, map as each, add-one}
 use Rattle.std.proofs.lemmas.List.{map-append}
 use Rattle.yaml_spec.specs.Noted.{Comment, Content, noted_scalar, noted_list, noted_map, Items, no_items, item, Documents}
-use Rattle.star_spec.specs.Program.{ItemKind, document_item, pair_item, element_item}
+use Rattle.code_spec.specs.Program.{ItemKind, document_item, pair_item, element_item}
 use Rattle.template_spec.specs.Events.{Path, is_collection, is_flow}
 use Rattle.template_pass.specs.Flat.{Flat, starts, trailing_of, alone, start, flat_items, flat_below, flat_text}
 use Rattle.template_pass.specs.Flat as flat

@@ -2,7 +2,7 @@
 use Rattle.std.proofs.Common.{◌≡◌, ℕ, suc, List, [], ◌∷◌, ◌++◌, Bool, true, false, Option, Some, None, refl, sym, ap, ◌∙◌, append_assoc, if◌then◌else◌}
 use Rattle.std.proofs.lemmas.List.{map-append}
 use Rattle.yaml_spec.specs.Noted.{Comment, Content, noted_scalar, noted_list, noted_map, Items, no_items, item, Documents}
-use Rattle.star_spec.specs.Program.{ItemKind, document_item, pair_item, element_item}
+use Rattle.code_spec.specs.Program.{ItemKind, document_item, pair_item, element_item}
 use Rattle.template_spec.specs.Events.{Path, Raw, begun, trails, loose, is_collection, is_flow, raw_items, raw_below, raw_text}
 use Rattle.template_spec.specs.Events as events
 use Rattle.template_pass.specs.Flat.{Flat, start, inside, flat_items, flat_below, flat_text, raw_of, raws_of}

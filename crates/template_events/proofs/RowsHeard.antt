@@ -6,7 +6,7 @@ use Rattle.ytt_base.specs.declared.fault.Stop.{Stop}
 use Rattle.ytt_base.specs.declared.fault.Stop.TheVariants as stop
 use Rattle.ytt_base.specs.Outcomes.{Gives, Outcome}
 use Rattle.yaml_spec.specs.Noted.{Documents}
-use Rattle.star_spec.specs.CodeReading.{CodeReader}
+use Rattle.code_spec.specs.CodeReading.{CodeReader}
 use Rattle.template_spec.specs.Events.{Event, events, heard, gathered, nothing, raw_text}
 use Rattle.template_pass.specs.Flat.{flat_text}
 use Rattle.template_pass.specs.Rows.{Bare, bare_event, bare_row, Row, flat_started}

@@ -2,7 +2,7 @@
 use Rattle.std.proofs.Common.{◌≡◌, ℕ, List, [], ◌∷◌, ◌++◌, Bool, true, false, Option, Some, None, Ok, Err, refl, ap, ◌∙◌, if◌then◌else◌}
 use Rattle.std.specs.Result.{IfOk}
 use Rattle.ytt_base.specs.Outcomes.{Outcome, ◌>>=◌, place_at}
-use Rattle.star_spec.specs.CodeReading.{CodeReader}
+use Rattle.code_spec.specs.CodeReading.{CodeReader}
 use Rattle.template_spec.specs.Comments.{Said, ignored, comment_said}
 use Rattle.yaml_spec.specs.Noted.{code_in}
 use Rattle.template_pass.specs.Flat.{Flat, starts, trailing_of, alone}

@@ -8,7 +8,7 @@ use Rattle.ytt_base.specs.Outcomes.{Outcome}
 use Rattle.ytt_laws.proofs.Yielded.{ok_same}
 use Rattle.template_pass.specs.Rows.{Row}
 use Rattle.star_grammar.specs.CodeReaders.{GivesCode, IsCodeReader}
-use Rattle.star_spec.specs.CodeReading.{CodeReader}
+use Rattle.code_spec.specs.CodeReading.{CodeReader}
 use Rattle.template_events.specs.declared.event.Part as code_part
 use Rattle.template_events.specs.declared.event.Row as code_row
 use Rattle.template_events.specs.declared.hear.Held as code_held

@@ -6,7 +6,7 @@ use Rattle.ytt_base.specs.declared.fault.Stop.TheVariants as stop
 use Rattle.ytt_base.specs.Outcomes.{Outcome}
 use Rattle.yaml_spec.specs.Noted.{Documents, code_in}
 use Rattle.star_grammar.specs.CodeReaders.{IsCodeReader}
-use Rattle.star_spec.specs.CodeReading.{CodeReader}
+use Rattle.code_spec.specs.CodeReading.{CodeReader}
 use Rattle.template_spec.specs.Events.{Event, events}
 use Rattle.notes_read.specs.Depths.{depth_of}
 use Rattle.template_pass.specs.Rows.{AreRows, Row}

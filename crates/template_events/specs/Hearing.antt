@@ -3,7 +3,7 @@ use Rattle.std.specs.Prelude.{ℕ, Bool, false, if◌then◌else◌, List, [], �
 use Rattle.ytt_base.specs.Outcomes.{Outcome, ◌>>=◌, place_at}
 use Rattle.yaml_spec.specs.Bytes.{line_feed}
 use Rattle.yaml_spec.specs.Noted.{Comment, code_in}
-use Rattle.star_spec.specs.CodeReading.{CodeReader}
+use Rattle.code_spec.specs.CodeReading.{CodeReader}
 use Rattle.template_spec.specs.Comments.{Said, ignored, comment_said}
 use Rattle.template_spec.specs.Events.{continues_it}
 use Rattle.template_pass.specs.Rows.{Row, begins, beside, says}

@@ -3,7 +3,7 @@ ghost use Rattle.std.specs.Prelude.{◌≡◌, ◌==◌, ◌&&◌, List, ◌++�
 ghost use Rattle.notes_read.specs.Depths as depths;
 ghost use Rattle.notes_read.specs.View.{said_of};
 ghost use Rattle.star_grammar.specs.CodeReaders.{GivesCode, IsCodeReader};
-ghost use Rattle.star_spec.specs.CodeReading.{CodeReader};
+ghost use Rattle.code_spec.specs.CodeReading.{CodeReader};
 ghost use Rattle.template_events.specs.declared.event.Part.TheVariants as part;
 ghost use Rattle.template_events.specs.Hearing as spec;
 ghost use Rattle.template_events.specs.Heard.{AreHeard, AreKnown, Continues, IsKnown, Takes};

@@ -1,7 +1,7 @@
 -- Rows and the events that they are, one by one.
 use Rattle.std.proofs.Common.{◌≡◌, ℕ, List, [], ◌∷◌, drop, map as each, Option, Some, None, refl, ◌∙◌, ap}
 use Rattle.ytt_base.specs.Trees.{Scalar}
-use Rattle.star_spec.specs.Program.{ItemKind}
+use Rattle.code_spec.specs.Program.{ItemKind}
 use Rattle.template_spec.specs.Events.{Event, begins, beside, says}
 use Rattle.template_spec.specs.OpenBlocks.{next_item}
 use Rattle.template_pass.specs.Flat.{Shape, a_map}

@@ -2,8 +2,8 @@
 use Rattle.std.proofs.Common.{◌≡◌, ℕ, suc, Bool, List, [], ◌∷◌, ◌++◌, length, drop, Option, Some, None, Ok, refl, sym, ◌∙◌, ap, subst}
 use Rattle.ytt_base.specs.declared.fault.Fault.{Fault}
 use Rattle.yaml_spec.specs.Noted.{Documents}
-use Rattle.star_spec.specs.CodeReading.{CodeReader}
-use Rattle.star_spec.specs.Program.{document_item}
+use Rattle.code_spec.specs.CodeReading.{CodeReader}
+use Rattle.code_spec.specs.Program.{document_item}
 use Rattle.template_spec.specs.Comments.{Said, ignored, a_note, a_value, statements, opens, elif, otherwise, closes}
 use Rattle.template_spec.specs.Events.{Path, Event, begins, beside, says, events}
 use Rattle.template_spec.specs.Misplaced.{event_fault, holder_at, returned_at, and_sound, Sound, sound_from, return_faults, note_faults, earliest, left_open, placing_fault, reversed}

@@ -1,7 +1,7 @@
 -- What is put, by paths in place of levels, and the slot of one collection alone.
 use Rattle.std.proofs.Common.{◌≡◌, ℕ, suc, Bool, List, [], ◌∷◌, length, bytes_eq, Option, if◌then◌else◌}
 use Rattle.ytt_base.specs.Trees.{Scalar}
-use Rattle.star_spec.specs.Program.{ItemKind}
+use Rattle.code_spec.specs.Program.{ItemKind}
 use Rattle.template_spec.specs.Comments.{Said}
 use Rattle.template_spec.specs.Events.{Path, Event, begins}
 use Rattle.template_spec.specs.OpenBlocks.{collection_of, so_far}

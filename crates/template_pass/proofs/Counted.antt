@@ -1,6 +1,6 @@
 -- How many items of a collection have begun: the item that began last, and those it is in, are the last of their collections.
 use Rattle.std.proofs.Common.{◌≡◌, ℕ, suc, ◌<◌, ◌≤◌, Bool, true, false, List, [], ◌∷◌, length, bytes_eq, ◌⊎◌, inl, inr, refl, sym, ◌∙◌, ap, subst, arith, if◌then◌else◌}
-use Rattle.star_spec.specs.Program.{ItemKind}
+use Rattle.code_spec.specs.Program.{ItemKind}
 use Rattle.template_spec.specs.Events.{Path, Event, begins}
 use Rattle.template_spec.specs.OpenBlocks.{collection_of, so_far}
 use Rattle.template_pass.proofs.Inside.{inside_split, inside_item, path_same, path_other}

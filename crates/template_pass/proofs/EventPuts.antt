@@ -1,6 +1,6 @@
 -- What the events of a text put, by paths; and their rows.
 use Rattle.std.proofs.Common.{◌≡◌, ℕ, suc, List, [], ◌∷◌, ◌++◌, length, drop, bytes_eq, map as each, Option, Some, None, refl, ◌∙◌, ap, if◌then◌else◌}
-use Rattle.star_spec.specs.Program.{document_item}
+use Rattle.code_spec.specs.Program.{document_item}
 use Rattle.template_spec.specs.Comments.{Said, ignored, a_note, a_value, statements, opens, elif, otherwise, closes}
 use Rattle.template_spec.specs.Events.{Path, Event, begins, beside, says}
 use Rattle.template_spec.specs.OpenBlocks.{collection_of, belongs, next_item, open_blocks, so_far}

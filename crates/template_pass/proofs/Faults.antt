@@ -5,9 +5,9 @@ use Rattle.ytt_base.specs.declared.fault.FaultKind.TheVariants as kind
 use Rattle.ytt_base.specs.Outcomes.{fault_at}
 use Rattle.ytt_base.specs.Trees.{Scalar}
 use Rattle.yaml_spec.specs.Noted.{Documents}
-use Rattle.star_spec.specs.Code.{Statement, load, return, break, continue}
-use Rattle.star_spec.specs.CodeReading.{CodeReader}
-use Rattle.star_spec.specs.Program.{ItemKind, document_item, Instruction, statement}
+use Rattle.code_spec.specs.Code.{Statement, load, return, break, continue}
+use Rattle.code_spec.specs.CodeReading.{CodeReader}
+use Rattle.code_spec.specs.Program.{ItemKind, document_item, Instruction, statement}
 use Rattle.template_spec.specs.Comments.{Said, a_note, statements, opens, elif, otherwise, closes, is_data_note}
 use Rattle.template_spec.specs.Events.{Path, Event, begins, beside, says, events}
 use Rattle.template_spec.specs.Misplaced.{max_blocks, is_def, is_for, unless, fault_on, innermost_def, innermost_loop, is_collection_of, no_block, statement_fault, statements_fault, may_wait, takes_branch, takes_end, said_fault, waiting_or_said, stays_within, event_fault, is_lost, note_fault, note_faults, Returned, returned_in, returned_at, holder_in, holder_at, return_faults, Sound, and_sound, sound_from, option_list, earliest, reversed, left_open, placing_fault}

@@ -3,7 +3,7 @@ use Rattle.std.proofs.Common.{◌≡◌, ℕ, zero, suc, ◌≤◌, Bool, true, 
 use Rattle.std.specs.Bool.{IsTrue}
 use Rattle.std.proofs.lemmas.Bool.Decides.{Decides-like, same_from_decides, nat_tests}
 use Rattle.std.proofs.lemmas.Slice.Eq.{bytes_eq-Decides}
-use Rattle.star_spec.specs.Program.{ItemKind}
+use Rattle.code_spec.specs.Program.{ItemKind}
 use Rattle.template_spec.specs.Events.{Path, Event, begins, beside, says}
 use Rattle.template_spec.specs.Misplaced.{stays_within}
 use Rattle.template_spec.specs.OpenBlocks.{collection_of, lies_in, Block, is_over, left_at, unclosed, open_blocks, so_far}

@@ -8,8 +8,8 @@ use Rattle.std.proofs.lemmas.Slice.Eq.{bytes_eq-Decides}
 use Rattle.ytt_base.specs.Outcomes.{place_at}
 use Rattle.ytt_laws.proofs.Yielded.{yielded_behind, yielded_then}
 use Rattle.yaml_spec.specs.Noted.{Comment, Note, Content, noted_scalar, noted_list, noted_map, Items, no_items, item, Documents}
-use Rattle.star_spec.specs.CodeReading.{CodeReader}
-use Rattle.star_spec.specs.Program.{ItemKind, document_item, pair_item, element_item}
+use Rattle.code_spec.specs.CodeReading.{CodeReader}
+use Rattle.code_spec.specs.Program.{ItemKind, document_item, pair_item, element_item}
 use Rattle.template_spec.specs.Comments.{Said, ignored, comment_said}
 use Rattle.template_spec.specs.Events.{Path, Raw, begun, trails, loose, loose_all, trailing, is_flow, is_collection, raw_items, raw_below, raw_text, Held, nothing, held, held_trailing, let_go, goes_on, grown, gathered, Event, begins, beside, says, spoken, heard, events}
 use Rattle.template_spec.specs.OpenBlocks.{collection_of, lies_in, so_far}

@@ -1,7 +1,7 @@
 -- The slots by levels are the slots by paths, for each collection that the last item is in.
 use Rattle.std.proofs.Common.{◌≡◌, ℕ, suc, ◌<◌, ◌≤◌, Bool, List, [], ◌∷◌, length, take, bytes_eq, map as each, ◌⊎◌, inl, inr, refl, sym, ◌∙◌, ap, subst, arith}
 use Rattle.std.proofs.lemmas.Bool.{cases_lt}
-use Rattle.star_spec.specs.Program.{ItemKind}
+use Rattle.code_spec.specs.Program.{ItemKind}
 use Rattle.template_spec.specs.Events.{Path, Event, begins}
 use Rattle.template_spec.specs.OpenBlocks.{collection_of, so_far}
 use Rattle.template_spec.specs.Nesting.{a_node, a_mark}

@@ -3,7 +3,7 @@ use Rattle.std.proofs.Common.{◌≡◌, ℕ, zero, ◌≤◌, Bool, true, false
 use Rattle.std.specs.Bool.{IsTrue}
 use Rattle.std.proofs.lemmas.List.{append-nil}
 use Rattle.ytt_base.specs.declared.fault.Fault.{Fault}
-use Rattle.star_spec.specs.CodeReading.{Header}
+use Rattle.code_spec.specs.CodeReading.{Header}
 use Rattle.template_spec.specs.Comments.{Said, opens, otherwise, closes}
 use Rattle.template_spec.specs.Events.{Path, Event, begins, beside, says}
 use Rattle.template_spec.specs.Misplaced.{unless, stays_within, waiting_or_said, event_fault}

@@ -2,7 +2,7 @@
 use Rattle.std.proofs.Common.{◌≡◌, ℕ, suc, ◌≤◌, Bool, true, false, List, [], ◌∷◌, ◌++◌, length, bytes_eq, refl, sym, ◌∙◌, ap, ap₂, arith, append-nil}
 use Rattle.yaml_spec.specs.Noted as noted
 use Rattle.yaml_spec.specs.Noted.{Note, noted_scalar, noted_list, noted_map}
-use Rattle.star_spec.specs.Program.{ItemKind, pair_item, element_item}
+use Rattle.code_spec.specs.Program.{ItemKind, pair_item, element_item}
 use Rattle.template_spec.specs.Events.{Path, Event}
 use Rattle.template_spec.specs.OpenBlocks.{collection_of}
 use Rattle.template_spec.specs.Nesting.{Part, a_node, marks, marks_at, nest, whole, node_at, parts, content, key_part, value_or, value_beside, notes_from, note_beside, events_at}

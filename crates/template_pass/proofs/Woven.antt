@@ -1,6 +1,6 @@
 -- What stands in a collection is its items with its marks between them, each mark behind so many items.
 use Rattle.std.proofs.Common.{◌≡◌, ℕ, suc, ◌<◌, Bool, true, false, ◌&&◌, ◌==◌, List, [], ◌∷◌, ◌++◌, bytes_eq, drop, Option, Some, None, refl, sym, ◌∙◌, ap, arith, ne_eqb, eq-eqb, if◌then◌else◌}
-use Rattle.star_spec.specs.Program.{ItemKind}
+use Rattle.code_spec.specs.Program.{ItemKind}
 use Rattle.template_spec.specs.Comments.{Said, ignored, a_note, a_value, statements, opens, elif, otherwise, closes}
 use Rattle.template_spec.specs.Events.{Path, Event, begins, beside, says}
 use Rattle.template_spec.specs.OpenBlocks.{collection_of, so_far}

@@ -3,8 +3,8 @@
 use Rattle.std.specs.Prelude.{ℕ, zero, suc, List, [], ◌∷◌, ◌++◌, take, Option, Some, None}
 use Rattle.ytt_base.specs.Outcomes.{place_at}
 use Rattle.ytt_base.specs.Trees.{Scalar}
-use Rattle.star_spec.specs.Code.{Name, Expr, Exprs}
-use Rattle.star_spec.specs.Program.{ItemKind, document_item, pair_item, element_item}
+use Rattle.code_spec.specs.Code.{Name, Expr, Exprs}
+use Rattle.code_spec.specs.Program.{ItemKind, document_item, pair_item, element_item}
 use Rattle.template_spec.specs.Comments.{Said, a_note, a_value, statements, opens, elif, otherwise, closes}
 use Rattle.template_spec.specs.Nesting.{Part, a_node, nest, whole, key_part, value_or, scalar_of}
 use Rattle.template_spec.specs.Nesting as nesting

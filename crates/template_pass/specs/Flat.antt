@@ -2,7 +2,7 @@
 use Rattle.std.specs.Prelude.{ℕ, suc, Bool, false, if◌then◌else◌, List, [], ◌∷◌, ◌++◌, map as each, Option, Some, None}
 use Rattle.ytt_base.specs.Trees.{Scalar, Tree}
 use Rattle.yaml_spec.specs.Noted.{Comment, Note, Content, noted_scalar, noted_list, noted_map, Items, no_items, item, Documents}
-use Rattle.star_spec.specs.Program.{ItemKind, document_item, pair_item, element_item}
+use Rattle.code_spec.specs.Program.{ItemKind, document_item, pair_item, element_item}
 use Rattle.template_spec.specs.Events.{Path, Raw, begun, trails, loose, is_collection, is_flow}
 
 -- what is written in an item

@@ -1,7 +1,7 @@
 -- What the passes by levels give is what placing says.
 use Rattle.std.specs.Prelude.{◌≡◌, ℕ, Bool, List, Ok, None}
 use Rattle.yaml_spec.specs.Noted.{Documents}
-use Rattle.star_spec.specs.CodeReading.{CodeReader}
+use Rattle.code_spec.specs.CodeReading.{CodeReader}
 use Rattle.template_spec.specs.Events.{Event, events}
 use Rattle.template_spec.specs.Misplaced.{placing_fault}
 use Rattle.template_spec.specs.Nesting.{placed_whole, template_of}

@@ -3,14 +3,13 @@ use Rattle.std.specs.Prelude.{ℕ, suc, Bool, true, false, not, ◌&&◌, ◌||�
 use Rattle.ytt_base.specs.declared.fault.Fault.{Fault}
 use Rattle.ytt_base.specs.declared.fault.FaultKind.TheVariants as kind
 use Rattle.ytt_base.specs.Outcomes.{fault_at}
-use Rattle.star_spec.specs.Code.{Statement, load, return, break, continue}
-use Rattle.star_spec.specs.CodeReading.{Header}
-use Rattle.star_spec.specs.Program.{Instruction, statement}
+use Rattle.code_spec.specs.Code.{Statement, load, return, break, continue}
+use Rattle.code_spec.specs.CodeReading.{Header}
+use Rattle.code_spec.specs.Program.{Instruction, statement, document_item}
 use Rattle.template_spec.specs.Comments.{Said, a_note, statements, opens, elif, otherwise, closes, is_data_note}
 use Rattle.template_spec.specs.Misplaced.{max_blocks, is_if, is_def, is_for, unless, fault_on, may_wait, beside_fault, is_document, Returned, return_faults, Sound, and_sound, option_list, earliest}
 use Rattle.template_spec.specs.OpenBlocks.{first_of}
 use Rattle.template_pass.specs.Rows.{Row, begins, beside, says}
-use Rattle.star_spec.specs.Program.{document_item}
 
 pub record Open : Type 0 where
   -- the level of the collection to which its opener belongs

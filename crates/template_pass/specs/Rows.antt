@@ -3,7 +3,7 @@
 use Rattle.std.specs.Prelude.{◌≡◌, ℕ, Bool, List, [], ◌∷◌, length, map as each, Option}
 use Rattle.ytt_base.specs.Trees.{Scalar}
 use Rattle.yaml_spec.specs.Noted.{Documents}
-use Rattle.star_spec.specs.Program.{ItemKind}
+use Rattle.code_spec.specs.Program.{ItemKind}
 use Rattle.template_spec.specs.Comments.{Said}
 use Rattle.template_spec.specs.Events.{Path, Event}
 use Rattle.template_spec.specs.Events as event

@@ -5,8 +5,8 @@ use Rattle.ytt_base.specs.declared.fault.Fault.{Fault}
 use Rattle.ytt_base.specs.declared.fault.FaultKind.TheVariants as kind
 use Rattle.ytt_base.specs.Outcomes.{Outcome, ◌>>=◌, fault_at}
 use Rattle.yaml_spec.specs.Noted.{Documents}
-use Rattle.star_spec.specs.CodeReading.{CodeReader}
-use Rattle.star_spec.specs.Program.{ItemKind, document_item, pair_item, element_item}
+use Rattle.code_spec.specs.CodeReading.{CodeReader}
+use Rattle.code_spec.specs.Program.{ItemKind, document_item, pair_item, element_item}
 use Rattle.template_spec.specs.Events.{Event, events}
 use Rattle.template_spec.specs.Misplaced.{and_sound, earliest, holder_at, left_open, note_faults, placing_fault, return_faults, Returned, returned_at, reversed, Sound, sound_from}
 use Rattle.template_spec.specs.Nesting.{Part, parts, placed_or, placed_whole, template_of}

@@ -4,9 +4,9 @@ use Rattle.std.specs.Bool.{IsTrue}
 use Rattle.std.specs.List.{list_any}
 use Rattle.ytt_base.specs.declared.fault.Place.{Place}
 use Rattle.ytt_base.specs.Outcomes.{place_at}
-use Rattle.star_spec.specs.Code.{Expr, Statement, load, return, break, continue}
-use Rattle.star_spec.specs.CodeReading.{Header, if_header, for_header, def_header}
-use Rattle.star_spec.specs.Program.{ItemKind, Instruction, statement}
+use Rattle.code_spec.specs.Code.{Expr, Statement, load, return, break, continue}
+use Rattle.code_spec.specs.CodeReading.{Header, if_header, for_header, def_header}
+use Rattle.code_spec.specs.Program.{ItemKind, Instruction, statement}
 use Rattle.template_spec.specs.Comments.{statements, opens, elif, otherwise, closes}
 use Rattle.template_spec.specs.Nesting.{Nested, broken, at_top, inside, Part, a_node, a_mark, around_one, block_of, last_branch, nest, next_branch, open_block, put, put_block, put_statements, whole}
 use Rattle.template_spec.specs.Template.{Item, node, code, if_block, for_block, def_block, Items, no_items, an_item, Branches, no_branch, else_branch, elif_branch, Content, written_value, value_from, pairs, elements, is_node, has_nodes, branches_have_nodes}

@@ -3,9 +3,9 @@ use Rattle.std.proofs.Common.{◌≡◌, true, false, [], ◌∷◌, refl}
 use Rattle.ytt_base.specs.declared.fault.FaultKind.TheVariants as kind
 use Rattle.ytt_base.specs.declared.fault.Place.{Place}
 use Rattle.ytt_base.specs.Outcomes.{fault_at}
-use Rattle.star_spec.specs.Code.{Expr, no_loaded, no_parameters, load, return}
-use Rattle.star_spec.specs.CodeReading.{if_header, for_header, def_header}
-use Rattle.star_spec.specs.Program.{document_item, pair_item, statement}
+use Rattle.code_spec.specs.Code.{Expr, no_loaded, no_parameters, load, return}
+use Rattle.code_spec.specs.CodeReading.{if_header, for_header, def_header}
+use Rattle.code_spec.specs.Program.{document_item, pair_item, statement}
 use Rattle.template_spec.specs.Comments.{opens, closes, statements}
 use Rattle.template_spec.specs.Events.{Event, begins, says}
 use Rattle.template_spec.specs.Misplaced.{fault_on, placing_fault}

@@ -11,9 +11,9 @@ use Rattle.ytt_laws.proofs.Yielded.{yielded_behind}
 use Rattle.yaml_spec.specs.Noted as noted
 use Rattle.yaml_spec.specs.Noted.{Note, Documents, noted_scalar, noted_list, noted_map}
 use Rattle.yaml_held.specs.Keyed.{KeyedItems, KeyedContent, KeyedDocuments}
-use Rattle.star_spec.specs.Code.{Expr}
-use Rattle.star_spec.specs.CodeReading.{CodeReader, Header, if_header, for_header, def_header}
-use Rattle.star_spec.specs.Program.{ItemKind, document_item, element_item, pair_item, Instruction, statement}
+use Rattle.code_spec.specs.Code.{Expr}
+use Rattle.code_spec.specs.CodeReading.{CodeReader, Header, if_header, for_header, def_header}
+use Rattle.code_spec.specs.Program.{ItemKind, document_item, element_item, pair_item, Instruction, statement}
 use Rattle.template_spec.specs.Comments.{Said, statements, opens, elif, otherwise, closes}
 use Rattle.template_spec.specs.Events.{Event, Path, events}
 use Rattle.template_spec.specs.Misplaced.{placing_fault}

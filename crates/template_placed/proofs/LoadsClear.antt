@@ -2,9 +2,9 @@
 use Rattle.std.proofs.Common.{◌≡◌, ℕ, suc, ◌<◌, ◌≤◌, Bool, true, false, not, ◌&&◌, ◌||◌, if◌then◌else◌, is_some, List, [], ◌∷◌, length, drop, bytes_eq, Option, Some, None, ◌⊎◌, inl, inr, refl, sym, ◌∙◌, ap, subst, arith}
 use Rattle.std.specs.Bool.{IsTrue}
 use Rattle.ytt_base.specs.declared.fault.FaultKind.TheVariants as kind
-use Rattle.star_spec.specs.Code.{load, return}
-use Rattle.star_spec.specs.Program.{ItemKind, Instruction, statement}
-use Rattle.star_spec.specs.CodeReading.{Header}
+use Rattle.code_spec.specs.Code.{load, return}
+use Rattle.code_spec.specs.Program.{ItemKind, Instruction, statement}
+use Rattle.code_spec.specs.CodeReading.{Header}
 use Rattle.template_pass.specs.Orderly.{Orderly}
 use Rattle.template_pass.proofs.Built.{NoneWrong}
 use Rattle.template_spec.specs.Comments.{Said, ignored, a_note, a_value, statements, opens, elif, otherwise, closes}

@@ -2,7 +2,7 @@
 use Rattle.std.proofs.Common.{◌≡◌, ℕ, suc, ◌<◌, ◌≤◌, Bool, true, false, not, ◌&&◌, if◌then◌else◌, is_some, List, [], ◌∷◌, length, bytes_eq, Option, Some, None, ◌⊎◌, inl, inr, refl, sym, ◌∙◌, ap, subst, arith}
 use Rattle.std.specs.Bool.{IsTrue}
 use Rattle.std.proofs.lemmas.Bool.{cases_lt}
-use Rattle.star_spec.specs.CodeReading.{Header, if_header, elif_header, else_header, for_header, def_header, end_header}
+use Rattle.code_spec.specs.CodeReading.{Header, if_header, elif_header, else_header, for_header, def_header, end_header}
 use Rattle.template_spec.specs.Events.{Path, Event}
 use Rattle.template_spec.specs.Misplaced.{is_def, is_for, innermost_def, innermost_loop, is_collection_of, is_waiting, stays_within, holder_in}
 use Rattle.template_spec.specs.OpenBlocks.{collection_of, lies_in, Block, belongs, is_over}

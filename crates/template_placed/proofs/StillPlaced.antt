@@ -3,8 +3,8 @@ use Rattle.std.proofs.Common.{length, ◌≡◌, ℕ, zero, Bool, true, false, n
 use Rattle.std.specs.Bool.{IsTrue}
 use Rattle.ytt_base.specs.declared.fault.Fault.{Fault}
 use Rattle.ytt_base.specs.declared.fault.FaultKind.TheVariants as kind
-use Rattle.star_spec.specs.Program.{ItemKind}
-use Rattle.star_spec.specs.CodeReading.{Header}
+use Rattle.code_spec.specs.Program.{ItemKind}
+use Rattle.code_spec.specs.CodeReading.{Header}
 use Rattle.template_spec.specs.Comments.{Said, otherwise, closes, ignored, a_note, a_value, statements, opens, elif}
 use Rattle.template_spec.specs.Events.{Path, Event, begins, says}
 use Rattle.template_spec.specs.Misplaced.{is_waiting, may_wait, stays_within, waiting_or_said, said_fault, fault_on}

@@ -1,7 +1,7 @@
 -- Texts in which no `return` and no `load` stands in an item of a block of which it is meant to be outside.
 use Rattle.std.specs.Prelude.{Bool, false, not, ◌&&◌, ◌||◌, List, [], ◌∷◌, bytes_eq, Some, IsTrue}
-use Rattle.star_spec.specs.Code.{Statement, load, return}
-use Rattle.star_spec.specs.Program.{Instruction, statement}
+use Rattle.code_spec.specs.Code.{Statement, load, return}
+use Rattle.code_spec.specs.Program.{Instruction, statement}
 use Rattle.template_spec.specs.Comments.{closes, statements}
 use Rattle.template_spec.specs.Events.{Path, Event, begins, beside, says}
 use Rattle.template_spec.specs.Misplaced.{innermost_def, is_collection_of, no_block}

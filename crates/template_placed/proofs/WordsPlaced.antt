@@ -3,9 +3,9 @@ use Rattle.std.proofs.Common.{◌≡◌, ℕ, suc, ◌<◌, ◌≤◌, Bool, tru
 use Rattle.std.specs.Bool.{IsTrue}
 use Rattle.std.proofs.lemmas.Bool.{cases_lt}
 use Rattle.ytt_base.specs.declared.fault.Place.{Place}
-use Rattle.star_spec.specs.Code.{Expr, Statement, load, return, break, continue}
-use Rattle.star_spec.specs.CodeReading.{Header}
-use Rattle.star_spec.specs.Program.{ItemKind, pair_item, element_item, Instruction, statement}
+use Rattle.code_spec.specs.Code.{Expr, Statement, load, return, break, continue}
+use Rattle.code_spec.specs.CodeReading.{Header}
+use Rattle.code_spec.specs.Program.{ItemKind, pair_item, element_item, Instruction, statement}
 use Rattle.template_spec.specs.Comments.{Said, ignored, a_note, a_value, statements, opens, elif, otherwise, closes}
 use Rattle.template_spec.specs.Events.{Path, Event, begins, beside, says}
 use Rattle.template_spec.specs.Misplaced.{innermost_def, no_block, may_wait, stays_within, statement_fault, statements_fault, Returned, returned_in, returned_at, holder_at}

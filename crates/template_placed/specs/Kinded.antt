@@ -1,6 +1,6 @@
 -- What placing gives, part by part: nodes of the kind of their collection with keys on pairs alone, and statements where they may stand.
 use Rattle.std.specs.Prelude.{◌≡◌, IsTrue}
-use Rattle.star_spec.specs.Program.{ItemKind, document_item, pair_item, element_item}
+use Rattle.code_spec.specs.Program.{ItemKind, document_item, pair_item, element_item}
 use Rattle.template_spec.specs.Placed.{KeyFits}
 use Rattle.template_spec.specs.Template.{Item, node, code, if_block, for_block, def_block, Items, no_items, an_item, Branches, no_branch, else_branch, elif_branch, Content, written_value, value_from, pairs, elements, fragment_kind}
 use Rattle.template_spec.specs.WellNested.{Ways, in_a_node, in_a_branch, in_a_loop, in_a_function, stands}

@@ -2,7 +2,7 @@
 use Rattle.std.specs.Prelude.{◌≡◌, ℕ, Bool, Ok}
 use Rattle.yaml_held.specs.Keyed.{KeyedDocuments}
 use Rattle.yaml_spec.specs.Noted.{Documents}
-use Rattle.star_spec.specs.CodeReading.{CodeReader}
+use Rattle.code_spec.specs.CodeReading.{CodeReader}
 use Rattle.template_spec.specs.Nesting.{placed_whole}
 use Rattle.template_spec.specs.Placed.{Placed}
 use Rattle.template_spec.specs.Template.{Items}

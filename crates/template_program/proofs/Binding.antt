@@ -4,10 +4,10 @@ use Rattle.std.proofs.lemmas.Slice.Eq.{bytes_eq-Decides}
 use Rattle.std.specs.List.{list_any, position, position_or_len}
 use Rattle.std.specs.Prelude.{bytes_eq}
 use Rattle.ytt_base.specs.declared.fault.Place.{Place}
-use Rattle.star_spec.specs.Code.{Name, Expr, int, text, name, list, tuple, dict, unary, binary, conjunction, disjunction, conditional, call, named, starred, double_starred, index, slice, attribute, lambda, list_comprehension, dict_comprehension, text_template, Exprs, no_exprs, an_expr, Statement, evaluate, assign, augment, load, return, break, continue, pass}
-use Rattle.star_spec.specs.Names.{is_among, own_functions}
-use Rattle.star_spec.specs.Program.{NodePart, node_start, node_note, node_key, node_key_from, node_value, node_value_from, node_end, Instruction, part, statement, begin_if, begin_elif, begin_else, begin_for, begin_def, close}
-use Rattle.star_spec.specs.Unbuilt.{is_built_name, unless_built, unbuilt_expr, unbuilt_exprs, unbuilt_target, unbuilt_targets, unbuilt_statement, unbuilt_part, unbuilt_instruction, unbuilt_code}
+use Rattle.code_spec.specs.Code.{Name, Expr, int, text, name, list, tuple, dict, unary, binary, conjunction, disjunction, conditional, call, named, starred, double_starred, index, slice, attribute, lambda, list_comprehension, dict_comprehension, text_template, Exprs, no_exprs, an_expr, Statement, evaluate, assign, augment, load, return, break, continue, pass}
+use Rattle.code_spec.specs.Names.{is_among, own_functions}
+use Rattle.code_spec.specs.Program.{NodePart, node_start, node_note, node_key, node_key_from, node_value, node_value_from, node_end, Instruction, part, statement, begin_if, begin_elif, begin_else, begin_for, begin_def, close}
+use Rattle.code_spec.specs.Unbuilt.{is_built_name, unless_built, unbuilt_expr, unbuilt_exprs, unbuilt_target, unbuilt_targets, unbuilt_statement, unbuilt_part, unbuilt_instruction, unbuilt_code}
 use Rattle.star_resolve.specs.Variables.{each_once, with_each, with_name}
 use Rattle.star_resolve.proofs.Found.{any_more, or_false}
 use Rattle.star_resolve.proofs.Sets.{position_by}

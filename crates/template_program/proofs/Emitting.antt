@@ -3,7 +3,7 @@ use Rattle.std.proofs.Common.{◌≡◌, ℕ, ◌+◌, ◌<◌, ◌≤◌, List,
 use Rattle.std.proofs.lemmas.List.{drop_all}
 use Rattle.ytt_base.specs.declared.text.Memory.{Memory}
 use Rattle.ytt_laws.proofs.Lists.{dropped}
-use Rattle.star_spec.specs.Program.{Instruction}
+use Rattle.code_spec.specs.Program.{Instruction}
 use Rattle.star_tree.specs.declared.code.Stmt.{Stmt}
 use Rattle.star_tree.specs.Whole.{instruction_of, instructions_of}
 use Rattle.template_program.specs.Emits.{Emits}

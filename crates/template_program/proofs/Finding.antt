@@ -4,9 +4,9 @@ use Rattle.std.specs.Str.{is_utf8}
 use Rattle.std.proofs.lemmas.List.{drop_more, drop_all}
 use Rattle.ytt_base.specs.declared.fault.Place.{Place}
 use Rattle.ytt_base.specs.Outcomes.{place_at}
-use Rattle.star_spec.specs.Code as plain
-use Rattle.star_spec.specs.Code.{Name}
-use Rattle.star_spec.specs.Unbuilt.{unbuilt_expr, unless_built}
+use Rattle.code_spec.specs.Code as plain
+use Rattle.code_spec.specs.Code.{Name}
+use Rattle.code_spec.specs.Unbuilt.{unbuilt_expr, unless_built}
 use Rattle.star_tree.proofs.Forms.{expr_of-And, expr_of-Binary, expr_of-Or, expr_of-Text}
 use Rattle.star_tree.specs.Whole.{expr_of}
 use Rattle.star_tree.specs.declared.code.BinOp.{BinOp}

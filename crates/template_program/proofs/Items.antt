@@ -1,6 +1,6 @@
 -- What a node holds, by what stands in it.
 use Rattle.std.proofs.Common.{◌≡◌, ℕ, List, Option, None, Bool, if◌then◌else◌, sym, ap, ◌∙◌}
-use Rattle.star_spec.specs.Program.{holds_map, holds_list, holds_void}
+use Rattle.code_spec.specs.Program.{holds_map, holds_list, holds_void}
 use Rattle.star_tree.specs.declared.code.Expr.{Expr}
 use Rattle.template_spec.specs.Compiled.{holds_of}
 use Rattle.template_spec.specs.Template.{is_void}

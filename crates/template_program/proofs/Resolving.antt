@@ -4,13 +4,13 @@ use Rattle.ytt_base.specs.Outcomes.{Outcome, Gives}
 use Rattle.ytt_base.specs.declared.fault.Fault.{Fault}
 use Rattle.ytt_base.specs.declared.fault.Stop.{Stop}
 use Rattle.ytt_base.specs.declared.fault.Stop.TheVariants as stop
-use Rattle.star_spec.specs.Blocks.{blocks, whole, no_ops}
-use Rattle.star_spec.specs.Program.{Instruction}
-use Rattle.star_spec.specs.Scopes.{Use, program_names, program_uses, names_of_file, uses_of_file, unknown_first}
+use Rattle.code_spec.specs.Blocks.{blocks, whole, no_ops}
+use Rattle.code_spec.specs.Program.{Instruction}
+use Rattle.code_spec.specs.Scopes.{Use, program_names, program_uses, names_of_file, uses_of_file, unknown_first}
 use Rattle.star_resolve.specs.Variables.{IfFault, fault_of_use, program_fault}
 use Rattle.template_spec.specs.Compiled.{compiled}
 use Rattle.template_spec.specs.Names.{items_names}
-use Rattle.star_spec.specs.Names.{language_names}
+use Rattle.code_spec.specs.Names.{language_names}
 use Rattle.template_spec.specs.Passes.{bound, unless_unknown}
 use Rattle.template_spec.specs.Template.{Items}
 use Rattle.template_spec.specs.Uses.{items_uses}

@@ -5,10 +5,10 @@ use Rattle.ytt_base.specs.declared.fault.FaultKind.TheVariants as kind
 use Rattle.ytt_base.specs.declared.fault.Place.{Place}
 use Rattle.ytt_base.specs.declared.fault.Stop.{Stop}
 use Rattle.ytt_base.specs.declared.fault.Stop.TheVariants as stop
-use Rattle.star_spec.specs.Code.{Name}
-use Rattle.star_spec.specs.Program.{Instruction}
-use Rattle.star_spec.specs.Scopes.{program_names}
-use Rattle.star_spec.specs.Unbuilt.{unbuilt_code}
+use Rattle.code_spec.specs.Code.{Name}
+use Rattle.code_spec.specs.Program.{Instruction}
+use Rattle.code_spec.specs.Scopes.{program_names}
+use Rattle.code_spec.specs.Unbuilt.{unbuilt_code}
 use Rattle.star_resolve.specs.Variables.{each_once}
 use Rattle.template_spec.specs.Compiled.{compiled}
 use Rattle.template_spec.specs.Names.{items_names}

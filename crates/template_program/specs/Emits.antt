@@ -1,6 +1,6 @@
 -- What is put behind the instructions of a program.
 use Rattle.std.specs.Prelude.{◌≡◌, ℕ, List, ◌++◌}
-use Rattle.star_spec.specs.Program.{Instruction}
+use Rattle.code_spec.specs.Program.{Instruction}
 use Rattle.star_tree.specs.declared.code.Stmt.{Stmt}
 use Rattle.star_tree.specs.Whole.{instructions_of}
 

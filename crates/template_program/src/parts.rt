@@ -1,6 +1,6 @@
 // Instructions put behind others: the parts of nodes, statements, the heads and ends of blocks.
 ghost use Rattle.std.specs.Prelude.{◌≡◌, ◌∷◌, IfOk, OnOk, option_map, ℕ};
-ghost use Rattle.star_spec.specs.Program.{begin_def, begin_elif, begin_for, begin_if, part};
+ghost use Rattle.code_spec.specs.Program.{begin_def, begin_elif, begin_for, begin_if, part};
 ghost use Rattle.star_tree.specs.View.{item_kind_of};
 ghost use Rattle.star_tree.specs.Whole.{expr_of, instruction_of, parameters_of, part_of};
 ghost use Rattle.template_tree.specs.View.{code_of, in_key, notes_of};

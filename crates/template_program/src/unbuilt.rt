@@ -2,8 +2,8 @@
 ghost use Rattle.std.specs.Prelude.{◌≡◌, List, [], ◌∷◌, ◌++◌, true, ℕ};
 ghost use Rattle.std.specs.Str.{is_utf8};
 ghost use Rattle.star_tree.specs.Whole.{expr_of, exprs_of, instruction_of, part_of, program_of};
-ghost use Rattle.star_spec.specs.Code.{Name, int, name as plain_name};
-ghost use Rattle.star_spec.specs.Unbuilt.{is_built_name, unbuilt_code, unbuilt_expr, unbuilt_exprs, unbuilt_instruction, unbuilt_part, unbuilt_target, unbuilt_targets, unless_built};
+ghost use Rattle.code_spec.specs.Code.{Name, int, name as plain_name};
+ghost use Rattle.code_spec.specs.Unbuilt.{is_built_name, unbuilt_code, unbuilt_expr, unbuilt_exprs, unbuilt_instruction, unbuilt_part, unbuilt_target, unbuilt_targets, unless_built};
 ghost use Rattle.template_program.specs.Places.{earlier};
 ghost use Rattle.template_spec.specs.Unbuilt.{first_unbuilt as plain_first};
 ghost use Rattle.ytt_base.specs.Outcomes.{place_at};

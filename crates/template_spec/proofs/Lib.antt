@@ -1,16 +1,8 @@
-pub mod BuildKeeps
-pub mod Examples
-pub mod Follows
-pub mod Functions
-pub mod Leaving
 pub mod NamesAgree
 pub mod Nested
 pub mod NestedWords
 pub mod Nesting
 pub mod Numbers
-pub mod Runs
-pub mod TakeKeeps
-pub mod Theorem
 pub mod UnbuiltAgree
 pub mod UsesAgree
 pub mod WholeExamples

@@ -1,10 +1,10 @@
 -- A compiled template parses into its blocks.
-use Rattle.std.proofs.Common.{◌≡◌, List, [], ◌∷◌, refl, ap, ◌∙◌}
+use Rattle.std.proofs.Common.{◌≡◌, List, [], ◌∷◌, refl, ap, ◌∙◌, Some}
 use Rattle.ytt_base.specs.declared.fault.Place.{Place}
 use Rattle.template_spec.specs.Template.{Notes, no_notes, note, Key, no_key, written_key, key_from, Item, node, code, if_block, for_block, def_block, Items, no_items, an_item, Branches, no_branch, else_branch, elif_branch, Content, written_value, value_from, pairs, elements}
-use Rattle.star_spec.specs.Program.{node_start, node_note, node_key, node_key_from, node_value, node_value_from, node_end, Instruction, part, close}
-use Rattle.template_spec.specs.Compiled.{notes_code, fragment_of, holds_of, key_code, item_code, items_code, branches_code, content_code}
-use Rattle.star_spec.specs.Blocks.{Op, op_part, op_statement, op_if, op_for, op_def, Ops, no_ops, an_op, Arms, no_arm, else_arm, arm, Parsed, broken, at_top, inside, put, open_if, next_arm, last_arm, open_block, parse}
+use Rattle.code_spec.specs.Program.{node_start, node_note, node_key, node_key_from, node_value, node_value_from, node_end, Instruction, part, close}
+use Rattle.template_spec.specs.Compiled.{notes_code, fragment_of, holds_of, key_code, item_code, items_code, branches_code, content_code, compiled}
+use Rattle.code_spec.specs.Blocks.{Op, op_part, op_statement, op_if, op_for, op_def, Ops, no_ops, an_op, Arms, no_arm, else_arm, arm, Parsed, broken, at_top, inside, put, open_if, next_arm, last_arm, open_block, parse, whole, blocks}
 
 abbrev pub notes_ops : Notes → Ops → Ops
 notes_ops no_notes os = os
@@ -108,3 +108,9 @@ mutual
 -- the blocks of a compiled template are closed where they should be
 pub compiled_blocks : (t : Items) → parse (items_code t []) ≡ at_top (items_ops t no_ops)
 compiled_blocks t = items_blocks t []
+
+abbrev pub to_ops : Items → Ops
+to_ops t = items_ops t no_ops
+
+pub blocks_of : (t : Items) → blocks (compiled t) ≡ Some (to_ops t)
+blocks_of t = ap whole (compiled_blocks t)

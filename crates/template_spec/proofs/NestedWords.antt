@@ -1,16 +1,15 @@
 -- Where the program of a template is well nested, the control words of the template stand where they may.
 use Rattle.std.proofs.Common.{◌≡◌, List, [], ◌∷◌, Bool, true, false, IsTrue, refl, sym, ◌∙◌, subst}
 use Rattle.ytt_base.specs.declared.fault.Place.{Place}
-use Rattle.star_spec.specs.Code.{Statement, evaluate, assign, augment, load, return, break, continue, pass}
-use Rattle.star_spec.specs.Program.{ItemKind, document_item, pair_item, element_item, Holds, holds_one, holds_map, holds_list, holds_void, node_end}
-use Rattle.star_spec.specs.Blocks.{op_part, Ops, no_ops, an_op, blocks}
+use Rattle.code_spec.specs.Code.{Statement, evaluate, assign, augment, load, return, break, continue, pass}
+use Rattle.code_spec.specs.Program.{ItemKind, document_item, pair_item, element_item, Holds, holds_one, holds_map, holds_list, holds_void, node_end}
+use Rattle.code_spec.specs.Blocks.{op_part, Ops, no_ops, an_op, blocks}
 use Rattle.template_spec.specs.Template.{Notes, no_notes, note, Key, no_key, written_key, key_from, Item, node, code, if_block, for_block, def_block, Items, no_items, an_item, Branches, no_branch, else_branch, elif_branch, Content, written_value, value_from, pairs, elements}
 use Rattle.template_spec.specs.Compiled.{holds_of, fragment_of, compiled}
 use Rattle.template_spec.specs.ControlWords.{Around, free, in_loop, in_node, within_loop, MayStand, ItemWordsStand, WordsStand, BranchWordsStand, ContentWordsStand}
 use Rattle.template_spec.specs.Placed.{Placed}
 use Rattle.template_spec.specs.WellNested.{Stage, begun, keyed, filled, place_of, past_key, inner_kind, is_inner, when_true, with_value, in_front_of, may_end, Ways, in_a_file, in_a_branch, in_a_loop, in_a_function, ways_at, stands, block_of, IfAny, Nested, NestedArms, WellNestedBlocks}
-use Rattle.template_spec.proofs.Nested.{notes_ops, key_ops, item_ops, items_ops, arms, content_ops}
-use Rattle.template_spec.proofs.Functions.{blocks_of}
+use Rattle.template_spec.proofs.Nested.{notes_ops, key_ops, item_ops, items_ops, arms, content_ops, blocks_of}
 use Rattle.template_spec.proofs.Nesting.{past_past, ways_here, ways_same, placed_nested}
 
 -- the ways let no word out that may not leave

@@ -1,15 +1,13 @@
 -- The program of a placed template is well nested.
 use Rattle.std.proofs.Common.{◌≡◌, List, [], ◌∷◌, Some, None, Bool, true, false, ◌||◌, ◌&&◌, not, if◌then◌else◌, IsTrue, refl, sym, ap, ◌∙◌, subst}
 use Rattle.ytt_base.specs.declared.fault.Place.{Place}
-use Rattle.star_spec.specs.Program.{ItemKind, document_item, pair_item, element_item, Holds, holds_one, holds_map, holds_list, holds_void, node_end, Instruction}
-use Rattle.star_spec.specs.Blocks.{op_part, Ops, no_ops, an_op, blocks}
+use Rattle.code_spec.specs.Program.{ItemKind, document_item, pair_item, element_item, Holds, holds_one, holds_map, holds_list, holds_void, node_end, Instruction, same_kind}
+use Rattle.code_spec.specs.Blocks.{op_part, Ops, no_ops, an_op, blocks}
 use Rattle.template_spec.specs.Template.{Notes, no_notes, note, Key, no_key, written_key, key_from, Item, node, code, if_block, for_block, def_block, Items, no_items, an_item, Branches, no_branch, else_branch, elif_branch, Content, written_value, value_from, pairs, elements, is_node, has_nodes, has_written, branches_have_nodes, is_void}
 use Rattle.template_spec.specs.Compiled.{holds_of, notes_code, key_code, item_code, items_code, branches_code, content_code, compiled}
-use Rattle.template_spec.specs.Take.{same_kind}
 use Rattle.template_spec.specs.Placed.{KeyFits, PlacedItem, PlacedItems, PlacedBranches, PlacedContent, Placed, AllowedNotes, AllowedKey, AllowedItem, AllowedItems, AllowedBranches, AllowedContent}
 use Rattle.template_spec.specs.WellNested.{Stage, begun, keyed, filled, place_of, past_key, inner_kind, is_open, is_inner, when_true, with_value, in_front_of, may_end, Ways, in_a_file, in_a_node, in_a_branch, in_a_loop, in_a_function, ways_at, stands, block_of, IfAny, Nested, NestedArms, WellNestedBlocks, WellNested, AllowedProgram}
-use Rattle.template_spec.proofs.Nested.{notes_ops, key_ops, item_ops, items_ops, arms, content_ops}
-use Rattle.template_spec.proofs.Functions.{blocks_of}
+use Rattle.template_spec.proofs.Nested.{notes_ops, key_ops, item_ops, items_ops, arms, content_ops, blocks_of}
 
 -- ---- stages
 

@@ -1,8 +1,8 @@
 -- A program gets the numbers that its template gets.
 use Rattle.std.proofs.Common.{◌≡◌, ℕ, suc, List, [], ◌∷◌, ◌||◌, ◌&&◌, not, if◌then◌else◌, Some, None, refl, sym, ap, ◌∙◌}
 use Rattle.ytt_base.specs.declared.fault.Place.{Place}
-use Rattle.star_spec.specs.Program.{ItemKind, holds_void, holds_map, holds_list, node_start, node_note, node_end, Instruction, part, begin_if, begin_else, begin_elif, begin_for, begin_def, close}
-use Rattle.star_spec.specs.Numbering.{number_expr, number_exprs, number_parameters}
+use Rattle.code_spec.specs.Program.{ItemKind, holds_void, holds_map, holds_list, node_start, node_note, node_end, Instruction, part, begin_if, begin_else, begin_elif, begin_for, begin_def, close}
+use Rattle.code_spec.specs.Numbering.{number_expr, number_exprs, number_parameters}
 use Rattle.template_spec.specs.Template.{Notes, no_notes, note, Key, no_key, written_key, key_from, Item, node, code, if_block, for_block, def_block, Items, no_items, an_item, Branches, no_branch, else_branch, elif_branch, Content, written_value, value_from, pairs, elements, is_node, has_nodes, branches_have_nodes, is_written, has_written, branches_have_written}
 use Rattle.template_spec.specs.Compiled.{holds_of, fragment_of, notes_code, key_code, item_code, items_code, branches_code, content_code, compiled}
 use Rattle.template_spec.specs.Numbered.{number_notes, number_key, number_item, number_items, number_branches, number_content, numbered, number_program, numbered_program}

@@ -1,9 +1,9 @@
 -- What of a compiled template isn't built is what isn't of the template.
 use Rattle.std.proofs.Common.{◌≡◌, ◌++◌, List, [], ◌∷◌, refl, sym, ap, ◌∙◌, append_assoc, append-nil}
 use Rattle.ytt_base.specs.declared.fault.Place.{Place}
-use Rattle.star_spec.specs.Code.{Name}
-use Rattle.star_spec.specs.Program.{Instruction, part, node_end, close}
-use Rattle.star_spec.specs.Unbuilt.{unbuilt_code, unbuilt_expr, unbuilt_target}
+use Rattle.code_spec.specs.Code.{Name}
+use Rattle.code_spec.specs.Program.{Instruction, part, node_end, close}
+use Rattle.code_spec.specs.Unbuilt.{unbuilt_code, unbuilt_expr, unbuilt_target}
 use Rattle.template_spec.specs.Compiled.{compiled, notes_code, key_code, item_code, items_code, branches_code, content_code}
 use Rattle.template_spec.specs.Template.{Notes, no_notes, note, Key, no_key, written_key, key_from, Item, node, code, if_block, for_block, def_block, Items, no_items, an_item, Branches, no_branch, else_branch, elif_branch, Content, written_value, value_from, pairs, elements}
 use Rattle.template_spec.specs.Unbuilt.{unbuilt_notes, unbuilt_key, unbuilt_item, unbuilt_items, unbuilt_branches, unbuilt_content}

@@ -1,10 +1,10 @@
 -- The names that stand in a compiled template are those that stand in the template.
 use Rattle.std.proofs.Common.{◌≡◌, ◌++◌, List, [], ◌∷◌, refl, sym, ap, ◌∙◌, append_assoc, append-nil}
 use Rattle.ytt_base.specs.declared.fault.Place.{Place}
-use Rattle.star_spec.specs.Allowed.{parameter_names}
-use Rattle.star_spec.specs.Blocks.{op_part, Ops, no_ops, an_op}
-use Rattle.star_spec.specs.Program.{node_end}
-use Rattle.star_spec.specs.Scopes.{Around, use_at, expr_uses, exprs_uses, parameters_uses, ops_uses, arms_uses}
+use Rattle.code_spec.specs.Allowed.{parameter_names}
+use Rattle.code_spec.specs.Blocks.{op_part, Ops, no_ops, an_op}
+use Rattle.code_spec.specs.Program.{node_end}
+use Rattle.code_spec.specs.Scopes.{Around, use_at, expr_uses, exprs_uses, parameters_uses, ops_uses, arms_uses}
 use Rattle.template_spec.specs.Names.{items_names}
 use Rattle.template_spec.specs.Template.{Notes, no_notes, note, Key, no_key, written_key, key_from, Item, node, code, if_block, for_block, def_block, Items, no_items, an_item, Branches, no_branch, else_branch, elif_branch, Content, written_value, value_from, pairs, elements}
 use Rattle.template_spec.specs.Uses.{notes_uses, key_uses, item_uses, items_uses, branches_uses, content_uses}

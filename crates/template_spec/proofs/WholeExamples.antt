@@ -23,9 +23,9 @@ use Rattle.yaml_spec.specs.Values.{noted as with_comment, ended, value}
 use Rattle.yaml_spec.specs.Rows.{key_at, heads_of, row_at, taken, rows}
 use Rattle.yaml_spec.specs.Entries.{cut_after, content_of, entry_content, entry, entry_at, entries, Doc}
 use Rattle.yaml_spec.specs.Read.{segments, explicit, ended as read_ended, documents, implicit, Read}
-use Rattle.star_spec.specs.Code.{Expr, Exprs, no_exprs, an_expr, name, no_parameters, no_loaded, Statement, load, return, break, continue, pass}
-use Rattle.star_spec.specs.CodeReading.{CodeReader, Header, if_header, elif_header, else_header, for_header, def_header, end_header}
-use Rattle.star_spec.specs.Program.{statement, document_item, pair_item, element_item}
+use Rattle.code_spec.specs.Code.{Expr, Exprs, no_exprs, an_expr, name, no_parameters, no_loaded, Statement, load, return, break, continue, pass}
+use Rattle.code_spec.specs.CodeReading.{CodeReader, Header, if_header, elif_header, else_header, for_header, def_header, end_header}
+use Rattle.code_spec.specs.Program.{statement, document_item, pair_item, element_item}
 use Rattle.template_spec.specs.Comments.{begins_with_word, comment_said}
 use Rattle.template_spec.specs.Events.{events}
 use Rattle.template_spec.specs.Misplaced.{placing_fault}

@@ -8,9 +8,9 @@ use Rattle.ytt_base.specs.Outcomes.{Outcome, ◌>>=◌}
 use Rattle.yaml_spec.specs.Bytes.{first, is_empty, is_word, skip_white, space}
 use Rattle.yaml_spec.specs.Noted.{Comment, is_note, is_code, code_in}
 use Rattle.yaml_spec.specs.Refusals.{refused}
-use Rattle.star_spec.specs.Code.{Name, Expr, Exprs, no_exprs, an_expr}
-use Rattle.star_spec.specs.CodeReading.{CodeReader, Header, elif_header, else_header, end_header}
-use Rattle.star_spec.specs.Program.{Instruction}
+use Rattle.code_spec.specs.Code.{Name, Expr, Exprs, no_exprs, an_expr}
+use Rattle.code_spec.specs.CodeReading.{CodeReader, Header, elif_header, else_header, end_header}
+use Rattle.code_spec.specs.Program.{Instruction}
 
 -- what a comment says
 pub data Said : Type 0 where

@@ -1,7 +1,7 @@
 -- From a template to its program.
 use Rattle.std.specs.Prelude.{List, [], ◌∷◌, Option, Some, None, if◌then◌else◌}
 use Rattle.ytt_base.specs.declared.fault.Place.{Place}
-use Rattle.star_spec.specs.Program.{ItemKind, Holds, holds_one, holds_map, holds_list, holds_void, node_start, node_note, node_key, node_key_from, node_value, node_value_from, node_end, Instruction, part, statement, begin_if, begin_elif, begin_else, begin_for, begin_def, close}
+use Rattle.code_spec.specs.Program.{ItemKind, Holds, holds_one, holds_map, holds_list, holds_void, node_start, node_note, node_key, node_key_from, node_value, node_value_from, node_end, Instruction, part, statement, begin_if, begin_elif, begin_else, begin_for, begin_def, close}
 use Rattle.template_spec.specs.Template.{Notes, no_notes, note, Key, no_key, written_key, key_from, Item, node, code, if_block, for_block, def_block, Items, no_items, an_item, Branches, no_branch, else_branch, elif_branch, Content, written_value, value_from, pairs, elements, has_nodes, is_void}
 
 abbrev pub holds_of : Content → Holds

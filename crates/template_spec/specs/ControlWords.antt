@@ -1,5 +1,5 @@
 -- Where `break`, `continue` and `return` may stand: none leaves a node open.
-use Rattle.star_spec.specs.Code.{Statement, return, break, continue}
+use Rattle.code_spec.specs.Code.{Statement, return, break, continue}
 use Rattle.template_spec.specs.Template.{Item, node, code, if_block, for_block, def_block, Items, no_items, an_item, Branches, no_branch, else_branch, elif_branch, Content, written_value, value_from, pairs, elements}
 
 -- which words may leave the place: any, those of a loop, or none

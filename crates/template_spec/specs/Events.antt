@@ -3,8 +3,8 @@ use Rattle.std.specs.Prelude.{ℕ, suc, Bool, true, false, ◌&&◌, ◌==◌, i
 use Rattle.ytt_base.specs.Outcomes.{Outcome, ◌>>=◌, place_at}
 use Rattle.yaml_spec.specs.Bytes.{line_feed}
 use Rattle.yaml_spec.specs.Noted.{Comment, Content, noted_scalar, noted_list, noted_map, Items, no_items, item, Documents, is_code, code_in}
-use Rattle.star_spec.specs.CodeReading.{CodeReader}
-use Rattle.star_spec.specs.Program.{ItemKind, document_item, pair_item, element_item}
+use Rattle.code_spec.specs.CodeReading.{CodeReader}
+use Rattle.code_spec.specs.Program.{ItemKind, document_item, pair_item, element_item}
 use Rattle.template_spec.specs.Comments.{Said, ignored, comment_said, without_end}
 
 -- Where an item stands: its number in its collection, and then where the item stands whose value this collection is.

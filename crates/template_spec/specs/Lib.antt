@@ -1,12 +1,7 @@
-pub mod Adding
-pub mod Build
-pub mod Calls
 pub mod Comments
 pub mod Compiled
 pub mod ControlWords
 pub mod Events
-pub mod Files
-pub mod Meaning
 pub mod Misplaced
 pub mod Names
 pub mod Nesting
@@ -14,8 +9,6 @@ pub mod Numbered
 pub mod OpenBlocks
 pub mod Passes
 pub mod Placed
-pub mod Run
-pub mod Take
 pub mod Template
 pub mod Unbuilt
 pub mod Uses

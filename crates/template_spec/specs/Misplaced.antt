@@ -7,9 +7,9 @@ use Rattle.ytt_base.specs.declared.fault.FaultKind.{FaultKind}
 use Rattle.ytt_base.specs.declared.fault.FaultKind.TheVariants as kind
 use Rattle.ytt_base.specs.declared.fault.Place.{Place}
 use Rattle.ytt_base.specs.Outcomes.{fault_at, place_at}
-use Rattle.star_spec.specs.Code.{Statement, load, return, break, continue}
-use Rattle.star_spec.specs.CodeReading.{Header, if_header, for_header, def_header}
-use Rattle.star_spec.specs.Program.{ItemKind, document_item, Instruction, statement}
+use Rattle.code_spec.specs.Code.{Statement, load, return, break, continue}
+use Rattle.code_spec.specs.CodeReading.{Header, if_header, for_header, def_header}
+use Rattle.code_spec.specs.Program.{ItemKind, document_item, Instruction, statement}
 use Rattle.template_spec.specs.Comments.{Said, a_note, a_value, statements, opens, elif, otherwise, closes, is_data_note}
 use Rattle.template_spec.specs.Events.{Path, Event, begins, beside, says}
 use Rattle.template_spec.specs.OpenBlocks.{collection_of, lies_in, Block, belongs, next_item, open_blocks, first_of}

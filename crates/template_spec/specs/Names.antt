@@ -1,8 +1,8 @@
 -- The names that the items of a file or of a function's block bind, in text order; those of inner functions not. Of a program they
--- are `op_names` and its kin of `star_spec`'s scopes.
+-- are `op_names` and its kin of `code_spec`'s scopes.
 use Rattle.std.specs.Prelude.{List, [], ◌∷◌, ◌++◌}
-use Rattle.star_spec.specs.Code.{Name}
-use Rattle.star_spec.specs.Names.{target_names, statement_names}
+use Rattle.code_spec.specs.Code.{Name}
+use Rattle.code_spec.specs.Names.{target_names, statement_names}
 use Rattle.template_spec.specs.Template.{Item, node, code, if_block, for_block, def_block, Items, no_items, an_item, Branches, no_branch, else_branch, elif_branch, Content, written_value, value_from, pairs, elements}
 
 abbrev mutual

@@ -6,9 +6,9 @@ use Rattle.ytt_base.specs.Outcomes.{Outcome, ◌>>=◌, place_at}
 use Rattle.ytt_base.specs.Trees.{Scalar, null, scalar, Tree}
 use Rattle.yaml_spec.specs.Noted as noted
 use Rattle.yaml_spec.specs.Noted.{Note, noted_scalar, noted_list, noted_map, Documents}
-use Rattle.star_spec.specs.Code.{Expr}
-use Rattle.star_spec.specs.CodeReading.{CodeReader, Header, if_header, for_header, def_header}
-use Rattle.star_spec.specs.Program.{ItemKind, document_item, pair_item, element_item, Instruction, statement}
+use Rattle.code_spec.specs.Code.{Expr}
+use Rattle.code_spec.specs.CodeReading.{CodeReader, Header, if_header, for_header, def_header}
+use Rattle.code_spec.specs.Program.{ItemKind, document_item, pair_item, element_item, Instruction, statement}
 use Rattle.template_spec.specs.Comments.{Said, a_note, a_value, statements, opens, elif, otherwise, closes}
 use Rattle.template_spec.specs.Events.{Path, Event, begins, beside, says, events}
 use Rattle.template_spec.specs.Misplaced.{placing_fault}

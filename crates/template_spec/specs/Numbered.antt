@@ -1,7 +1,7 @@
 -- The numbers of functions in a file, of its `def` blocks and its lambdas, in text order: in a template, and in a program.
 use Rattle.std.specs.Prelude.{List, [], ◌∷◌}
-use Rattle.star_spec.specs.Program.{NodePart, node_start, node_note, node_key, node_key_from, node_value, node_value_from, node_end, Instruction, part, statement, begin_if, begin_elif, begin_else, begin_for, begin_def, close}
-use Rattle.star_spec.specs.Numbering.{Pass, keep, over_one, over_two, over_three, numbered_by, number_expr, number_exprs, number_parameters, number_statement}
+use Rattle.code_spec.specs.Program.{NodePart, node_start, node_note, node_key, node_key_from, node_value, node_value_from, node_end, Instruction, part, statement, begin_if, begin_elif, begin_else, begin_for, begin_def, close}
+use Rattle.code_spec.specs.Numbering.{Pass, keep, over_one, over_two, over_three, numbered_by, number_expr, number_exprs, number_parameters, number_statement}
 use Rattle.template_spec.specs.Template.{Notes, no_notes, note, Key, no_key, written_key, key_from, Item, node, code, if_block, for_block, def_block, Items, no_items, an_item, Branches, no_branch, else_branch, elif_branch, Content, written_value, value_from, pairs, elements}
 
 -- ---- of a template

@@ -1,6 +1,6 @@
 -- Which blocks are open at a place of a template, and to which collection a statement or a block belongs there.
 use Rattle.std.specs.Prelude.{ℕ, zero, suc, ◌-◌, Bool, true, false, not, ◌&&◌, if◌then◌else◌, List, [], ◌∷◌, length, drop, bytes_eq, Option, Some, None}
-use Rattle.star_spec.specs.CodeReading.{Header}
+use Rattle.code_spec.specs.CodeReading.{Header}
 use Rattle.template_spec.specs.Comments.{opens, otherwise, closes}
 use Rattle.template_spec.specs.Events.{Path, Event, begins, beside, says}
 

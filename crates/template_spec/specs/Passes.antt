@@ -5,9 +5,9 @@ use Rattle.ytt_base.specs.declared.fault.FaultKind.TheVariants as kind
 use Rattle.ytt_base.specs.declared.fault.Place.{Place}
 use Rattle.ytt_base.specs.Outcomes.{Outcome, ◌>>=◌, fault_at}
 use Rattle.yaml_spec.specs.Noted.{Documents}
-use Rattle.star_spec.specs.CodeReading.{CodeReader}
-use Rattle.star_spec.specs.Names.{language_names}
-use Rattle.star_spec.specs.Scopes.{Use, unknown_first}
+use Rattle.code_spec.specs.CodeReading.{CodeReader}
+use Rattle.code_spec.specs.Names.{language_names}
+use Rattle.code_spec.specs.Scopes.{Use, unknown_first}
 use Rattle.template_spec.specs.Names.{items_names}
 use Rattle.template_spec.specs.Nesting.{placed_whole}
 use Rattle.template_spec.specs.Template.{Items}

@@ -1,8 +1,8 @@
 -- What placing gives: nodes of the kind of their collection, keys on pairs alone, words and loads where they may stand;
 -- and names in code as they may be.
 use Rattle.std.specs.Prelude.{◌≡◌, IsTrue}
-use Rattle.star_spec.specs.Allowed.{AllowedExpr, AllowedExprs, AllowedTarget, AllowedStatement, AllowedFunction}
-use Rattle.star_spec.specs.Program.{ItemKind, document_item, pair_item, element_item}
+use Rattle.code_spec.specs.Allowed.{AllowedExpr, AllowedExprs, AllowedTarget, AllowedStatement, AllowedFunction}
+use Rattle.code_spec.specs.Program.{ItemKind, document_item, pair_item, element_item}
 use Rattle.template_spec.specs.Template.{Notes, no_notes, note, Key, no_key, written_key, key_from, Item, node, code, if_block, for_block, def_block, Items, no_items, an_item, Branches, no_branch, else_branch, elif_branch, Content, written_value, value_from, pairs, elements, fragment_kind}
 use Rattle.template_spec.specs.WellNested.{Ways, in_a_file, in_a_node, in_a_branch, in_a_loop, in_a_function, stands}
 

@@ -2,8 +2,8 @@
 use Rattle.std.specs.Prelude.{ℕ, Bool, true, false, ◌||◌, ◌&&◌, not, if◌then◌else◌, Option, Some, None}
 use Rattle.ytt_base.specs.declared.fault.Place.{Place}
 use Rattle.ytt_base.specs.Trees.{Scalar}
-use Rattle.star_spec.specs.Code.{Name, Expr, Exprs, Parameters, Statement}
-use Rattle.star_spec.specs.Program.{ItemKind}
+use Rattle.code_spec.specs.Code.{Name, Expr, Exprs, Parameters, Statement}
+use Rattle.code_spec.specs.Program.{ItemKind}
 
 -- the notes of an item, each with its place, its name and its arguments
 pub data Notes : Type 0 where

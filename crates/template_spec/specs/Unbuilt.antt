@@ -1,8 +1,8 @@
 -- What of a template isn't built yet: notes, functions, and what of its code isn't.
 use Rattle.std.specs.Prelude.{nat_lt, if◌then◌else◌, List, [], ◌∷◌, ◌++◌, Option, Some, None}
 use Rattle.ytt_base.specs.declared.fault.Place.{Place}
-use Rattle.star_spec.specs.Code.{Name}
-use Rattle.star_spec.specs.Unbuilt.{unbuilt_expr, unbuilt_statement, unbuilt_target}
+use Rattle.code_spec.specs.Code.{Name}
+use Rattle.code_spec.specs.Unbuilt.{unbuilt_expr, unbuilt_statement, unbuilt_target}
 use Rattle.template_spec.specs.Template.{Notes, no_notes, note, Key, no_key, written_key, key_from, Item, node, code, if_block, for_block, def_block, Items, no_items, an_item, Branches, no_branch, else_branch, elif_branch, Content, written_value, value_from, pairs, elements}
 
 abbrev pub unbuilt_notes : Notes → List Place

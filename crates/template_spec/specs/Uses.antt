@@ -1,7 +1,7 @@
 -- The names that stand in a template, in text order, each with what the functions and comprehensions around it bind.
 use Rattle.std.specs.Prelude.{List, [], ◌∷◌, ◌++◌}
-use Rattle.star_spec.specs.Allowed.{parameter_names}
-use Rattle.star_spec.specs.Scopes.{Around, Use, use_at, expr_uses, exprs_uses, parameters_uses, statement_uses}
+use Rattle.code_spec.specs.Allowed.{parameter_names}
+use Rattle.code_spec.specs.Scopes.{Around, Use, use_at, expr_uses, exprs_uses, parameters_uses, statement_uses}
 use Rattle.template_spec.specs.Names.{items_names}
 use Rattle.template_spec.specs.Template.{Notes, no_notes, note, Key, no_key, written_key, key_from, Item, node, code, if_block, for_block, def_block, Items, no_items, an_item, Branches, no_branch, else_branch, elif_branch, Content, written_value, value_from, pairs, elements}
 

@@ -1,10 +1,9 @@
 -- Which programs are well nested.
 use Rattle.std.specs.Prelude.{◌≡◌, List, [], ◌∷◌, Option, Some, None, Bool, true, false, IsTrue}
-use Rattle.star_spec.specs.Code.{Statement, return, break, continue, load}
-use Rattle.star_spec.specs.Allowed.{AllowedExpr, AllowedExprs, AllowedTarget, AllowedStatement, AllowedFunction}
-use Rattle.star_spec.specs.Program.{ItemKind, document_item, pair_item, element_item, Holds, holds_one, holds_map, holds_list, holds_void, NodePart, node_start, node_note, node_key, node_key_from, node_value, node_value_from, node_end, Instruction, part, statement, begin_if, begin_elif, begin_else, begin_for, begin_def, close}
-use Rattle.star_spec.specs.Blocks.{Op, op_part, op_statement, op_if, op_for, op_def, Ops, no_ops, an_op, Arms, no_arm, else_arm, arm, blocks}
-use Rattle.template_spec.specs.Take.{same_kind}
+use Rattle.code_spec.specs.Code.{Statement, return, break, continue, load}
+use Rattle.code_spec.specs.Allowed.{AllowedExpr, AllowedExprs, AllowedTarget, AllowedStatement, AllowedFunction}
+use Rattle.code_spec.specs.Program.{ItemKind, document_item, pair_item, element_item, Holds, holds_one, holds_map, holds_list, holds_void, NodePart, node_start, node_note, node_key, node_key_from, node_value, node_value_from, node_end, Instruction, part, statement, begin_if, begin_elif, begin_else, begin_for, begin_def, close, same_kind}
+use Rattle.code_spec.specs.Blocks.{Op, op_part, op_statement, op_if, op_for, op_def, Ops, no_ops, an_op, Arms, no_arm, else_arm, arm, blocks}
 
 -- ---- the stages of an open node
 

@@ -1,32 +1,16 @@
-//! The definitions of templates and of their two meanings, and the laws between them. They stand in `specs/`.
+//! The definitions of templates and of their programs, and the laws between them. They stand in `specs/`.
 //!
-//! A program that is a template compiled runs as the template is built, for every language, every host and every state of it,
-//! where in the template and in those of the other files no `break`, `continue` or `return` leaves a node (`WordsStand`): in a
-//! scope (`scopes`), for a whole file (`files`) and for files that load one another (`loads`) of `compiled_runs_as_built`. It is
-//! well nested where the template is placed, and where it is well nested the words stand (`compiled_is_well_nested`).
+//! A program that is a template compiled is well nested where the template is placed, and where it is well nested no `break`,
+//! `continue` or `return` leaves a node (`WordsStand`): `compiled_is_well_nested`.
 #![tactic(auto)]
 
-ghost use Rattle.std.specs.Prelude.{◌≡◌, List};
-ghost use Rattle.star_spec.specs.Calls.{Host};
-ghost use Rattle.star_spec.specs.Language.{Language};
-ghost use Rattle.star_spec.specs.Program.{Instruction};
+ghost use Rattle.std.specs.Prelude.{◌≡◌};
 ghost use Rattle.template_spec.specs.Compiled.{compiled};
 ghost use Rattle.template_spec.specs.ControlWords.{WordsStand, free};
-ghost use Rattle.template_spec.specs.Files.{Shelf};
-ghost use Rattle.template_spec.specs.Meaning.{Agrees, FilesAgree, LoadsAgree};
 ghost use Rattle.template_spec.specs.Numbered.{numbered, numbered_program};
 ghost use Rattle.template_spec.specs.Placed.{AllowedItems, Placed};
 ghost use Rattle.template_spec.specs.Template.{Items};
 ghost use Rattle.template_spec.specs.WellNested.{WellNested};
-
-/// A program that is a template compiled runs as the template is built, in each scope and as a file, and so
-/// do files that load one another: the same children, or the same fault at the same place, the same steps
-/// left, and the same store and state of the host, for every language, every host and every state of it.
-pub fn compiled_runs_as_built<H>()
-    ensures scopes { (language : Language H) (host : Host H) (program : List Instruction) (t : Items) → program ≡ compiled t → WordsStand free t → Agrees language host program t }
-    ensures files { (language : Language H) (host : Host H) (program : List Instruction) (t : Items) → program ≡ compiled t → WordsStand free t → FilesAgree language host program t }
-    ensures loads { (language : Language H) (host : Host H) (shelf : Shelf H) → LoadsAgree language host shelf }
-{}
 
 /// The program of a placed template is well nested where the names in its code are as they may be. Where a
 /// template's program is well nested, no control word of the template leaves a node open.

@@ -3,10 +3,10 @@ use Rattle.std.proofs.Common.{◌≡◌, ℕ, true, false, List, [], ◌∷◌, 
 use Rattle.std.proofs.lemmas.List.{map-append, reverse-append, reverse-reverse}
 use Rattle.ytt_base.specs.declared.fault.Place.{Place}
 use Rattle.ytt_base.specs.Outcomes.{place_at}
-use Rattle.star_spec.specs.Code.{Expr, Name, Parameters}
-use Rattle.star_spec.specs.CodeReading.{for_header, def_header}
-use Rattle.star_spec.specs.CodeReading as plain_header
-use Rattle.star_spec.specs.Program.{ItemKind, Instruction, part, statement, begin_if, begin_elif, begin_else, begin_for, begin_def, close}
+use Rattle.code_spec.specs.Code.{Expr, Name, Parameters}
+use Rattle.code_spec.specs.CodeReading.{for_header, def_header}
+use Rattle.code_spec.specs.CodeReading as plain_header
+use Rattle.code_spec.specs.Program.{ItemKind, Instruction, part, statement, begin_if, begin_elif, begin_else, begin_for, begin_def, close}
 use Rattle.star_tree.specs.declared.code.Expr as held_expr
 use Rattle.star_tree.specs.declared.code.Header.{Header}
 use Rattle.star_tree.specs.declared.code.Header.TheVariants as header

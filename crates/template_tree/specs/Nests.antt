@@ -1,7 +1,7 @@
 -- The parts of collections and what is read of them from the end, as plain data.
 use Rattle.std.specs.Prelude.{ℕ, Bool, true, false, List, map as each, reverse}
 use Rattle.ytt_base.specs.Outcomes.{place_at}
-use Rattle.star_spec.specs.Program.{ItemKind, Instruction, statement}
+use Rattle.code_spec.specs.Program.{ItemKind, Instruction, statement}
 use Rattle.notes_read.specs.View.{said_of}
 use Rattle.template_spec.specs.Nesting as nesting
 use Rattle.template_spec.specs.Nesting.{broken, at_top, inside, a_node, a_mark, nest_said, put}

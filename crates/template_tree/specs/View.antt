@@ -3,8 +3,8 @@ use Rattle.std.specs.Prelude.{ℕ, List, [], ◌∷◌, map as each, Option, Som
 use Rattle.ytt_base.specs.declared.tree.Key.{Key}
 use Rattle.ytt_base.specs.Outcomes.{place_at}
 use Rattle.ytt_base.specs.View.{key_of}
-use Rattle.star_spec.specs.Code.{pass}
-use Rattle.star_spec.specs.Program.{Instruction, statement}
+use Rattle.code_spec.specs.Code.{pass}
+use Rattle.code_spec.specs.Program.{Instruction, statement}
 use Rattle.star_tree.specs.declared.code.Expr.{Expr}
 use Rattle.star_tree.specs.View.{item_kind_of}
 use Rattle.star_tree.specs.Whole.{expr_of, exprs_of, instruction_of, parameters_of}

@@ -1,6 +1,6 @@
 // Programs made by hand, and the variables of their names.
 ghost use Rattle.std.specs.Prelude.{IfOk, IsSome};
-ghost use Rattle.star_spec.specs.Blocks.{blocks};
+ghost use Rattle.code_spec.specs.Blocks.{blocks};
 ghost use Rattle.star_tree.specs.Whole.{program_of};
 
 use sqlite_items::{Boxed, Items};

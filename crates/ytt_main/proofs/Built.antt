@@ -7,16 +7,16 @@ use Rattle.ytt_base.specs.declared.fault.Stop.TheVariants as stop
 use Rattle.star_spec.specs.Calls.{no_natives}
 use Rattle.star_spec.specs.Eval.{starlark}
 use Rattle.star_spec.specs.Outcomes.{Ending, done, bad}
-use Rattle.star_spec.specs.Scopes.{program_names}
+use Rattle.code_spec.specs.Scopes.{program_names}
 use Rattle.star_tree.specs.Whole.{program_of}
 use Rattle.star_resolve.specs.declared.binding.Resolved.{Resolved}
 use Rattle.star_resolve.specs.Variables.{each_once}
 use Rattle.template_spec.specs.Compiled.{compiled}
-use Rattle.template_spec.specs.Files.{FileResult, Loader, nothing_to_load}
-use Rattle.template_spec.specs.Meaning.{RunFile}
+use Rattle.template_meaning.specs.Files.{FileResult, Loader, nothing_to_load}
+use Rattle.template_meaning.specs.Meaning.{RunFile}
 use Rattle.template_spec.specs.Names.{items_names}
 use Rattle.template_spec.specs.Template.{Items}
-use Rattle.template_spec.proofs.Theorem.{files_agree}
+use Rattle.template_meaning.proofs.Theorem.{files_agree}
 use Rattle.star_eval.specs.FileRun.{RunsAs, Shows}
 use Rattle.star_eval.specs.declared.file.FlatResult.{FlatResult}
 use Rattle.ytt_main.specs.Programs.{IsProgramOf}

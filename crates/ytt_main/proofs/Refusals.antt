@@ -5,7 +5,7 @@ use Rattle.ytt_base.specs.declared.fault.FaultKind.TheVariants as kinds
 use Rattle.ytt_outside.specs.Files.{kind_of}
 use Rattle.ytt_outside.specs.Standing.{Standing, nothing, file, folder}
 use Rattle.ytt_outside.specs.declared.files.PathKind.TheVariants as kind
-use Rattle.star_spec.specs.CodeReading.{CodeReader}
+use Rattle.code_spec.specs.CodeReading.{CodeReader}
 use Rattle.ytt_spec.specs.Meaning.{Means, file_names, gives_documents, largest_file, last_part, named_in, not_built, path_fault, path_meaning, text_meaning}
 use Rattle.ytt_spec.specs.Words.{Command}
 use Rattle.ytt_main.specs.Asks.{command_of}

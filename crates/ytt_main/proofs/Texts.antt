@@ -7,7 +7,7 @@ use Rattle.ytt_base.specs.declared.fault.Stop.{Stop}
 use Rattle.ytt_base.specs.declared.tree.Tree.{Tree}
 use Rattle.yaml_spec.specs.Noted.{Documents, has_code}
 use Rattle.yaml_spec.specs.Read.{plain_trees}
-use Rattle.star_spec.specs.CodeReading.{CodeReader}
+use Rattle.code_spec.specs.CodeReading.{CodeReader}
 use Rattle.star_grammar.specs.CodeReaders.{GivesCode, IsCodeReader}
 use Rattle.template_spec.specs.Passes.{template_passed}
 use Rattle.ytt_spec.proofs.HeldBuilt.{text_written}

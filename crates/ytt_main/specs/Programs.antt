@@ -1,7 +1,7 @@
 -- What the program of a template is.
 use Rattle.std.specs.Prelude.{◌≡◌, []}
-use Rattle.star_spec.specs.Scopes.{program_names}
-use Rattle.star_spec.specs.Unbuilt.{unbuilt_code}
+use Rattle.code_spec.specs.Scopes.{program_names}
+use Rattle.code_spec.specs.Unbuilt.{unbuilt_code}
 use Rattle.star_tree.specs.Whole.{program_of}
 use Rattle.star_resolve.specs.declared.binding.Resolved.{Resolved}
 use Rattle.star_resolve.specs.Variables.{each_once}

@@ -15,9 +15,9 @@ use Rattle.yaml_spec.specs.Rows.{key_at, heads_of, row_at, taken, rows}
 use Rattle.yaml_spec.specs.Entries.{cut_after, content_of, entry_content, entry, entry_at, entries, Doc}
 use Rattle.yaml_spec.specs.Read.{segments, explicit, ended as read_ended, documents, implicit, Read, distinct}
 use Rattle.yaml_spec.specs.Text.{fits_plain, fits_literal}
-use Rattle.star_spec.specs.Code.{Expr, assign, binary, equal, floor_division, int, name, no_exprs, an_expr, text as written_text, tuple}
-use Rattle.star_spec.specs.CodeReading.{CodeReader, Header, if_header, elif_header, else_header, for_header, end_header}
-use Rattle.star_spec.specs.Program.{statement}
+use Rattle.code_spec.specs.Code.{Expr, assign, binary, equal, floor_division, int, name, no_exprs, an_expr, text as written_text, tuple}
+use Rattle.code_spec.specs.CodeReading.{CodeReader, Header, if_header, elif_header, else_header, for_header, end_header}
+use Rattle.code_spec.specs.Program.{statement}
 use Rattle.template_spec.specs.Comments.{comment_said}
 use Rattle.template_spec.specs.Events.{events}
 use Rattle.template_spec.specs.Misplaced.{placing_fault}

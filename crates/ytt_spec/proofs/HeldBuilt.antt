@@ -11,14 +11,14 @@ use Rattle.yaml_held.proofs.Shallow.{DocumentsShallow, reads_writable, shallow_r
 use Rattle.star_spec.specs.Calls.{no_natives}
 use Rattle.star_spec.specs.Eval.{starlark}
 use Rattle.star_spec.specs.Outcomes.{Ending, done, bad}
-use Rattle.star_spec.specs.CodeReading.{CodeReader}
+use Rattle.code_spec.specs.CodeReading.{CodeReader}
 use Rattle.star_spec.proofs.CallsKeep.{no_natives_keep, starlark_keeps}
 use Rattle.star_spec.proofs.Keeping.{Kept}
-use Rattle.template_spec.specs.Files.{FileResult, nothing_to_load}
-use Rattle.template_spec.specs.Meaning.{BuildFile}
+use Rattle.template_meaning.specs.Files.{FileResult, nothing_to_load}
+use Rattle.template_meaning.specs.Meaning.{BuildFile}
 use Rattle.template_spec.specs.Passes.{template_passed}
 use Rattle.template_spec.specs.Template.{Items}
-use Rattle.template_spec.proofs.BuildKeeps.{HeldItems, HeldResult, nothing_keeps, built_keeps, documents_written}
+use Rattle.template_meaning.proofs.BuildKeeps.{HeldItems, HeldResult, nothing_keeps, built_keeps, documents_written}
 use Rattle.ytt_outside.specs.Standing.{Standing, nothing, file, folder}
 use Rattle.ytt_spec.specs.Meaning.{built, default_depth, documents_meaning, file_names, gives_documents, largest_file, last_part, meaning, named_in, outcome_of, path_meaning, started, text_meaning}
 use Rattle.ytt_spec.specs.Words.{Command, render}

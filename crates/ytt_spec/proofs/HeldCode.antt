@@ -4,11 +4,11 @@ use Rattle.std.proofs.lemmas.Str.{IsUtf8-from_is_utf8}
 use Rattle.std.specs.Int.{w128}
 use Rattle.std.specs.Str.{is_utf8}
 use Rattle.ytt_base.specs.declared.fault.Place.{Place}
-use Rattle.star_spec.specs.Code as code
-use Rattle.star_spec.specs.Code.{Name, Expr, Exprs, no_exprs, an_expr, Statement, evaluate, assign, augment, return}
+use Rattle.code_spec.specs.Code as code
+use Rattle.code_spec.specs.Code.{Name, Expr, Exprs, no_exprs, an_expr, Statement, evaluate, assign, augment, return}
 use Rattle.star_spec.specs.Held.{HeldExpr, HeldExprs, HeldStatement}
-use Rattle.star_spec.specs.Unbuilt.{is_integer, unbuilt_expr, unbuilt_exprs, unbuilt_statement, unbuilt_target, unbuilt_targets, unless_built}
-use Rattle.star_spec.proofs.UnbuiltBlocks.{none_in_both}
+use Rattle.code_spec.specs.Unbuilt.{is_integer, unbuilt_expr, unbuilt_exprs, unbuilt_statement, unbuilt_target, unbuilt_targets, unless_built}
+use Rattle.code_spec.proofs.UnbuiltBlocks.{none_in_both}
 
 built_test : (b : Bool) (p : Place) → unless_built b p ≡ [] → b ≡ true
 built_test true p e = refl

@@ -13,13 +13,13 @@ use Rattle.yaml_spec.specs.Noted.{Note, Documents, noted_scalar, noted_list, not
 use Rattle.yaml_held.proofs.Held.{Held, AreHeld}
 use Rattle.yaml_held.proofs.HeldDocuments.{DocumentsHeld}
 use Rattle.yaml_held.proofs.Shallow.{DocumentsShallow}
-use Rattle.star_spec.specs.Code.{Name, Expr}
-use Rattle.star_spec.specs.CodeReading.{CodeReader, Header, if_header, for_header, def_header}
+use Rattle.code_spec.specs.Code.{Name, Expr}
+use Rattle.code_spec.specs.CodeReading.{CodeReader, Header, if_header, for_header, def_header}
 use Rattle.star_spec.specs.Held.{HeldExpr}
-use Rattle.star_spec.specs.Names.{language_names}
-use Rattle.star_spec.specs.Program.{ItemKind, document_item, element_item, pair_item, Instruction, statement}
-use Rattle.star_spec.specs.Scopes.{Use, unknown_first}
-use Rattle.star_spec.specs.Unbuilt.{unbuilt_expr, unbuilt_target}
+use Rattle.code_spec.specs.Names.{language_names}
+use Rattle.code_spec.specs.Program.{ItemKind, document_item, element_item, pair_item, Instruction, statement}
+use Rattle.code_spec.specs.Scopes.{Use, unknown_first}
+use Rattle.code_spec.specs.Unbuilt.{unbuilt_expr, unbuilt_target}
 use Rattle.template_spec.specs.Comments.{Said, statements, opens, elif, otherwise, closes}
 use Rattle.template_spec.specs.Events.{Event, Path, events}
 use Rattle.template_spec.specs.Misplaced.{placing_fault}
@@ -29,7 +29,7 @@ use Rattle.template_spec.specs.Passes.{all_built, bound, template_passed, unless
 use Rattle.template_spec.specs.Template.{Notes, no_notes, note, Item, code, if_block, for_block, def_block, Items, no_items, an_item, Branches, no_branch, Content}
 use Rattle.template_spec.specs.Unbuilt.{first_unbuilt, unbuilt_branches, unbuilt_content, unbuilt_item, unbuilt_items, unbuilt_key, unbuilt_notes}
 use Rattle.template_spec.specs.Uses.{items_uses}
-use Rattle.template_spec.proofs.BuildKeeps.{HeldBranches, HeldContent, HeldItem, HeldItemKey, HeldItems, HeldNotes}
+use Rattle.template_meaning.proofs.BuildKeeps.{HeldBranches, HeldContent, HeldItem, HeldItemKey, HeldItems, HeldNotes}
 use Rattle.ytt_spec.proofs.HeldCode.{expr_held, statement_held, target_held, three_held, two_held}
 
 -- ---- notes and keys

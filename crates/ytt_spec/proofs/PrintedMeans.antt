@@ -6,7 +6,7 @@ use Rattle.yaml_spec.specs.Noted.{Documents, has_code}
 use Rattle.yaml_spec.specs.Read.{Read, plain_trees, read_trees}
 use Rattle.yaml_spec.specs.Text.{Text}
 use Rattle.yaml_back.proofs.ReadsBack.{no_code, noted_same, reads_back}
-use Rattle.star_spec.specs.CodeReading.{CodeReader}
+use Rattle.code_spec.specs.CodeReading.{CodeReader}
 use Rattle.template_spec.specs.Passes.{template_passed}
 use Rattle.ytt_spec.specs.Meaning.{TextMeans, built, documents_meaning}
 

@@ -13,9 +13,9 @@ use Rattle.star_spec.specs.Calls.{Host, no_natives}
 use Rattle.star_grammar.specs.CodeReaders.{MeansCode}
 use Rattle.star_spec.specs.Eval.{starlark}
 use Rattle.star_spec.specs.Outcomes.{State, Ending, done, bad}
-use Rattle.star_spec.specs.CodeReading.{CodeReader}
-use Rattle.template_spec.specs.Files.{FileResult, Loader, nothing_to_load}
-use Rattle.template_spec.specs.Meaning.{BuildFile, documents}
+use Rattle.code_spec.specs.CodeReading.{CodeReader}
+use Rattle.template_meaning.specs.Files.{FileResult, Loader, nothing_to_load}
+use Rattle.template_meaning.specs.Meaning.{BuildFile, documents}
 use Rattle.template_spec.specs.Passes.{template_passed}
 use Rattle.template_spec.specs.Template.{Items}
 use Rattle.ytt_spec.specs.Words.{Command, render}

@@ -1,6 +1,6 @@
 use Rattle.std.proofs.Common.{slice_set, ap, sym, ◌∙◌}
 use Rattle.star_spec.specs.Outcomes.{done}
-use Rattle.template_spec.specs.Adding.{in_place_if}
+use Rattle.template_meaning.specs.Adding.{in_place_if}
 use Rattle.node_build.specs.Positions.{in_scalar_key}
 use Rattle.node_build.specs.View.{children_of}
 use Rattle.node_build.proofs.Known.{known_set}

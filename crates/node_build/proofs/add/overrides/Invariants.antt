@@ -1,5 +1,5 @@
 use Rattle.std.proofs.Common.{◌≡◌, drop}
-use Rattle.template_spec.specs.Adding.{overrides}
+use Rattle.template_meaning.specs.Adding.{overrides}
 use Rattle.node_build.specs.View.{built_notes_of}
 use Rattle.node_build.proofs.add.overrides.Given as goal
 

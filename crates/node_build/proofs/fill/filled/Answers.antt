@@ -7,8 +7,8 @@ use Rattle.star_spec.specs.Flow.{Flow, on}
 use Rattle.star_spec.specs.Outcomes.{Computation, give, then_do}
 use Rattle.star_spec.specs.Values.{Taken, one, taken}
 use Rattle.star_tree.specs.View.{item_kind_of}
-use Rattle.template_spec.specs.Run.{Node}
-use Rattle.template_spec.specs.Take.{take_over}
+use Rattle.template_meaning.specs.Run.{Node}
+use Rattle.template_meaning.specs.Take.{take_over}
 use Rattle.node_build.specs.View.{node_at}
 use Rattle.node_build.proofs.Meeting.{done_then, meets_same, meets_stop}
 use Rattle.node_build.proofs.fill.filled.Goals as goal

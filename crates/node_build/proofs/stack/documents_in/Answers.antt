@@ -1,8 +1,8 @@
 use Rattle.std.proofs.Common.{sym, subst, IfOk, ap, ◌∙◌, ◌≡◌, List}
 use Rattle.ytt_base.specs.View.{trees_of}
-use Rattle.template_spec.specs.Calls.{bottom_children}
-use Rattle.template_spec.specs.Meaning.{documents}
-use Rattle.template_spec.specs.Run.{Node}
+use Rattle.template_meaning.specs.Calls.{bottom_children}
+use Rattle.template_meaning.specs.Meaning.{documents}
+use Rattle.template_meaning.specs.Run.{Node}
 use Rattle.node_build.specs.View.{nodes_in}
 use Rattle.node_build.proofs.Stacks.{nodes-last}
 use Rattle.node_build.proofs.stack.documents_in.Goals as goal

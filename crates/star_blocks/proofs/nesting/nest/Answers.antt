@@ -1,6 +1,6 @@
 use Rattle.std.proofs.Common.{ap, ◌∙◌}
 use Rattle.std.proofs.lemmas.Bool.{false≢true}
-use Rattle.star_spec.specs.Blocks.{parse}
+use Rattle.code_spec.specs.Blocks.{parse}
 use Rattle.star_tree.specs.Whole.{instructions_of}
 use Rattle.star_blocks.proofs.FromEnd.{whole_broken, whole_here, whole_inside}
 use Rattle.star_blocks.proofs.nesting.nest.Goals as goal

@@ -1,6 +1,6 @@
 use Rattle.std.proofs.Common.{◌∙◌}
 use Rattle.ytt_base.specs.Outcomes.{place_at}
-use Rattle.star_spec.specs.Blocks.{op_for}
+use Rattle.code_spec.specs.Blocks.{op_for}
 use Rattle.star_tree.specs.Whole.{expr_of}
 use Rattle.star_blocks.specs.Nested.{ops_of}
 use Rattle.star_blocks.proofs.Forms.{of_for}

@@ -1,7 +1,7 @@
 use Rattle.std.proofs.Common.{◌∙◌}
 use Rattle.ytt_base.specs.Outcomes.{place_at}
-use Rattle.star_spec.specs.Blocks.{op_statement}
-use Rattle.star_spec.specs.Code as plain
+use Rattle.code_spec.specs.Blocks.{op_statement}
+use Rattle.code_spec.specs.Code as plain
 use Rattle.star_tree.specs.Whole.{binary_operator_of, expr_of}
 use Rattle.star_blocks.proofs.Forms.{of_augment}
 use Rattle.star_blocks.proofs.FromEnd.{put_same}

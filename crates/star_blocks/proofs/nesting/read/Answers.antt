@@ -1,7 +1,7 @@
 use Rattle.std.proofs.Common.{ap, sym, ◌∙◌}
 use Rattle.ytt_base.specs.Outcomes.{place_at}
-use Rattle.star_spec.specs.Blocks.{op_part, op_statement, put}
-use Rattle.star_spec.specs.Code as plain
+use Rattle.code_spec.specs.Blocks.{op_part, op_statement, put}
+use Rattle.code_spec.specs.Code as plain
 use Rattle.star_tree.specs.Whole.{expr_of, instruction_of, part_of}
 use Rattle.star_blocks.specs.Reading.{parsed_of, read_one}
 use Rattle.star_blocks.proofs.Forms.{of_break, of_continue, of_expr, of_node, of_pass, of_return}

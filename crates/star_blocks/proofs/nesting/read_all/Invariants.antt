@@ -1,5 +1,5 @@
 use Rattle.std.proofs.Common.{◌≡◌, ℕ, drop}
-use Rattle.star_spec.specs.Blocks.{parse}
+use Rattle.code_spec.specs.Blocks.{parse}
 use Rattle.star_tree.specs.Whole.{instructions_of}
 use Rattle.star_blocks.specs.Reading.{parsed_of}
 use Rattle.star_blocks.proofs.nesting.read_all.Given as goal

@@ -1,6 +1,6 @@
 use Rattle.std.proofs.Common.{◌≡◌, reverse, subst, sym, ap, ◌∙◌}
 use Rattle.ytt_base.specs.Outcomes.{place_at}
-use Rattle.star_spec.specs.Code as plain
+use Rattle.code_spec.specs.Code as plain
 use Rattle.star_spec.specs.Outcomes.{then_do}
 use Rattle.star_tree.proofs.Forms.{expr_of-List, expr_of-Tuple}
 use Rattle.star_tree.specs.Whole.{expr_of, exprs_of}

@@ -1,6 +1,6 @@
 use Rattle.std.proofs.Common.{◌≡◌, reverse, sym, ap, ◌∙◌, arith}
 use Rattle.ytt_base.specs.Outcomes.{place_at}
-use Rattle.star_spec.specs.Code as plain
+use Rattle.code_spec.specs.Code as plain
 use Rattle.star_spec.specs.Operators.{binary_row}
 use Rattle.star_spec.specs.Outcomes.{then_do, ◌>>=◌}
 use Rattle.star_tree.proofs.Forms.{expr_of-Binary}

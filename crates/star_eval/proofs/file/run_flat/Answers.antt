@@ -1,18 +1,18 @@
 use Rattle.std.proofs.Common.{◌≡◌, [], Some, None, Err, refl, sym, ap, subst, ◌∙◌}
 use Rattle.std.specs.Option.{option_map}
-use Rattle.star_spec.specs.Blocks.{blocks}
+use Rattle.code_spec.specs.Blocks.{blocks}
 use Rattle.star_spec.specs.Eval.{starlark}
-use Rattle.star_spec.specs.Scopes.{names_of_file}
-use Rattle.star_spec.specs.Unbuilt.{unbuilt_ops}
-use Rattle.star_spec.proofs.UnbuiltBlocks.{blocks_built}
+use Rattle.code_spec.specs.Scopes.{names_of_file}
+use Rattle.code_spec.specs.Unbuilt.{unbuilt_ops}
+use Rattle.code_spec.proofs.UnbuiltBlocks.{blocks_built}
 use Rattle.star_tree.specs.Whole.{program_of}
 use Rattle.star_blocks.specs.Nested.{ops_of}
 use Rattle.star_ops.specs.Meets.{in_store}
 use Rattle.star_resolve.specs.Frames.{boxed, unset_boxes}
 use Rattle.star_resolve.specs.Variables.{each_once}
 use Rattle.node_build.specs.View.{nodes_of}
-use Rattle.template_spec.specs.Calls.{program_calls}
-use Rattle.template_spec.specs.Run.{runs}
+use Rattle.template_meaning.specs.Calls.{program_calls}
+use Rattle.template_meaning.specs.Run.{runs}
 use Rattle.star_eval.specs.FileRun.{Shows}
 use Rattle.star_eval.specs.Meets.{state_of}
 use Rattle.star_eval.proofs.FileRuns.{broken_run, shows_left}

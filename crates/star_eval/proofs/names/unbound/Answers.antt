@@ -1,6 +1,7 @@
 use Rattle.std.proofs.Common.{◌≡◌, false, None, rules, subst, sym, ap, ◌∙◌, if◌then◌else◌}
 use Rattle.ytt_base.specs.declared.fault.FaultKind.TheVariants as kind
-use Rattle.star_spec.specs.Names.{constant, is_among, own_functions, unbound}
+use Rattle.star_spec.specs.Names.{constant, unbound}
+use Rattle.code_spec.specs.Names.{is_among, own_functions}
 use Rattle.star_spec.specs.Outcomes.{Computation, fail_with, not_built}
 use Rattle.star_spec.specs.Values.{Value}
 use Rattle.star_ops.specs.Meets.{Meets}

@@ -1,7 +1,7 @@
 use Rattle.std.proofs.Common.{◌≡◌, reverse, rules, sym, ap, ◌∙◌}
 use Rattle.ytt_base.specs.Outcomes.{place_at}
-use Rattle.star_spec.specs.Blocks.{op_statement}
-use Rattle.star_spec.specs.Code as plain
+use Rattle.code_spec.specs.Blocks.{op_statement}
+use Rattle.code_spec.specs.Code as plain
 use Rattle.star_spec.specs.Flow.{on}
 use Rattle.star_spec.specs.Outcomes.{give, then_do}
 use Rattle.star_tree.specs.Whole.{expr_of}

@@ -1,5 +1,5 @@
 use Rattle.std.proofs.Common.{◌≡◌, reverse, rules, sym, ap, ◌∙◌}
-use Rattle.star_spec.specs.Blocks.{an_op, op_part}
+use Rattle.code_spec.specs.Blocks.{an_op, op_part}
 use Rattle.star_tree.specs.Whole.{part_of}
 use Rattle.star_blocks.specs.Nested.{ops_of, statement_of}
 use Rattle.star_blocks.specs.declared.block.Op.{the_lemmas}

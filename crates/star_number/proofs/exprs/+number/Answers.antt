@@ -1,5 +1,5 @@
 use Rattle.std.proofs.Common.{ap, sym, ◌∙◌, map as each}
-use Rattle.star_spec.specs.Numbering.{number_expr}
+use Rattle.code_spec.specs.Numbering.{number_expr}
 use Rattle.star_tree.specs.Listed.{clause_of, entry_of, piece_of}
 use Rattle.star_tree.specs.Whole.{clauses_from, entries_from, expr_of, exprs_from, parameter_of, parameters_from, pieces_from}
 use Rattle.star_tree.specs.declared.code.Expr as held

@@ -1,5 +1,5 @@
 use Rattle.std.proofs.Common.{◌≡◌, drop, map as each}
-use Rattle.star_spec.specs.Numbering.{number_expr}
+use Rattle.code_spec.specs.Numbering.{number_expr}
 use Rattle.star_tree.specs.Listed.{clause_of, entry_of, piece_of}
 use Rattle.star_tree.specs.Whole.{expr_of, parameter_of}
 use Rattle.star_number.specs.Rows.{behind, in_row, number_clause, number_entry, number_parameter, number_piece}

@@ -1,6 +1,6 @@
 use Rattle.std.proofs.Common.{◌≡◌, List, [], Err, rules, sym, ap, ◌∙◌}
-use Rattle.star_spec.specs.Code.{Name}
-use Rattle.star_spec.specs.Program.{Instruction}
+use Rattle.code_spec.specs.Code.{Name}
+use Rattle.code_spec.specs.Program.{Instruction}
 use Rattle.star_resolve.specs.declared.event.Event.{Event}
 use Rattle.star_tree.specs.Whole.{program_of}
 use Rattle.star_resolve.specs.Answers.{answers, found_in, program_answers, refused}

@@ -1,5 +1,5 @@
 use Rattle.std.proofs.Common.{◌++◌, ap, ◌∙◌}
-use Rattle.star_spec.specs.Names.{target_names}
+use Rattle.code_spec.specs.Names.{target_names}
 use Rattle.star_tree.specs.Whole.{expr_of}
 use Rattle.star_resolve.proofs.gather.of_target.Goals as goal
 

@@ -1,5 +1,5 @@
 use Rattle.std.proofs.Common.{ap, sym, ◌∙◌}
-use Rattle.star_spec.specs.Names.{target_names}
+use Rattle.code_spec.specs.Names.{target_names}
 use Rattle.star_tree.specs.Whole.{expr_of, instruction_of}
 use Rattle.star_resolve.specs.Gathered.{own_names}
 use Rattle.star_resolve.proofs.Gathering.{names_same}

@@ -1,5 +1,5 @@
 use Rattle.std.proofs.Common.{ap, refl, ◌∙◌}
-use Rattle.star_spec.specs.Names.{target_names, targets_names}
+use Rattle.code_spec.specs.Names.{target_names, targets_names}
 use Rattle.star_tree.specs.Whole.{expr_of, exprs_of}
 use Rattle.star_resolve.proofs.Putting.{put_done, put_next, put_same}
 use Rattle.star_tree.proofs.Forms.{expr_of-List, expr_of-Tuple}

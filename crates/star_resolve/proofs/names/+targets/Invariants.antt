@@ -1,5 +1,5 @@
 use Rattle.std.proofs.Common.{◌≡◌, ℕ, ◌++◌, drop}
-use Rattle.star_spec.specs.Names.{targets_names}
+use Rattle.code_spec.specs.Names.{targets_names}
 use Rattle.star_tree.specs.Whole.{exprs_of}
 use Rattle.star_resolve.proofs.names.+targets.Given as goal
 

@@ -1,5 +1,5 @@
 use Rattle.std.proofs.Common.{refl}
-use Rattle.star_spec.specs.Names.{clauses_names}
+use Rattle.code_spec.specs.Names.{clauses_names}
 use Rattle.star_tree.specs.Listed.{clauses_of}
 use Rattle.star_resolve.proofs.Binders.{one_clause}
 use Rattle.star_resolve.proofs.Putting.{put_done, put_next}

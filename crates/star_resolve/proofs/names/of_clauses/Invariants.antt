@@ -1,5 +1,5 @@
 use Rattle.std.proofs.Common.{◌≡◌, ℕ, ◌++◌, drop}
-use Rattle.star_spec.specs.Names.{clauses_names}
+use Rattle.code_spec.specs.Names.{clauses_names}
 use Rattle.star_tree.specs.Listed.{clauses_of}
 use Rattle.star_resolve.proofs.names.of_clauses.Given as goal
 

@@ -1,5 +1,5 @@
 use Rattle.std.proofs.Common.{◌≡◌, ◌++◌, drop}
-use Rattle.star_spec.specs.Names.{loaded_names}
+use Rattle.code_spec.specs.Names.{loaded_names}
 use Rattle.star_tree.specs.Whole.{loaded_names_of}
 use Rattle.star_resolve.proofs.names.of_loaded.Given as goal
 

@@ -1,5 +1,5 @@
 use Rattle.std.proofs.Common.{refl}
-use Rattle.star_spec.specs.Allowed.{parameter_names}
+use Rattle.code_spec.specs.Allowed.{parameter_names}
 use Rattle.star_tree.specs.Whole.{parameters_of}
 use Rattle.star_resolve.proofs.Binders.{one_parameter}
 use Rattle.star_resolve.proofs.Putting.{put_done, put_next}

@@ -1,5 +1,5 @@
 use Rattle.std.proofs.Common.{◌≡◌, ℕ, ◌++◌, drop}
-use Rattle.star_spec.specs.Allowed.{parameter_names}
+use Rattle.code_spec.specs.Allowed.{parameter_names}
 use Rattle.star_tree.specs.Whole.{parameters_of}
 use Rattle.star_resolve.proofs.names.of_parameters.Given as goal
 

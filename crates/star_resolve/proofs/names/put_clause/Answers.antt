@@ -1,5 +1,5 @@
 use Rattle.std.proofs.Common.{◌∷◌, [], ap, sym, ◌∙◌, append-nil}
-use Rattle.star_spec.specs.Names.{clauses_names, target_names}
+use Rattle.code_spec.specs.Names.{clauses_names, target_names}
 use Rattle.star_tree.specs.Whole.{clauses_from, expr_of}
 use Rattle.star_tree.specs.Listed.{clauses_of}
 use Rattle.star_resolve.proofs.Putting.{put_same}

@@ -1,6 +1,6 @@
 use Rattle.std.proofs.Common.{List, ◌++◌, ◌∷◌, [], true, ap, sym, ◌∙◌}
-use Rattle.star_spec.specs.Names.{clauses_names}
-use Rattle.star_spec.specs.Allowed.{parameter_names}
+use Rattle.code_spec.specs.Names.{clauses_names}
+use Rattle.code_spec.specs.Allowed.{parameter_names}
 use Rattle.star_tree.specs.Whole.{expr_of, parameters_of}
 use Rattle.star_tree.specs.declared.code.Clause as held
 use Rattle.star_tree.specs.declared.code.Expr.{Expr}

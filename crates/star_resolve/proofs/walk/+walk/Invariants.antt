@@ -1,5 +1,5 @@
 use Rattle.std.proofs.Common.{◌≡◌, ◌++◌, drop}
-use Rattle.star_spec.specs.Names.{clauses_names}
+use Rattle.code_spec.specs.Names.{clauses_names}
 use Rattle.star_tree.specs.Whole.{exprs_of, parameters_of}
 use Rattle.star_resolve.specs.Events.{clauses_events, entries_events, exprs_events, parameters_events, pieces_events}
 use Rattle.star_tree.specs.Listed.{clauses_of, entries_of, pieces_of}

@@ -1,5 +1,5 @@
 use Rattle.std.proofs.Common.{◌≡◌, drop, map as each}
-use Rattle.star_spec.specs.Names.{is_among}
+use Rattle.code_spec.specs.Names.{is_among}
 use Rattle.star_tree.proofs.names.is_one_of.Given as goal
 
 abbrev pub invariant-loop-word : goal.invariant-loop-word

@@ -1,6 +1,6 @@
 use Rattle.std.proofs.Common.{◌∷◌, sym}
 use Rattle.ytt_base.specs.Outcomes.{place_at}
-use Rattle.star_spec.specs.Program.{begin_for}
+use Rattle.code_spec.specs.Program.{begin_for}
 use Rattle.star_tree.specs.Whole.{expr_of}
 use Rattle.template_program.proofs.Emitting.{on_ok_same}
 use Rattle.template_program.proofs.parts.put_for.Goals as goal

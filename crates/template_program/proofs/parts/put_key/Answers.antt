@@ -1,7 +1,7 @@
 use Rattle.std.proofs.Common.{◌∷◌, Option, ap, sym, ◌∙◌}
 use Rattle.ytt_base.specs.declared.tree.Key.{Key}
 use Rattle.ytt_base.specs.View.{key_of}
-use Rattle.star_spec.specs.Program.{part, node_key}
+use Rattle.code_spec.specs.Program.{part, node_key}
 use Rattle.template_spec.specs.Compiled.{key_code}
 use Rattle.template_tree.specs.View.{in_key}
 use Rattle.template_program.proofs.Emitting.{on_ok_same}

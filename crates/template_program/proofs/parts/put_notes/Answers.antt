@@ -1,6 +1,6 @@
 use Rattle.std.proofs.Common.{◌∷◌, refl, sym}
 use Rattle.ytt_base.specs.Outcomes.{place_at}
-use Rattle.star_spec.specs.Program.{part, node_note}
+use Rattle.code_spec.specs.Program.{part, node_note}
 use Rattle.star_tree.specs.Whole.{exprs_of}
 use Rattle.template_spec.specs.Compiled.{notes_code}
 use Rattle.template_tree.specs.View.{notes_of}

@@ -2,7 +2,7 @@ use Rattle.std.proofs.lemmas.Result.{err_from_is_err_and}
 use Rattle.star_resolve.specs.declared.binding.Resolved.{Resolved}
 use Rattle.star_spec.specs.Eval.{starlark}
 use Rattle.star_tree.specs.Whole.{program_of}
-use Rattle.template_spec.proofs.Theorem.{agrees}
+use Rattle.template_meaning.proofs.Theorem.{agrees}
 use Rattle.template_tree.specs.View.{template_of}
 use Rattle.template_program.proofs.Telling.{built_whole, none_unbuilt, one_unbuilt, refused_first}
 use Rattle.template_program.proofs.passes.compile.Goals as goal

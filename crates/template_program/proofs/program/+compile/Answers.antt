@@ -1,7 +1,7 @@
 use Rattle.std.proofs.Common.{◌∷◌, Option, ap, sym, ◌∙◌, refl}
 use Rattle.ytt_base.specs.Outcomes.{place_at}
 use Rattle.ytt_base.specs.View.{key_of}
-use Rattle.star_spec.specs.Program.{part, node_start, node_value, node_value_from, node_end, begin_def, close}
+use Rattle.code_spec.specs.Program.{part, node_start, node_value, node_value_from, node_end, begin_def, close}
 use Rattle.star_tree.specs.View.{item_kind_of}
 use Rattle.star_tree.specs.Whole.{expr_of, parameters_of}
 use Rattle.star_tree.specs.declared.code.Expr.{Expr}

@@ -1,5 +1,5 @@
 use Rattle.std.proofs.Common.{◌≡◌, List, ◌++◌, drop}
-use Rattle.star_spec.specs.Program.{Instruction}
+use Rattle.code_spec.specs.Program.{Instruction}
 use Rattle.star_tree.specs.Whole.{instructions_of}
 use Rattle.template_spec.specs.Compiled.{items_code}
 use Rattle.template_tree.specs.View.{items_of}

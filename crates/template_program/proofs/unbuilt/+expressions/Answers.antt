@@ -2,7 +2,7 @@ use Rattle.std.proofs.Common.{List, refl, ap, ◌∙◌}
 use Rattle.star_tree.specs.Whole.{expr_of, exprs_of}
 use Rattle.star_tree.specs.declared.code.Expr.{Expr}
 use Rattle.star_tree.proofs.Forms.{expr_of-If}
-use Rattle.star_spec.specs.Unbuilt.{unbuilt_expr, unbuilt_exprs}
+use Rattle.code_spec.specs.Unbuilt.{unbuilt_expr, unbuilt_exprs}
 use Rattle.template_program.specs.Places.{earlier}
 use Rattle.template_program.proofs.Finding.{earlier_after, earlier_turn, in_operands, in_text, in_three}
 use Rattle.template_program.proofs.unbuilt.+expressions.Goals as goal

@@ -1,6 +1,6 @@
 use Rattle.std.proofs.Common.{◌≡◌, drop}
 use Rattle.star_tree.specs.Whole.{exprs_of}
-use Rattle.star_spec.specs.Unbuilt.{unbuilt_exprs}
+use Rattle.code_spec.specs.Unbuilt.{unbuilt_exprs}
 use Rattle.template_program.specs.Places.{earlier}
 use Rattle.template_program.proofs.unbuilt.+expressions.Given as goal
 

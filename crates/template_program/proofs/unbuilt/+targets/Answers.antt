@@ -1,7 +1,7 @@
 use Rattle.std.proofs.Common.{List, refl}
 use Rattle.star_tree.specs.Whole.{expr_of, exprs_of}
 use Rattle.star_tree.specs.declared.code.Expr.{Expr}
-use Rattle.star_spec.specs.Unbuilt.{unbuilt_target, unbuilt_targets}
+use Rattle.code_spec.specs.Unbuilt.{unbuilt_target, unbuilt_targets}
 use Rattle.template_program.proofs.Finding.{earlier_turn}
 use Rattle.template_program.proofs.unbuilt.+targets.Goals as goal
 

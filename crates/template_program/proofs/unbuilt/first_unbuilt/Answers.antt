@@ -1,7 +1,7 @@
 use Rattle.std.proofs.Common.{List, refl}
 use Rattle.star_tree.specs.Whole.{instruction_of, instructions_of}
 use Rattle.star_tree.specs.declared.code.Stmt.{Stmt}
-use Rattle.star_spec.specs.Unbuilt.{unbuilt_code, unbuilt_instruction}
+use Rattle.code_spec.specs.Unbuilt.{unbuilt_code, unbuilt_instruction}
 use Rattle.template_program.proofs.Finding.{earlier_turn}
 use Rattle.template_program.proofs.unbuilt.first_unbuilt.Goals as goal
 

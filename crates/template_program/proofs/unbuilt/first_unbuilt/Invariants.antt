@@ -1,6 +1,6 @@
 use Rattle.std.proofs.Common.{◌≡◌, drop}
 use Rattle.star_tree.specs.Whole.{instructions_of}
-use Rattle.star_spec.specs.Unbuilt.{unbuilt_code}
+use Rattle.code_spec.specs.Unbuilt.{unbuilt_code}
 use Rattle.template_program.specs.Places.{earlier}
 use Rattle.template_spec.specs.Unbuilt.{first_unbuilt}
 use Rattle.template_program.proofs.unbuilt.first_unbuilt.Given as goal

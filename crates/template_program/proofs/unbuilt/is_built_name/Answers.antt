@@ -1,5 +1,5 @@
 use Rattle.std.proofs.Common.{ap, ◌∙◌}
-use Rattle.star_spec.specs.Names.{is_among, own_functions}
+use Rattle.code_spec.specs.Names.{is_among, own_functions}
 use Rattle.template_program.proofs.Binding.{built_bound, built_unless}
 use Rattle.template_program.proofs.unbuilt.is_built_name.Goals as goal
 

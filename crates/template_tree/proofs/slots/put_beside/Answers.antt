@@ -4,7 +4,7 @@ use Rattle.ytt_base.specs.View.{key_of, tree_of}
 use Rattle.notes_read.specs.View.{said_of}
 use Rattle.star_tree.specs.View.{item_kind_of}
 use Rattle.star_tree.specs.Whole.{expr_of}
-use Rattle.template_spec.specs.Comments.{a_value}
+use Rattle.template_spec.specs.Comments.{a_value, Said, a_note}
 use Rattle.template_events.specs.View.{shape_of}
 use Rattle.template_pass.specs.Building as build
 use Rattle.template_spec.specs.Nesting as nesting
@@ -13,7 +13,6 @@ use Rattle.template_tree.specs.Puts.{befores_of, put_of, puts_of}
 use Rattle.template_tree.specs.Slots.{same_slot, slot_of, slots_of, with_notes}
 use Rattle.template_tree.specs.View.{content_of, item_of, items_of, notes_of}
 use Rattle.notes_read.specs.declared.comment.Comment.{Comment}
-use Rattle.template_spec.specs.Comments.{Said, a_note}
 use Rattle.template_tree.proofs.Slotting.{on_ok}
 use Rattle.template_tree.specs.declared.tree.TNote.{TNote}
 use Rattle.template_tree.proofs.slots.put_beside.Goals as goal

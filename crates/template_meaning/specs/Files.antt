@@ -3,8 +3,8 @@
 use Rattle.std.specs.Prelude.{ℕ, ◌==◌, Bool, List, [], ◌∷◌, ◌++◌, length, slice_index, Option, Some, None, bytes_eq, if◌then◌else◌}
 use Rattle.ytt_base.specs.declared.fault.FaultKind.TheVariants as kind
 use Rattle.ytt_base.specs.declared.fault.Place.{Place}
-use Rattle.star_spec.specs.Code.{Name, LoadedNames, no_loaded, a_loaded, Statement, load}
-use Rattle.star_spec.specs.Blocks.{Op, op_part, op_statement, op_if, op_for, op_def, Ops, no_ops, an_op}
+use Rattle.code_spec.specs.Code.{Name, LoadedNames, no_loaded, a_loaded, Statement, load}
+use Rattle.code_spec.specs.Blocks.{Op, op_part, op_statement, op_if, op_for, op_def, Ops, no_ops, an_op}
 use Rattle.star_spec.specs.Values.{Value, Children, Env, Store}
 use Rattle.star_spec.specs.Outcomes.{Computation, done, give, fail_with, or_ill_formed, on_store, ◌>>=◌}
 use Rattle.star_spec.specs.Store.{box_at, freeze_since}

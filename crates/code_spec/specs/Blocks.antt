@@ -1,8 +1,8 @@
 -- The blocks of a program.
 use Rattle.std.specs.Prelude.{ℕ, List, [], ◌∷◌, Option, Some, None}
 use Rattle.ytt_base.specs.declared.fault.Place.{Place}
-use Rattle.star_spec.specs.Code.{Name, Expr, Parameters, Statement}
-use Rattle.star_spec.specs.Program.{ItemKind, NodePart, Instruction, part, statement, begin_if, begin_elif, begin_else, begin_for, begin_def, close}
+use Rattle.code_spec.specs.Code.{Name, Expr, Parameters, Statement}
+use Rattle.code_spec.specs.Program.{ItemKind, NodePart, Instruction, part, statement, begin_if, begin_elif, begin_else, begin_for, begin_def, close}
 
 -- a program cut into its blocks; the parts of a node stay in one row
 mutual

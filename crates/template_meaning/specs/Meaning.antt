@@ -1,22 +1,22 @@
 -- The two meanings of a file, and what it says that they agree.
 use Rattle.std.specs.Prelude.{◌≡◌, ℕ, zero, suc, List, [], ◌∷◌, Option, Some, None, if◌then◌else◌}
 use Rattle.ytt_base.specs.Trees.{Trees, no_trees, tree, is_null}
-use Rattle.star_spec.specs.Code.{Name}
-use Rattle.star_spec.specs.Program.{Instruction}
+use Rattle.code_spec.specs.Code.{Name}
+use Rattle.code_spec.specs.Program.{Instruction}
 use Rattle.star_spec.specs.Values.{child, Children, no_children, a_child, Env}
 use Rattle.star_spec.specs.Outcomes.{State, Computation, give, ill_formed, ◌>>=◌}
 use Rattle.star_spec.specs.Language.{Call, Language}
-use Rattle.star_spec.specs.Blocks.{Ops, blocks}
+use Rattle.code_spec.specs.Blocks.{Ops, blocks}
 use Rattle.star_spec.specs.Calls.{Host}
 use Rattle.template_spec.specs.Template.{Items}
 use Rattle.template_spec.specs.Compiled.{compiled}
-use Rattle.template_spec.specs.Take.{body_tree}
-use Rattle.template_spec.specs.Build.{builds, built}
-use Rattle.template_spec.specs.Run.{runs}
-use Rattle.star_spec.specs.Scopes.{ops_names}
+use Rattle.template_meaning.specs.Take.{body_tree}
+use Rattle.template_meaning.specs.Build.{builds, built}
+use Rattle.template_meaning.specs.Run.{runs}
+use Rattle.code_spec.specs.Scopes.{ops_names}
 use Rattle.template_spec.specs.Names.{items_names}
-use Rattle.template_spec.specs.Calls.{bottom, bottom_flow, template_calls, program_calls}
-use Rattle.template_spec.specs.Files.{Load, items_loads, ops_loads, Loader, FileResult, File, Shelf, loader_of}
+use Rattle.template_meaning.specs.Calls.{bottom, bottom_flow, template_calls, program_calls}
+use Rattle.template_meaning.specs.Files.{Load, items_loads, ops_loads, Loader, FileResult, File, Shelf, loader_of}
 use Rattle.template_spec.specs.ControlWords.{free, WordsStand}
 
 -- ---- in a scope

@@ -1,5 +1,5 @@
-use Rattle.template_spec.proofs.Theorem.{agrees, files_agree, loads_run_as_built}
-use Rattle.template_spec.proofs.compiled_runs_as_built.Goals as goal
+use Rattle.template_meaning.proofs.Theorem.{agrees, files_agree, loads_run_as_built}
+use Rattle.template_meaning.proofs.compiled_runs_as_built.Goals as goal
 
 pub returns : goal.returns
 returns g c = record {

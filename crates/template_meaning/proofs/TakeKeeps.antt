@@ -4,19 +4,19 @@ use Rattle.std.proofs.lemmas.Slice.Eq.{bytes_eq-Decides}
 use Rattle.ytt_base.specs.declared.fault.FaultKind.TheVariants as kind
 use Rattle.ytt_base.specs.declared.fault.Place.{Place}
 use Rattle.ytt_base.specs.Trees.{Scalar, null, boolean, integer, string, same_bool, same_integer, same_key, has_key, Tree, scalar, list, map, Trees, no_trees, tree, Pairs, no_pairs, pair, keys, IsScalar, IsTree, AreTrees, ArePairs, depth, trees_depth, pairs_depth, max_depth}
-use Rattle.star_spec.specs.Allowed.{has_name, are_distinct}
-use Rattle.star_spec.specs.Code.{Name}
+use Rattle.code_spec.specs.Allowed.{has_name, are_distinct}
+use Rattle.code_spec.specs.Code.{Name}
 use Rattle.star_spec.specs.Held.{HeldValue, HeldFields, field_names, HeldKey, HeldChild, HeldChildren, HeldBody, child_keys, keys_distinct, HeldList, has_equal_key, HeldPairs, HeldContents}
 use Rattle.star_spec.specs.Keys as value_keys
 use Rattle.star_spec.specs.Keys.{text_cost}
 use Rattle.star_spec.specs.Outcomes.{Computation, ◌>>=◌, give, fail}
-use Rattle.star_spec.specs.Program.{ItemKind, document_item, pair_item, element_item}
+use Rattle.code_spec.specs.Program.{ItemKind, document_item, pair_item, element_item}
 use Rattle.star_spec.specs.Store.{object_at}
 use Rattle.star_spec.specs.Values.{Value, none_value, bool_value, int_value, text_value, tuple_value, range_value, struct_value, fragment_value, list_value, dict_value, function_value, module_value, builtin_value, method_value, native_value, replace_value, values_in, Fields, no_fields, a_field, fields_in, Child, child, Children, no_children, a_child, BuiltNotes, Body, one, map_of, list_of, Taken, taken, many, Contents, of_list, of_dict, of_box, of_function, Object}
 use Rattle.star_spec.proofs.EvalKeeps.{in_values}
 use Rattle.star_spec.proofs.Keeping.{Keeps, Anything, keeps_then, keeps_give, keeps_fail, keeps_paid, keeps_if, keeps_reads, keeps_weaker, HeldIfThere, object_held}
-use Rattle.template_spec.specs.Adding.{keys_equal, overrides, add_child, add_all, add_taken}
-use Rattle.template_spec.specs.Take.{body_tree, children_trees, children_pairs, scalar_paid, key_paid, below, tree_paid, trees_paid, pairs_paid, children_paid, body_paid, scalar_of_value, trees_by, pairs_by, with_text_keys, object_tree, inner_tree, outer_tree, deeper_tree, tree_of_value, levels_at, levels_replaced, elements_at, pairs_at, members_at, fits_kind, children_in_place, replaced, take_over, key_taken}
+use Rattle.template_meaning.specs.Adding.{keys_equal, overrides, add_child, add_all, add_taken}
+use Rattle.template_meaning.specs.Take.{body_tree, children_trees, children_pairs, scalar_paid, key_paid, below, tree_paid, trees_paid, pairs_paid, children_paid, body_paid, scalar_of_value, trees_by, pairs_by, with_text_keys, object_tree, inner_tree, outer_tree, deeper_tree, tree_of_value, levels_at, levels_replaced, elements_at, pairs_at, members_at, fits_kind, children_in_place, replaced, take_over, key_taken}
 
 -- ---- depths
 

@@ -2,15 +2,15 @@
 use Rattle.std.specs.Prelude.{ℕ, suc, List, [], ◌∷◌, Option, Some, None}
 use Rattle.ytt_base.specs.declared.fault.Place.{Place}
 use Rattle.ytt_base.specs.Trees.{Scalar, null, scalar}
-use Rattle.star_spec.specs.Code.{Name}
-use Rattle.star_spec.specs.Program.{ItemKind, Holds, holds_one, holds_map, holds_list, holds_void, NodePart, node_start, node_note, node_key, node_key_from, node_value, node_value_from, node_end}
+use Rattle.code_spec.specs.Code.{Name}
+use Rattle.code_spec.specs.Program.{ItemKind, Holds, holds_one, holds_map, holds_list, holds_void, NodePart, node_start, node_note, node_key, node_key_from, node_value, node_value_from, node_end}
 use Rattle.star_spec.specs.Values.{Arguments, Children, no_children, BuiltNotes, no_built, a_built, one, map_of, list_of, Taken, taken, Env}
 use Rattle.star_spec.specs.Outcomes.{Computation, paid, give, ill_formed, ◌>>=◌}
 use Rattle.star_spec.specs.Language.{Call, Language, execute, define}
 use Rattle.star_spec.specs.Flow.{on, Part, skip, in_turn, plain, when, test_of, loop}
-use Rattle.star_spec.specs.Blocks.{Op, op_part, op_statement, op_if, op_for, op_def, Ops, no_ops, an_op, Arms, no_arm, else_arm, arm}
-use Rattle.template_spec.specs.Take.{take_over, key_taken}
-use Rattle.template_spec.specs.Adding.{add_taken}
+use Rattle.code_spec.specs.Blocks.{Op, op_part, op_statement, op_if, op_for, op_def, Ops, no_ops, an_op, Arms, no_arm, else_arm, arm}
+use Rattle.template_meaning.specs.Take.{take_over, key_taken}
+use Rattle.template_meaning.specs.Adding.{add_taken}
 
 -- an open node; `level` counts the collections around its children
 pub record Node : Type 0 where

@@ -1,19 +1,19 @@
 -- The functions of templates and of programs: what their blocks do when they are called, and where their code is found.
 use Rattle.std.specs.Prelude.{ℕ, List, [], ◌∷◌, Option, Some, None, nat_eq}
 use Rattle.ytt_base.specs.Outcomes.{first_place}
-use Rattle.star_spec.specs.Program.{ItemKind, document_item, pair_item, element_item, holds_list, NodePart, node_start, node_note, node_key, node_key_from, node_value, node_value_from, node_end, Instruction}
+use Rattle.code_spec.specs.Program.{ItemKind, document_item, pair_item, element_item, holds_list, NodePart, node_start, node_note, node_key, node_key_from, node_value, node_value_from, node_end, Instruction}
 use Rattle.star_spec.specs.Values.{Value, none_value, fragment_value, Children, no_children}
 use Rattle.star_spec.specs.Outcomes.{give, ◌>>=◌}
-use Rattle.star_spec.specs.Keys.{or_else}
+use Rattle.code_spec.specs.Options.{or_else}
 use Rattle.star_spec.specs.Language.{Call, Language, returns}
 use Rattle.star_spec.specs.Flow.{Flow, on, out}
-use Rattle.star_spec.specs.Blocks.{Op, op_part, op_statement, op_if, op_for, op_def, Ops, no_ops, an_op, Arms, no_arm, else_arm, arm, blocks}
+use Rattle.code_spec.specs.Blocks.{Op, op_part, op_statement, op_if, op_for, op_def, Ops, no_ops, an_op, Arms, no_arm, else_arm, arm, blocks}
 use Rattle.star_spec.specs.Calls.{Code, of_def, Table, Enter, Host, apply}
 use Rattle.star_spec.specs.Lambdas.{only_if, lambda_in, lambda_among, lambda_in_parameters, lambda_in_statement, lambda_code}
 use Rattle.template_spec.specs.Template.{Notes, no_notes, note, Key, no_key, written_key, key_from, Item, node, code, if_block, for_block, def_block, Items, no_items, an_item, Branches, no_branch, else_branch, elif_branch, Content, written_value, value_from, pairs, elements, fragment_kind}
-use Rattle.template_spec.specs.Build.{builds, built}
-use Rattle.template_spec.specs.Run.{Node, opened, runs}
-use Rattle.star_spec.specs.Scopes.{ops_names}
+use Rattle.template_meaning.specs.Build.{builds, built}
+use Rattle.template_meaning.specs.Run.{Node, opened, runs}
+use Rattle.code_spec.specs.Scopes.{ops_names}
 use Rattle.template_spec.specs.Names.{items_names}
 
 -- ---- the block of a function

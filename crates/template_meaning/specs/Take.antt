@@ -6,8 +6,8 @@ use Rattle.std.specs.Prelude.{ℕ, zero, suc, ◌-◌, Bool, true, false, List, 
 use Rattle.ytt_base.specs.declared.fault.FaultKind.TheVariants as kind
 use Rattle.ytt_base.specs.declared.fault.Place.{Place}
 use Rattle.ytt_base.specs.Trees.{Scalar, null, boolean, integer, string, Tree, scalar, list, map, Trees, no_trees, tree, Pairs, no_pairs, pair, max_depth}
-use Rattle.star_spec.specs.Code.{Name}
-use Rattle.star_spec.specs.Program.{ItemKind, document_item, pair_item, element_item}
+use Rattle.code_spec.specs.Code.{Name}
+use Rattle.code_spec.specs.Program.{ItemKind, pair_item, element_item, same_kind}
 use Rattle.star_spec.specs.Values.{Value, none_value, bool_value, int_value, text_value, tuple_value, struct_value, fragment_value, list_value, dict_value, replace_value, values_in, fields_in, child, Children, no_children, a_child, no_built, Body, one, map_of, list_of, Taken, taken, many, of_list, of_dict, of_box, of_function, Object}
 use Rattle.star_spec.specs.Outcomes.{Computation, paid, paid_by, give, fail, reads, ◌>>=◌}
 use Rattle.star_spec.specs.Keys.{text_cost}
@@ -149,12 +149,6 @@ levels_at n = max_depth - n
 -- what stands in the node's place has its members there: one level less counts
 abbrev pub levels_replaced : (around : ℕ) → ℕ
 levels_replaced n = suc max_depth - n
-
-abbrev pub same_kind : ItemKind → ItemKind → Bool
-same_kind document_item document_item = true
-same_kind pair_item pair_item = true
-same_kind element_item element_item = true
-same_kind _ _ = false
 
 -- the members of a tree as children at an item's place
 abbrev pub elements_at : Place → Trees → Children

@@ -1,7 +1,7 @@
 -- Parts of blocks that do the same over what they build: g takes what the one builds to what the other builds.
 use Rattle.std.proofs.Common.{◌≡◌, List, [], ◌∷◌, Option, Some, None, Bool, true, false, if◌then◌else◌, refl, ap, ◌∙◌}
 use Rattle.ytt_base.specs.declared.fault.Place.{Place}
-use Rattle.star_spec.specs.Code.{Expr}
+use Rattle.code_spec.specs.Code.{Expr}
 use Rattle.star_spec.specs.Values.{Value, Env}
 use Rattle.star_spec.specs.Outcomes.{State, Ending, done, bad, then_do, Computation, ◌>>=◌, give, take_steps, paid, finally, on_store}
 use Rattle.star_spec.specs.Store.{begin_loop, end_loop}

@@ -1,15 +1,22 @@
 -- A program: a flat list of instructions, each with its place, which are parts of nodes, simple statements, and the
 -- heads and ends of blocks.
-use Rattle.std.specs.Prelude.{ℕ, Option}
+use Rattle.std.specs.Prelude.{ℕ, Option, Bool, true, false}
 use Rattle.ytt_base.specs.declared.fault.Place.{Place}
 use Rattle.ytt_base.specs.Trees.{Scalar}
-use Rattle.star_spec.specs.Code.{Name, Expr, Exprs, Parameters, Statement}
+use Rattle.code_spec.specs.Code.{Name, Expr, Exprs, Parameters, Statement}
 
 -- what an item is
 pub data ItemKind : Type 0 where
   document_item : ItemKind
   pair_item : ItemKind
   element_item : ItemKind
+
+-- both are of one kind
+abbrev pub same_kind : ItemKind → ItemKind → Bool
+same_kind document_item document_item = true
+same_kind pair_item pair_item = true
+same_kind element_item element_item = true
+same_kind _ _ = false
 
 -- what a node holds: one value, the pairs of a map, the elements of a list, or nothing, where all items that are
 -- written in it stand in blocks of functions

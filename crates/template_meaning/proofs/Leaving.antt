@@ -1,7 +1,7 @@
 -- In a template whose control words stand where they may, none leaves a node.
 use Rattle.std.proofs.Common.{ℕ, List, [], ◌∷◌, Option, Some, None, Bool, true, false, if◌then◌else◌}
 use Rattle.ytt_base.specs.declared.fault.Place.{Place}
-use Rattle.star_spec.specs.Code.{Name, Expr, Parameters, Statement, evaluate, assign, augment, load, return, break, continue, pass}
+use Rattle.code_spec.specs.Code.{Name, Expr, Parameters, Statement, evaluate, assign, augment, load, return, break, continue, pass}
 use Rattle.template_spec.specs.Template.{Item, node, code, if_block, for_block, def_block, Items, no_items, an_item, Branches, no_branch, else_branch, elif_branch}
 use Rattle.star_spec.specs.Values.{Value, Children, Env}
 use Rattle.star_spec.specs.Outcomes.{State, Ending, done, bad, then_do, Computation, ◌>>=◌, give, take_steps, paid, finally, on_store}
@@ -9,8 +9,8 @@ use Rattle.star_spec.specs.Store.{begin_loop, end_loop}
 use Rattle.star_spec.specs.Language.{Call, Language, new_function, execute, define, Word, breaks, continues, returns}
 use Rattle.star_spec.specs.Members.{walked_in}
 use Rattle.star_spec.specs.Flow.{Flow, on, out, Part, go_on, worded, plain, test_of, next_turn, turns, loop}
-use Rattle.template_spec.specs.Build.{notes_meaning, build, builds, choose, content, key_meaning}
-use Rattle.template_spec.specs.Adding.{add_taken}
+use Rattle.template_meaning.specs.Build.{notes_meaning, build, builds, choose, content, key_meaning}
+use Rattle.template_meaning.specs.Adding.{add_taken}
 use Rattle.template_spec.specs.ControlWords.{Around, free, in_loop, in_node, within_loop, MayStand, ItemWordsStand, WordsStand, BranchWordsStand}
 
 -- a fact of the value, if there is one

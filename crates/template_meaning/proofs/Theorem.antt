@@ -1,29 +1,31 @@
 -- A compiled template runs as it is built, its functions, its file and the files that it loads too.
 use Rattle.std.proofs.Common.{◌≡◌, ℕ, zero, suc, List, [], ◌∷◌, Option, Some, None, length, refl, ap, ◌∙◌}
 use Rattle.ytt_base.specs.declared.fault.Place.{Place}
-use Rattle.star_spec.specs.Program.{Instruction}
+use Rattle.code_spec.specs.Program.{Instruction}
 use Rattle.star_spec.specs.Values.{Value, Arguments, Children, no_children, Env}
 use Rattle.star_spec.specs.Outcomes.{State, Ending, done, bad, then_do, ◌>>=◌, give, or_ill_formed}
 use Rattle.star_spec.specs.Language.{Call, Language}
 use Rattle.star_spec.specs.Names.{with_boxes}
 use Rattle.star_spec.specs.Flow.{Flow, on, out}
-use Rattle.star_spec.specs.Blocks.{no_ops, blocks}
+use Rattle.code_spec.specs.Blocks.{no_ops, blocks}
 use Rattle.star_spec.specs.Calls.{Host, call_with_natives, function_call, Code, of_lambda, of_def, parameters_of, names_of, enter_code, function_of}
 use Rattle.template_spec.specs.Template.{Items}
 use Rattle.template_spec.specs.Compiled.{compiled}
-use Rattle.template_spec.specs.Build.{builds, built}
-use Rattle.template_spec.specs.Run.{runs}
-use Rattle.template_spec.specs.Calls.{result_of, level_of, enter_items, enter_ops, bottom, bottom_flow, template_table, program_table, template_calls, program_calls}
-use Rattle.template_spec.specs.Files.{items_loads, all_loads, bind_loaded, ended, File, Shelf, loader_of}
-use Rattle.template_spec.specs.Meaning.{run_blocks, Run, RunFile, names_in, loads_in, build_loaded, AllStand, Agrees, FilesAgree, LoadsAgree}
-use Rattle.star_spec.specs.Scopes.{ops_names}
+use Rattle.template_meaning.specs.Build.{builds, built}
+use Rattle.template_meaning.specs.Run.{runs}
+use Rattle.template_meaning.specs.Calls.{result_of, level_of, enter_items, enter_ops, bottom, bottom_flow, template_table, program_table, template_calls, program_calls}
+use Rattle.template_meaning.specs.Files.{items_loads, all_loads, bind_loaded, ended, File, Shelf, loader_of}
+use Rattle.template_meaning.specs.Meaning.{run_blocks, Run, RunFile, names_in, loads_in, build_loaded, AllStand, Agrees, FilesAgree, LoadsAgree}
+use Rattle.code_spec.specs.Scopes.{ops_names}
 use Rattle.template_spec.specs.Names.{items_names}
 use Rattle.template_spec.specs.ControlWords.{free, WordsStand}
 use Rattle.star_spec.proofs.Computations.{then_ext}
-use Rattle.template_spec.proofs.Follows.{mapped}
-use Rattle.template_spec.proofs.Runs.{onto, as_block, items_runs}
-use Rattle.template_spec.proofs.NamesAgree.{same_names, same_loads}
-use Rattle.template_spec.proofs.Functions.{to_ops, lifted, blocks_of, tables_agree, IfFound, items_found}
+use Rattle.template_meaning.proofs.Follows.{mapped}
+use Rattle.template_meaning.proofs.Runs.{onto, as_block, items_runs}
+use Rattle.template_spec.proofs.NamesAgree.{same_names}
+use Rattle.template_meaning.proofs.Loads.{same_loads}
+use Rattle.template_spec.proofs.Nested.{to_ops, blocks_of}
+use Rattle.template_meaning.proofs.Functions.{lifted, tables_agree, IfFound, items_found}
 
 -- what is read of the bottom is what was built
 at_bottom : {H B : Type 0} (n : ℕ) (h : Flow Children → B) (r : Ending H (Flow Children)) → then_do (mapped (onto (bottom n) []) r) (λ f. give (h (bottom_flow f))) ≡ then_do r (λ f. give (h f))

@@ -1,8 +1,8 @@
 -- The numbers of lambdas in code: in text order, from the first one that is free. Each pass gives the code with its
 -- numbers, and the next number that is free.
 use Rattle.std.specs.Prelude.{ℕ, suc}
-use Rattle.star_spec.specs.Code as code
-use Rattle.star_spec.specs.Code.{Expr, Exprs, no_exprs, an_expr, OptionalExpr, absent, present, Entries, no_entries, an_entry, Clauses, no_clauses, for_clause, if_clause, Pieces, no_pieces, text_piece, expr_piece, Parameters, no_parameters, required, defaulted, bare_star, starred_parameter, double_starred_parameter, Statement, evaluate, assign, augment, load, return, break, continue, pass}
+use Rattle.code_spec.specs.Code as code
+use Rattle.code_spec.specs.Code.{Expr, Exprs, no_exprs, an_expr, OptionalExpr, absent, present, Entries, no_entries, an_entry, Clauses, no_clauses, for_clause, if_clause, Pieces, no_pieces, text_piece, expr_piece, Parameters, no_parameters, required, defaulted, bare_star, starred_parameter, double_starred_parameter, Statement, evaluate, assign, augment, load, return, break, continue, pass}
 
 -- what a pass gives
 pub record Passed (A : Type 0) : Type 0 where

@@ -1,20 +1,17 @@
 -- A compiled template holds the same functions as the template.
 use Rattle.std.proofs.Common.{◌≡◌, ℕ, Option, Some, None, Bool, true, false, refl, sym, ap, ◌∙◌, nat_eq}
 use Rattle.ytt_base.specs.declared.fault.Place.{Place}
-use Rattle.star_spec.specs.Code.{Parameters}
-use Rattle.star_spec.specs.Program.{ItemKind, node_end}
-use Rattle.star_spec.specs.Blocks.{op_part, Ops, no_ops, an_op, whole, blocks}
+use Rattle.code_spec.specs.Code.{Parameters}
+use Rattle.code_spec.specs.Program.{ItemKind, node_end}
+use Rattle.code_spec.specs.Blocks.{op_part, Ops, no_ops, an_op}
 use Rattle.star_spec.specs.Calls.{Code, of_lambda, of_def}
-use Rattle.star_spec.specs.Keys.{or_else}
+use Rattle.code_spec.specs.Options.{or_else}
 use Rattle.star_spec.specs.Lambdas.{Lambda, only_if, lambda_in, lambda_among, lambda_in_parameters, lambda_in_statement, lambda_code}
 use Rattle.template_spec.specs.Template.{Notes, no_notes, note, Key, no_key, written_key, key_from, Item, node, code, if_block, for_block, def_block, Items, no_items, an_item, Branches, no_branch, else_branch, elif_branch, Content, written_value, value_from, pairs, elements, fragment_kind}
 use Rattle.template_spec.specs.Compiled.{compiled}
-use Rattle.template_spec.specs.Calls.{notes_function, key_function, function_of, function_among, branches_function, content_function, ops_function, arms_function, program_function, template_table, program_table}
+use Rattle.template_meaning.specs.Calls.{notes_function, key_function, function_of, function_among, branches_function, content_function, ops_function, arms_function, program_function, template_table, program_table}
 use Rattle.template_spec.specs.ControlWords.{Around, free, in_node, within_loop, ItemWordsStand, WordsStand, BranchWordsStand, ContentWordsStand}
-use Rattle.template_spec.proofs.Nested.{notes_ops, key_ops, item_ops, items_ops, arms, content_ops, compiled_blocks}
-
-abbrev pub to_ops : Items → Ops
-to_ops t = items_ops t no_ops
+use Rattle.template_spec.proofs.Nested.{notes_ops, key_ops, item_ops, items_ops, arms, content_ops, to_ops, blocks_of}
 
 -- a function's code, compiled
 abbrev pub compiled_code : Code Items → Code Ops
@@ -108,9 +105,6 @@ mutual
   content_same k p (value_from e) os = front (lambda_code (lambda_in k e)) _ (ops_function k os) (lifted_code (lambda_in k e))
   content_same k p (pairs is) os = items_same k is os
   content_same k p (elements is) os = items_same k is os
-
-pub blocks_of : (t : Items) → blocks (compiled t) ≡ Some (to_ops t)
-blocks_of t = ap whole (compiled_blocks t)
 
 pub tables_agree : (files : ℕ → Items) (f k : ℕ) → program_table (λ f. compiled (files f)) f k ≡ lifted (template_table files f k)
 tables_agree files f k = ap (program_function k) (blocks_of (files f)) ∙ items_same k (files f) no_ops ∙ or_none (lifted (function_among k (files f)))

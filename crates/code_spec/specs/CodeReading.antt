@@ -2,8 +2,8 @@
 use Rattle.std.specs.Prelude.{ℕ, Bool, List}
 use Rattle.ytt_base.specs.declared.fault.Place.{Place}
 use Rattle.ytt_base.specs.Outcomes.{Outcome}
-use Rattle.star_spec.specs.Code.{Name, Expr, Exprs, Parameters}
-use Rattle.star_spec.specs.Program.{Instruction}
+use Rattle.code_spec.specs.Code.{Name, Expr, Exprs, Parameters}
+use Rattle.code_spec.specs.Program.{Instruction}
 
 -- the head or the end of a block in a template
 pub data Header : Type 0 where

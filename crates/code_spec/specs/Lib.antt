@@ -1,0 +1,10 @@
+pub mod Allowed
+pub mod Blocks
+pub mod Code
+pub mod CodeReading
+pub mod Names
+pub mod Numbering
+pub mod Options
+pub mod Program
+pub mod Scopes
+pub mod Unbuilt

@@ -1,0 +1,9 @@
+pub mod BuildKeeps
+pub mod Examples
+pub mod Follows
+pub mod Functions
+pub mod Leaving
+pub mod Loads
+pub mod Runs
+pub mod TakeKeeps
+pub mod Theorem
