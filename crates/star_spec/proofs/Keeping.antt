@@ -5,7 +5,7 @@ use Rattle.ytt_base.specs.declared.fault.FaultKind.{FaultKind}
 use Rattle.ytt_base.specs.declared.fault.Place.{Place}
 use Rattle.star_spec.specs.Held.{HeldValue, HeldList, HeldPairs, HeldIfAny, HeldContents, HeldStore}
 use Rattle.star_spec.specs.Outcomes.{State, Ending, done, bad, then_do, Computation, ◌>>=◌, give, fail_with, fail, or_fail, need, or_ill_formed, ill_formed, take_if, take_steps, paid_by, paid, on_store, reads, new_object, finally}
-use Rattle.star_spec.specs.Store.{object_at, list_in, pairs_in, box_in, function_in, object, with_object, changed, change, with_contents, as_frozen, freeze_since, walked, change_loops}
+use Rattle.star_spec.specs.Store.{list_of_contents, pairs_of_contents, object_at, list_in, pairs_in, box_in, function_in, object, with_object, changed, change, with_contents, as_frozen, freeze_since, walked, change_loops}
 use Rattle.star_spec.specs.Values.{Value, Function, Contents, of_list, of_dict, of_box, of_function, Object, Store}
 
 abbrev pub Kept : {H A : Type 0} → (A → Type 0) → Ending H A → Type 0
@@ -89,17 +89,18 @@ pub list_held : (o : Option Object) → HeldIfThere o → HeldList (list_in o)
 list_held None h = tt
 list_held (Some o) h = held_list o.contents h
   where
-    held_list : (c : Contents) → HeldContents c → HeldList (elim c [ of_list vs ↦ vs | of_dict ps ↦ [] | of_box v ↦ [] | of_function f ↦ [] ])
+    held_list : (c : Contents) → HeldContents c → HeldList (list_of_contents c)
     held_list (of_list vs) h = h
     held_list (of_dict ps) h = tt
-    held_list (of_box v) h = tt
+    held_list (of_box None) h = tt
+    held_list (of_box (Some v)) h = (h, tt)
     held_list (of_function f) h = tt
 
 pub pairs_held : (o : Option Object) → HeldIfThere o → HeldPairs (pairs_in o)
 pairs_held None h = tt
 pairs_held (Some o) h = held_pairs o.contents h
   where
-    held_pairs : (c : Contents) → HeldContents c → HeldPairs (elim c [ of_list vs ↦ [] | of_dict ps ↦ ps | of_box v ↦ [] | of_function f ↦ [] ])
+    held_pairs : (c : Contents) → HeldContents c → HeldPairs (pairs_of_contents c)
     held_pairs (of_list vs) h = tt
     held_pairs (of_dict ps) h = h
     held_pairs (of_box v) h = tt

@@ -21,6 +21,20 @@ abbrev mutual
   same_keys (a_value a more) (a_value b others) = same_key a b && same_keys more others
   same_keys _ _ = false
 
+-- a value that may be a key: None, a bool, an integer, a text, or a tuple of such
+abbrev mutual
+  pub IsKey : Value → Type 0
+  IsKey none_value = Unit {0}
+  IsKey (bool_value b) = Unit {0}
+  IsKey (int_value z) = Unit {0}
+  IsKey (text_value t) = Unit {0}
+  IsKey (tuple_value vs) = AreKeys vs
+  IsKey _ = ⊥
+
+  pub AreKeys : Values → Type 0
+  AreKeys no_values = Unit {0}
+  AreKeys (a_value v vs) = IsKey v × AreKeys vs
+
 -- why a value is no key, where so many tuples may stand in one another
 abbrev mutual
   pub key_offence : (levels : ℕ) → Value → Option FaultKind

@@ -96,12 +96,12 @@ refusal_kind iterating = kind.Iterating
 refusal_kind index_range = kind.IndexRange
 refusal_kind key_missing = kind.KeyMissing
 
-abbrev pub after_act : {H A : Type 0} → Place → Answer A → Computation H A
+abbrev pub after_act : {H A : Type 0} → Place → Answer Store A → Computation H A
 after_act p (did a store) = λ s. done a (record s { store = store })
 after_act p (refused why) = fail (refusal_kind why) p
 
 -- an act on the store, whose refusal stands at a place
-abbrev pub acting : {H A : Type 0} → Place → Act A → Computation H A
+abbrev pub acting : {H A : Type 0} → Place → Act Store A → Computation H A
 acting p act = λ s. after_act p (act s.store) s
 
 -- what the store shows

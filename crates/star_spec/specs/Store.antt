@@ -1,6 +1,6 @@
--- Acts on the store: each changes it and gives something, or refuses and changes nothing. A change of an object is
--- refused first where it is frozen, then where a loop walks it, and then by what it holds.
-use Rattle.std.specs.Prelude.{ℕ, ◌+◌, ◌-◌, ◌==◌, Bool, true, false, List, [], ◌∷◌, ◌++◌, take, drop, map, Option, Some, None, slice_get, slice_set, remove}
+-- Acts on the store and on one object of it: each changes it and gives something, or refuses and changes nothing. A change
+-- of an object is refused first where it is frozen, then where a loop walks it, and then by what it holds.
+use Rattle.std.specs.Prelude.{ℕ, suc, ◌+◌, ◌-◌, ◌==◌, nat_le, Bool, true, false, List, [], ◌∷◌, ◌++◌, length, take, drop, map, insert, remove, Option, Some, None, if◌then◌else◌, slice_get, slice_set}
 use Rattle.star_spec.specs.Values.{Value, Function, Contents, of_list, of_dict, of_box, of_function, Object, Store}
 use Rattle.star_spec.specs.Keys.{place_of_key}
 
@@ -10,25 +10,70 @@ pub data Refusal : Type 0 where
   index_range : Refusal
   key_missing : Refusal
 
-pub data Answer (A : Type 0) : Type 0 where
-  did : A → Store → Answer A
-  refused : Refusal → Answer A
+-- what an act on an S answers
+pub data Answer (S A : Type 0) : Type 0 where
+  did : A → S → Answer S A
+  refused : Refusal → Answer S A
 
-abbrev pub Act : Type 0 → Type 0
-Act A = Store → Answer A
+abbrev pub Act : Type 0 → Type 0 → Type 0
+Act S A = S → Answer S A
 
--- ---- looking
+-- ---- what an object holds
+
+abbrev pub option_members : Option Value → List Value
+option_members None = []
+option_members (Some v) = v ∷ []
+
+-- the members of a list; a box has one where it has a value, and else none
+abbrev pub list_of_contents : Contents → List Value
+list_of_contents (of_list vs) = vs
+list_of_contents (of_dict ps) = []
+list_of_contents (of_box v) = option_members v
+list_of_contents (of_function f) = []
+
+abbrev pub pairs_of_contents : Contents → List (Value × Value)
+pairs_of_contents (of_list vs) = []
+pairs_of_contents (of_dict ps) = ps
+pairs_of_contents (of_box v) = []
+pairs_of_contents (of_function f) = []
+
+abbrev pub first_of : List Value → Option Value
+first_of [] = None
+first_of (v ∷ vs) = Some v
+
+-- a list or a box with other members
+abbrev pub with_list : List Value → Contents → Contents
+with_list vs (of_list old) = of_list vs
+with_list vs (of_dict ps) = of_dict ps
+with_list vs (of_box old) = of_box (first_of vs)
+with_list vs (of_function f) = of_function f
+
+-- a list or a dict with nothing in it
+abbrev pub emptied : Contents → Contents
+emptied (of_list vs) = of_list []
+emptied (of_dict ps) = of_dict []
+emptied (of_box v) = of_box v
+emptied (of_function f) = of_function f
+
+-- how many members or pairs there are
+abbrev pub count_of : Contents → ℕ
+count_of (of_list vs) = length vs
+count_of (of_dict ps) = length ps
+count_of (of_box v) = length (option_members v)
+count_of (of_function f) = 0
+
+-- ---- looking at the store
 
 abbrev pub object_at : ℕ → Store → Option Object
 object_at r store = slice_get store r
 
 abbrev pub list_in : Option Object → List Value
 list_in None = []
-list_in (Some o) = elim o.contents [ of_list vs ↦ vs | of_dict ps ↦ [] | of_box v ↦ [] | of_function f ↦ [] ]
+list_in (Some o) = list_of_contents o.contents
 
 abbrev pub pairs_in : Option Object → List (Value × Value)
 pairs_in None = []
-pairs_in (Some o) = elim o.contents [ of_list vs ↦ [] | of_dict ps ↦ ps | of_box v ↦ [] | of_function f ↦ [] ]
+pairs_in (Some o) = pairs_of_contents o.contents
 
 abbrev pub box_in : Option Object → Option Value
 box_in None = None
@@ -38,7 +83,7 @@ abbrev pub function_in : Option Object → Option Function
 function_in None = None
 function_in (Some o) = elim o.contents [ of_list vs ↦ None | of_dict ps ↦ None | of_box v ↦ None | of_function f ↦ Some f ]
 
--- the members of a list, the pairs of a dict, the value of a box, a function
+-- the members of a list or box, the pairs of a dict, the value of a box, a function
 abbrev pub list_at : ℕ → Store → List Value
 list_at r store = list_in (object_at r store)
 
@@ -51,12 +96,24 @@ box_at r store = box_in (object_at r store)
 abbrev pub function_at : ℕ → Store → Option Function
 function_at r store = function_in (object_at r store)
 
-abbrev pub found : {A : Type 0} → Refusal → Option A → Act A
-found why None store = refused why
-found why (Some a) store = did a store
+abbrev pub count_in_object : Option Object → ℕ
+count_in_object None = 0
+count_in_object (Some o) = count_of o.contents
 
-abbrev pub list_get : ℕ → ℕ → Act Value
+-- how many members or pairs an object has
+abbrev pub count_at : ℕ → Store → ℕ
+count_at r store = count_in_object (object_at r store)
+
+abbrev pub found : {S A : Type 0} → Refusal → Option A → Act S A
+found why None s = refused why
+found why (Some a) s = did a s
+
+abbrev pub list_get : ℕ → ℕ → Act Store Value
 list_get r i = λ store. found index_range (slice_get (list_at r store) i) store
+
+-- a pair by its place
+abbrev pub dict_at : ℕ → ℕ → Act Store (Value × Value)
+dict_at r i = λ store. found index_range (slice_get (pairs_at r store) i) store
 
 abbrev pub value_of_pair : Option (Value × Value) → Option Value
 value_of_pair None = None
@@ -66,8 +123,12 @@ abbrev pub value_at_place : List (Value × Value) → Option ℕ → Option Valu
 value_at_place ps None = None
 value_at_place ps (Some i) = value_of_pair (slice_get ps i)
 
-abbrev pub dict_get : ℕ → Value → Act Value
-dict_get r k = λ store. found key_missing (value_at_place (pairs_at r store) (place_of_key k (pairs_at r store))) store
+-- the value of a key
+abbrev pub value_of_key : Value → List (Value × Value) → Option Value
+value_of_key k ps = value_at_place ps (place_of_key k ps)
+
+abbrev pub dict_get : ℕ → Value → Act Store Value
+dict_get r k = λ store. found key_missing (value_of_key k (pairs_at r store)) store
 
 -- ---- making
 
@@ -78,51 +139,49 @@ object c = record { contents = c; frozen = false; loops = 0 }
 abbrev pub with_object : Contents → Store → Store
 with_object c store = store ++ object c ∷ []
 
--- ---- changing
-
-abbrev pub changed : (Object → Object) → Store → ℕ → Option Object → Store
-changed f store r None = store
-changed f store r (Some o) = slice_set store r (f o)
-
--- the store with one object changed
-abbrev pub change : (Object → Object) → ℕ → Store → Store
-change f r store = changed f store r (object_at r store)
+-- ---- changes of one object
 
 abbrev pub with_contents : Contents → Object → Object
 with_contents c o = record o { contents = c }
 
-abbrev pub loops_allow : Bool → Answer (Unit {0}) → Answer (Unit {0})
-loops_allow true answer = answer
-loops_allow false answer = refused iterating
+-- an act on what an object holds, where it may be changed now
+abbrev pub unlocked : {A : Type 0} → Object → Answer Object A → Answer Object A
+unlocked o answer = if o.frozen then refused frozen else if o.loops == 0 then answer else refused iterating
 
-abbrev pub marks_allow : Bool → Answer (Unit {0}) → Answer (Unit {0})
-marks_allow true answer = refused frozen
-marks_allow false answer = answer
+abbrev pub put_list : Object → List Value → Answer Object (Unit {0})
+put_list o vs = did tt (with_contents (with_list vs o.contents) o)
 
-abbrev pub unlocked : Option Object → Answer (Unit {0}) → Answer (Unit {0})
-unlocked None answer = answer
-unlocked (Some o) answer = marks_allow o.frozen (loops_allow (o.loops == 0) answer)
+abbrev pub set_by : Object → List Value → ℕ → Value → Option Value → Answer Object (Unit {0})
+set_by o vs i v None = refused index_range
+set_by o vs i v (Some old) = put_list o (slice_set vs i v)
 
--- an act on an object that may be changed now
-abbrev pub changing : ℕ → Act (Unit {0}) → Act (Unit {0})
-changing r act = λ store. unlocked (object_at r store) (act store)
+-- a value in the place of a member
+abbrev pub set_member : ℕ → Value → Act Object (Unit {0})
+set_member i v o = unlocked o (set_by o (list_of_contents o.contents) i v (slice_get (list_of_contents o.contents) i))
 
-abbrev pub put_contents : ℕ → Contents → Act (Unit {0})
-put_contents r c = λ store. did tt (change (with_contents c) r store)
+-- a value behind the members; a box without a value gets it
+abbrev pub push_member : Value → Act Object (Unit {0})
+push_member v o = unlocked o (put_list o (list_of_contents o.contents ++ v ∷ []))
 
-abbrev pub set_member : ℕ → List Value → ℕ → Value → Option Value → Act (Unit {0})
-set_member r vs i v None store = refused index_range
-set_member r vs i v (Some old) store = put_contents r (of_list (slice_set vs i v)) store
+-- values behind the members
+abbrev pub extend_members : List Value → Act Object (Unit {0})
+extend_members vs o = unlocked o (put_list o (list_of_contents o.contents ++ vs))
 
-abbrev pub list_set : ℕ → ℕ → Value → Act (Unit {0})
-list_set r i v = changing r (λ store. set_member r (list_at r store) i v (slice_get (list_at r store) i) store)
+-- a value in front of the member at a place, or behind all
+abbrev pub insert_member : ℕ → Value → Act Object (Unit {0})
+insert_member i v o = unlocked o (if nat_le i (length (list_of_contents o.contents)) then put_list o (insert (list_of_contents o.contents) i v) else refused index_range)
 
-abbrev pub list_push : ℕ → Value → Act (Unit {0})
-list_push r v = changing r (λ store. put_contents r (of_list (list_at r store ++ v ∷ [])) store)
+abbrev pub remove_by : Object → List Value → ℕ → Option Value → Answer Object Value
+remove_by o vs i None = refused index_range
+remove_by o vs i (Some v) = did v (with_contents (with_list (remove vs i) o.contents) o)
 
--- all members of the one behind those of the other
-abbrev pub list_extend : ℕ → List Value → Act (Unit {0})
-list_extend r vs = changing r (λ store. put_contents r (of_list (list_at r store ++ vs)) store)
+-- the member at a place goes, and is given
+abbrev pub remove_member : ℕ → Act Object Value
+remove_member i o = unlocked o (remove_by o (list_of_contents o.contents) i (slice_get (list_of_contents o.contents) i))
+
+-- nothing is left in it
+abbrev pub empty_out : Act Object (Unit {0})
+empty_out o = unlocked o (did tt (with_contents (emptied o.contents) o))
 
 abbrev pub with_value : Value → List (Value × Value) → ℕ → Option (Value × Value) → List (Value × Value)
 with_value v ps i None = ps
@@ -136,18 +195,70 @@ with_pair k v ps (Some i) = with_value v ps i (slice_get ps i)
 abbrev pub put_pair : Value → Value → List (Value × Value) → List (Value × Value)
 put_pair k v ps = with_pair k v ps (place_of_key k ps)
 
-abbrev pub dict_put : ℕ → Value → Value → Act (Unit {0})
-dict_put r k v = changing r (λ store. put_contents r (of_dict (put_pair k v (pairs_at r store))) store)
+abbrev pub with_pairs : List (Value × Value) → Contents → Contents
+with_pairs ps (of_list vs) = of_list vs
+with_pairs ps (of_dict old) = of_dict ps
+with_pairs ps (of_box v) = of_box v
+with_pairs ps (of_function f) = of_function f
 
-abbrev pub without_pair : ℕ → List (Value × Value) → Option ℕ → Act (Unit {0})
-without_pair r ps None store = refused key_missing
-without_pair r ps (Some i) store = put_contents r (of_dict (remove ps i)) store
+abbrev pub put_key : Value → Value → Act Object (Unit {0})
+put_key k v o = unlocked o (did tt (with_contents (with_pairs (put_pair k v (pairs_of_contents o.contents)) o.contents) o))
 
--- the pair goes; its value is what `dict_get` gives before
-abbrev pub dict_remove : ℕ → Value → Act (Unit {0})
-dict_remove r k = changing r (λ store. without_pair r (pairs_at r store) (place_of_key k (pairs_at r store)) store)
+abbrev pub cut_by : Object → List (Value × Value) → Option ℕ → Option Value → Answer Object Value
+cut_by o ps (Some i) (Some v) = did v (with_contents (with_pairs (remove ps i) o.contents) o)
+cut_by o ps _ _ = refused key_missing
 
--- ---- marks and loops
+-- the key's pair goes, and its value is given; the others stay in their order
+abbrev pub cut_key : Value → Act Object Value
+cut_key k o = unlocked o (cut_by o (pairs_of_contents o.contents) (place_of_key k (pairs_of_contents o.contents)) (value_of_key k (pairs_of_contents o.contents)))
+
+-- ---- one object of the store
+
+abbrev pub put_back : {A : Type 0} → ℕ → Store → Answer Object A → Answer Store A
+put_back r store (did a o) = did a (slice_set store r o)
+put_back r store (refused why) = refused why
+
+abbrev pub on_found : {A : Type 0} → ℕ → Store → Act Object A → Option Object → Answer Store A
+on_found r store act None = refused key_missing
+on_found r store act (Some o) = put_back r store (act o)
+
+-- an act on the object at a position, while all others stay
+abbrev pub at_object : {A : Type 0} → ℕ → Act Object A → Act Store A
+at_object r act = λ store. on_found r store act (object_at r store)
+
+abbrev pub list_set : ℕ → ℕ → Value → Act Store (Unit {0})
+list_set r i v = at_object r (set_member i v)
+
+abbrev pub list_push : ℕ → Value → Act Store (Unit {0})
+list_push r v = at_object r (push_member v)
+
+abbrev pub list_extend : ℕ → List Value → Act Store (Unit {0})
+list_extend r vs = at_object r (extend_members vs)
+
+abbrev pub list_insert : ℕ → ℕ → Value → Act Store (Unit {0})
+list_insert r i v = at_object r (insert_member i v)
+
+abbrev pub list_remove : ℕ → ℕ → Act Store Value
+list_remove r i = at_object r (remove_member i)
+
+abbrev pub clear : ℕ → Act Store (Unit {0})
+clear r = at_object r empty_out
+
+abbrev pub dict_put : ℕ → Value → Value → Act Store (Unit {0})
+dict_put r k v = at_object r (put_key k v)
+
+abbrev pub dict_remove : ℕ → Value → Act Store Value
+dict_remove r k = at_object r (cut_key k)
+
+-- ---- changes that nothing refuses
+
+abbrev pub changed : (Object → Object) → Store → ℕ → Option Object → Store
+changed f store r None = store
+changed f store r (Some o) = slice_set store r (f o)
+
+-- the store with one object changed
+abbrev pub change : (Object → Object) → ℕ → Store → Store
+change f r store = changed f store r (object_at r store)
 
 abbrev pub as_frozen : Object → Object
 as_frozen o = record o { frozen = true }
