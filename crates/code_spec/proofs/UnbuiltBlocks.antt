@@ -1,7 +1,7 @@
 -- Where all of a program is built, so are its blocks.
-use Rattle.std.proofs.Common.{◌≡◌, List, [], ◌∷◌, ◌++◌, Option, Some, None, refl}
+use Rattle.std.proofs.Common.{◌≡◌, List, [], ◌∷◌, ◌++◌, Some, refl}
 use Rattle.ytt_base.specs.declared.fault.Place.{Place}
-use Rattle.code_spec.specs.Blocks.{Op, op_part, op_statement, op_if, op_for, op_def, Ops, no_ops, an_op, Arms, no_arm, else_arm, arm, Parsed, broken, at_top, inside, put, open_if, next_arm, last_arm, open_block, parse, whole, blocks}
+use Rattle.code_spec.specs.Blocks.{Op, op_part, op_statement, op_if, op_for, Ops, Arms, no_arm, arm, Parsed, broken, at_top, inside, put, open_if, next_arm, last_arm, open_block, parse, whole, blocks}
 use Rattle.code_spec.specs.Code.{Name, Expr}
 use Rattle.code_spec.specs.Program.{Instruction, part, statement, begin_if, begin_elif, begin_else, begin_for, begin_def, close}
 use Rattle.code_spec.specs.Unbuilt.{unbuilt_expr, unbuilt_target, unbuilt_instruction, unbuilt_code, unbuilt_op, unbuilt_ops, unbuilt_arms}

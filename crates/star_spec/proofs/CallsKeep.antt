@@ -1,18 +1,18 @@
 -- Statements, bindings and calls keep what the program holds.
-use Rattle.std.proofs.Common.{◌≡◌, ℕ, zero, suc, Bool, true, false, ◌||◌, if◌then◌else◌, List, [], ◌∷◌, ◌++◌, Option, Some, None, Result, Ok, Err, refl, ap, ◌∙◌, bytes_eq}
+use Rattle.std.proofs.Common.{◌≡◌, ℕ, zero, suc, Bool, true, false, ◌||◌, if◌then◌else◌, List, [], ◌∷◌, ◌++◌, Option, Some, None, Result, Ok, Err, refl, bytes_eq}
 use Rattle.ytt_base.specs.declared.fault.Fault.{Fault}
 use Rattle.ytt_base.specs.declared.fault.FaultKind.TheVariants as kind
 use Rattle.ytt_base.specs.declared.fault.Place.{Place}
 use Rattle.star_spec.specs.Binding.{field_of, without_field, has_field, has_twice, or_default, Given, given, rest_given, in_front, unless_named, bound, all_bound, text_pairs, value_given, boxes_of, scope_of_call}
-use Rattle.star_spec.specs.Calls.{Code, of_lambda, of_def, Table, parameters_of, names_of, Enter, enter_code, Reply, answer, call_then, Host, no_natives, resumed_with, after_reply, native_call, call_by_kind, no_keys, keys_by, with_keys, any_call, call_with_natives, function_of, function_call, too_deep, apply}
+use Rattle.star_spec.specs.Calls.{Code, Table, parameters_of, names_of, Enter, enter_code, Reply, answer, call_then, Host, no_natives, resumed_with, after_reply, native_call, call_by_kind, no_keys, keys_by, with_keys, any_call, call_with_natives, function_of, function_call, too_deep, apply}
 use Rattle.code_spec.specs.Code.{Name, Expr, Exprs, BinaryOperator, Parameters, no_parameters, required, defaulted, bare_star, starred_parameter, double_starred_parameter, Statement, evaluate, assign, augment, load, return, break, continue, pass}
 use Rattle.star_spec.specs.Eval.{starlark}
-use Rattle.star_spec.specs.Held.{HeldValue, HeldValues, HeldFields, HeldExpr, HeldExprs, HeldParameters, HeldStatement, HeldList, has_equal_key, HeldPairs, HeldStore, HeldArguments}
-use Rattle.star_spec.specs.Language.{Call, Keyed, without_keys, asks_keys, Language, Word, breaks, continues, returns, new_function, execute, define}
-use Rattle.star_spec.specs.Names.{box_of, with_boxes}
-use Rattle.star_spec.specs.Outcomes.{State, Ending, done, bad, then_do, Computation, ◌>>=◌}
+use Rattle.star_spec.specs.Held.{HeldValue, HeldValues, HeldFields, HeldExpr, HeldExprs, HeldParameters, HeldStatement, HeldList, has_equal_key, HeldPairs, HeldArguments}
+use Rattle.star_spec.specs.Language.{Call, Keyed, without_keys, asks_keys, Language, Word, breaks, continues, returns, execute, define}
+use Rattle.star_spec.specs.Names.{box_of}
+use Rattle.star_spec.specs.Outcomes.{Ending, done, bad, then_do, Computation}
 use Rattle.star_spec.specs.Store.{object_at, function_at}
-use Rattle.star_spec.specs.Values.{Value, none_value, bool_value, int_value, text_value, tuple_value, range_value, struct_value, fragment_value, list_value, dict_value, function_value, module_value, builtin_value, method_value, native_value, replace_value, Values, no_values, a_value, Fields, no_fields, a_field, Arguments, arguments, one_value, Env, Function, of_dict, of_box, of_function}
+use Rattle.star_spec.specs.Values.{Value, text_value, tuple_value, dict_value, function_value, builtin_value, method_value, native_value, Values, no_values, a_value, Fields, no_fields, a_field, Arguments, arguments, one_value, Env, Function, of_dict, of_box, of_function}
 use Rattle.star_spec.proofs.EvalKeeps.{CallKeeps, eval_keeps, arguments_keep, assign_keeps, augment_keeps, defaults_keep, members_keep, truth_keeps, write_keeps, boxes_keep}
 use Rattle.star_spec.proofs.Keeping.{Kept, Keeps, Anything, keeps_then, keeps_give, keeps_fail, keeps_or_fail, keeps_ill_formed, keeps_or_ill_formed, keeps_paid, keeps_reads, keeps_new_object, object_held, HeldFunction, function_held}
 

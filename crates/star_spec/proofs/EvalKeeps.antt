@@ -1,5 +1,5 @@
 -- Expressions, arguments and targets keep what the program holds, where their literals are such and calls keep it.
-use Rattle.std.proofs.Common.{◌≡◌, ℤ, ◌==◌, Bool, true, false, ◌||◌, if◌then◌else◌, is_some, List, [], ◌∷◌, ◌++◌, length, map, slice_get, slice_set, ℕ, zero, suc, Option, Some, None, IsUtf8, bytes_eq, refl, ap, ◌∙◌, codes}
+use Rattle.std.proofs.Common.{◌≡◌, ℤ, Bool, true, false, ◌||◌, if◌then◌else◌, is_some, List, [], ◌∷◌, ◌++◌, map, slice_get, slice_set, ℕ, zero, suc, Option, Some, None, IsUtf8, bytes_eq, refl, ap, ◌∙◌, codes}
 use Rattle.std.proofs.lemmas.Str.{IsUtf8-nil, IsUtf8-append}
 use Rattle.ytt_base.specs.declared.fault.FaultKind.{FaultKind}
 use Rattle.ytt_base.specs.declared.fault.FaultKind.TheVariants as kind
@@ -16,11 +16,10 @@ use Rattle.star_spec.specs.Language.{Call, breaks, continues, returns}
 use Rattle.star_spec.specs.Members.{keys_in, members_in, walked_in, truth_in}
 use Rattle.star_spec.specs.Names.{constant, box_of, with_box, with_boxes, value_or_unset, unbound, read_name, fill_box, write_name}
 use Rattle.code_spec.specs.Names.{own_functions, is_among, target_names, clauses_names}
-use Rattle.star_spec.specs.Operators.{unary_row, binary_row}
-use Rattle.star_spec.specs.Outcomes.{State, Computation, ◌>>=◌, give, reads}
-use Rattle.star_spec.specs.Store.{object_at, pairs_at, with_value, with_pair, put_pair, with_contents, begin_loop, end_loop, box_at}
-use Rattle.star_spec.specs.Values.{Value, none_value, bool_value, int_value, text_value, tuple_value, range_value, struct_value, fragment_value, list_value, dict_value, function_value, module_value, builtin_value, method_value, native_value, replace_value, Values, no_values, a_value, values_in, values_from, Fields, no_fields, a_field, Arguments, arguments, Env, of_list, of_dict, of_box, of_function, Store}
-use Rattle.star_spec.proofs.Keeping.{Kept, Keeps, Anything, keeps_then, keeps_give, keeps_fail, keeps_or_fail, keeps_ill_formed, keeps_need, keeps_steps, keeps_paid, keeps_if, keeps_reads, keeps_new_object, object_held, list_held, pairs_held, box_held, change_held, loops_held, kept_finally}
+use Rattle.star_spec.specs.Outcomes.{Computation, ◌>>=◌}
+use Rattle.star_spec.specs.Store.{object_at, pairs_at, with_value, with_pair, put_pair, with_contents, end_loop, box_at}
+use Rattle.star_spec.specs.Values.{Value, none_value, bool_value, int_value, text_value, tuple_value, range_value, list_value, dict_value, function_value, Values, no_values, a_value, values_in, values_from, Fields, no_fields, a_field, Arguments, arguments, Env, of_list, of_dict, of_box, of_function, Store}
+use Rattle.star_spec.proofs.Keeping.{Keeps, Anything, keeps_then, keeps_give, keeps_fail, keeps_or_fail, keeps_ill_formed, keeps_need, keeps_steps, keeps_paid, keeps_if, keeps_reads, keeps_new_object, object_held, list_held, pairs_held, box_held, change_held, loops_held, kept_finally}
 use Rattle.star_spec.proofs.RowsHeld.{unary_held, binary_held}
 
 -- a call of a value gives what the program holds

@@ -1,12 +1,12 @@
 -- Computations that keep what the program holds: where the store holds such values, what one gives is such, and so is
 -- the store that it leaves, whichever way it ends.
-use Rattle.std.proofs.Common.{◌≡◌, ℕ, zero, suc, ◌-◌, nat_le, Bool, true, false, if◌then◌else◌, List, [], ◌∷◌, ◌++◌, take, drop, map, slice_get, slice_set, Option, Some, None, refl}
+use Rattle.std.proofs.Common.{◌≡◌, ℕ, zero, suc, nat_le, Bool, true, false, if◌then◌else◌, List, [], ◌∷◌, ◌++◌, take, drop, map, slice_set, Option, Some, None, refl}
 use Rattle.ytt_base.specs.declared.fault.FaultKind.{FaultKind}
 use Rattle.ytt_base.specs.declared.fault.Place.{Place}
-use Rattle.star_spec.specs.Held.{HeldValue, HeldList, HeldPairs, HeldIfAny, HeldContents, HeldStore}
-use Rattle.star_spec.specs.Outcomes.{State, Ending, done, bad, then_do, Computation, ◌>>=◌, give, fail_with, fail, or_fail, need, or_ill_formed, ill_formed, take_if, take_steps, paid_by, paid, on_store, reads, new_object, finally}
-use Rattle.star_spec.specs.Store.{list_of_contents, pairs_of_contents, object_at, list_in, pairs_in, box_in, function_in, object, with_object, changed, change, with_contents, as_frozen, freeze_since, walked, change_loops}
-use Rattle.star_spec.specs.Values.{Value, Function, Contents, of_list, of_dict, of_box, of_function, Object, Store}
+use Rattle.star_spec.specs.Held.{HeldList, HeldPairs, HeldIfAny, HeldContents, HeldStore}
+use Rattle.star_spec.specs.Outcomes.{State, Ending, done, bad, then_do, Computation, ◌>>=◌, give, fail_with, or_fail, need, or_ill_formed, ill_formed, take_if, take_steps, paid_by, on_store, reads, new_object, finally}
+use Rattle.star_spec.specs.Store.{list_of_contents, pairs_of_contents, object_at, list_in, pairs_in, box_in, function_in, object, changed, change, as_frozen, freeze_since, walked, change_loops}
+use Rattle.star_spec.specs.Values.{Function, Contents, of_list, of_dict, of_box, of_function, Object, Store}
 
 abbrev pub Kept : {H A : Type 0} → (A → Type 0) → Ending H A → Type 0
 Kept P (done a s) = P a × HeldStore s.store

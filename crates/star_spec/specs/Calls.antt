@@ -1,7 +1,7 @@
 -- A call of a value, by recursion on the calls of functions that may still stand in one another; the code of a function
 -- is known by its file and its number. The language's own functions, and the natives that a host answers, are no such
 -- calls. A native may ask for calls, each after a step, so the steps left bound those that stand in one another.
-use Rattle.std.specs.Prelude.{ℕ, zero, suc, List, [], ◌∷◌, Option, Some, None, Result, Ok, Err}
+use Rattle.std.specs.Prelude.{ℕ, zero, suc, List, [], ◌∷◌, Option, Result, Ok, Err}
 use Rattle.ytt_base.specs.declared.fault.Fault.{Fault}
 use Rattle.ytt_base.specs.declared.fault.FaultKind.TheVariants as kind
 use Rattle.ytt_base.specs.declared.fault.Place.{Place}

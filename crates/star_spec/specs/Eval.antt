@@ -1,12 +1,12 @@
 -- The language: expressions, arguments, targets. What a row that isn't built yet would give is NotBuilt.
-use Rattle.std.specs.Prelude.{ℕ, suc, Bool, true, false, ◌==◌, List, [], ◌∷◌, ◌++◌, length, Option, Some, None, is_some, if◌then◌else◌, codes}
+use Rattle.std.specs.Prelude.{ℕ, suc, Bool, ◌==◌, List, [], ◌∷◌, ◌++◌, length, Option, Some, None, is_some, if◌then◌else◌, codes}
 use Rattle.ytt_base.specs.declared.fault.FaultKind.{FaultKind}
 use Rattle.ytt_base.specs.declared.fault.FaultKind.TheVariants as kind
 use Rattle.ytt_base.specs.declared.fault.Place.{Place}
 use Rattle.ytt_base.specs.Trees.{max_depth}
 use Rattle.code_spec.specs.Code as code
 use Rattle.code_spec.specs.Code.{Name, BinaryOperator, addition, Expr, Exprs, no_exprs, an_expr, OptionalExpr, absent, present, Entries, no_entries, an_entry, Clauses, no_clauses, for_clause, if_clause, Pieces, no_pieces, text_piece, expr_piece, Parameters, no_parameters, required, defaulted, bare_star, starred_parameter, double_starred_parameter}
-use Rattle.star_spec.specs.Values.{Value, none_value, int_value, text_value, tuple_value, list_value, dict_value, Values, no_values, a_value, values_in, values_from, Fields, no_fields, a_field, Arguments, arguments, Env, of_list, of_dict, Function, of_function, function_value}
+use Rattle.star_spec.specs.Values.{Value, int_value, text_value, tuple_value, list_value, dict_value, Values, no_values, a_value, values_from, Fields, no_fields, a_field, Arguments, arguments, Env, of_list, of_dict, of_function, function_value}
 use Rattle.star_spec.specs.Outcomes.{Computation, paid, take_steps, give, fail, or_fail, need, not_built, ill_formed, reads, new_object, ◌>>=◌}
 use Rattle.star_spec.specs.Keys.{key_offence, key_cost, place_of_key}
 use Rattle.star_spec.specs.Members.{members_in, truth_in}
@@ -15,8 +15,8 @@ use Rattle.code_spec.specs.Names.{target_names, clauses_names}
 use Rattle.star_spec.specs.Operators.{unary_row, binary_row}
 use Rattle.star_spec.specs.Store.{pairs_at, put_pair}
 use Rattle.star_spec.specs.Binding.{scope_of_call}
-use Rattle.star_spec.specs.Flow.{Flow, on, out, Part, when, over_members}
-use Rattle.star_spec.specs.Language.{Call, Keyed, Language}
+use Rattle.star_spec.specs.Flow.{Flow, on, out, Part, over_members}
+use Rattle.star_spec.specs.Language.{Call, Language}
 
 abbrev pub truth_of : {H : Type 0} → Value → Computation H Bool
 truth_of v = reads (λ store. truth_in store v)

@@ -8,8 +8,7 @@ use Rattle.code_spec.specs.Code as code
 use Rattle.code_spec.specs.Code.{Name, Expr, Exprs, no_exprs, an_expr, OptionalExpr, absent, present, Entries, no_entries, an_entry, Clauses, no_clauses, for_clause, if_clause, Pieces, no_pieces, text_piece, expr_piece, Parameters, no_parameters, required, defaulted, bare_star, starred_parameter, double_starred_parameter, Statement, evaluate, assign, augment, load, return, break, continue, pass}
 use Rattle.star_spec.specs.Keys.{same_key}
 use Rattle.star_spec.specs.Numbers.{range_count, progression}
-use Rattle.code_spec.specs.Program.{ItemKind}
-use Rattle.star_spec.specs.Values.{Value, none_value, bool_value, int_value, text_value, tuple_value, range_value, struct_value, fragment_value, list_value, dict_value, function_value, module_value, builtin_value, method_value, native_value, replace_value, Values, no_values, a_value, Fields, no_fields, a_field, Child, child, Children, no_children, a_child, Body, one, map_of, list_of, Arguments, arguments, Contents, of_list, of_dict, of_box, of_function, Object, Store}
+use Rattle.star_spec.specs.Values.{Value, none_value, bool_value, int_value, text_value, tuple_value, range_value, struct_value, fragment_value, list_value, dict_value, function_value, module_value, builtin_value, method_value, native_value, replace_value, Values, no_values, a_value, Fields, no_fields, a_field, Child, child, Children, no_children, a_child, Body, one, map_of, list_of, Arguments, arguments, Contents, of_list, of_dict, of_box, of_function, Store}
 
 abbrev pub field_names : Fields → List Name
 field_names no_fields = []

@@ -1,9 +1,9 @@
 -- What templates and programs take from the language of their code, and how a block is left before its end. A call of
 -- a value is a parameter of each.
-use Rattle.std.specs.Prelude.{ℕ, Bool, List, Option, Some, None, codes}
+use Rattle.std.specs.Prelude.{ℕ, Bool, List, Option, Some, None}
 use Rattle.ytt_base.specs.declared.fault.Place.{Place}
 use Rattle.code_spec.specs.Code.{Name, Expr, Exprs, BinaryOperator, Parameters, Statement, evaluate, assign, augment, load, return, break, continue, pass}
-use Rattle.star_spec.specs.Values.{Value, function_value, Values, Arguments, Env, of_function}
+use Rattle.star_spec.specs.Values.{Value, function_value, Arguments, Env, of_function}
 use Rattle.star_spec.specs.Outcomes.{Computation, paid, give, new_object, ◌>>=◌}
 
 -- a call of a value with arguments, at a place

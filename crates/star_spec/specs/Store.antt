@@ -1,6 +1,6 @@
 -- Acts on the store and on one object of it: each changes it and gives something, or refuses and changes nothing. A change
 -- of an object is refused first where it is frozen, then where a loop walks it, and then by what it holds.
-use Rattle.std.specs.Prelude.{ℕ, suc, ◌+◌, ◌-◌, ◌==◌, nat_le, Bool, true, false, List, [], ◌∷◌, ◌++◌, length, take, drop, map, insert, remove, Option, Some, None, if◌then◌else◌, slice_get, slice_set}
+use Rattle.std.specs.Prelude.{ℕ, ◌+◌, ◌-◌, ◌==◌, nat_le, true, false, List, [], ◌∷◌, ◌++◌, length, take, drop, map, insert, remove, Option, Some, None, if◌then◌else◌, slice_get, slice_set}
 use Rattle.star_spec.specs.Values.{Value, Function, Contents, of_list, of_dict, of_box, of_function, Object, Store}
 use Rattle.star_spec.specs.Keys.{place_of_key}
 
