@@ -10,7 +10,6 @@ use Rattle.template_spec.specs.Events.{Event, events}
 use Rattle.template_spec.specs.Misplaced.{placing_fault}
 use Rattle.template_spec.specs.Nesting.{placed_or, placed_whole}
 use Rattle.template_spec.specs.Nesting as nesting
-use Rattle.template_spec.specs.Template.{Items}
 use Rattle.template_pass.specs.Building.{template_by_levels}
 use Rattle.template_pass.specs.Rows.{AreRows, Row}
 use Rattle.template_pass.proofs.Built.{template-by_levels}

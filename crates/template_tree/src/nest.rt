@@ -77,7 +77,10 @@ fn put_item(item: TItem, nested: Nested) -> Result<Nested, Memory>
     ensures { (file : ℕ) → IfOk result (λ n. nested_of file n ≡ nesting.put (item_of file item) (nested_of file nested)) }
 {
     match nested {
-        Nested::Broken => Ok(Nested::Broken),
+        Nested::Broken => {
+            drop(item);
+            Ok(Nested::Broken)
+        }
         Nested::AtTop(items) => Ok(Nested::AtTop(with_item(items, item)?)),
         Nested::Inside(items, more, outer) => {
             Ok(Nested::Inside(with_item(items, item)?, more, outer))
@@ -286,10 +289,10 @@ fn around_one(
 fn next_branch(alloc: Global, place: Place, test: Expr, nested: Nested) -> Result<Nested, Memory>
     ensures { (file : ℕ) → IfOk result (λ n. nested_of file n ≡ nesting.next_branch (place_at file place.line) (expr_of file test) (nested_of file nested)) }
 {
+    let test = Boxed::new(alloc, test)?;
     match nested {
         Nested::Inside(items, more, outer) => {
             let body = turned_items(alloc, items)?;
-            let test = Boxed::new(alloc, test)?;
             let more = Boxed::new(alloc, more)?;
             Ok(Nested::Inside(
                 Items::new(alloc),
@@ -348,7 +351,10 @@ fn nest_said(
         Comment::Elif(test) => Ok(next_branch(alloc, place, test, nested)?),
         Comment::Else => Ok(last_branch(alloc, place, nested)?),
         Comment::End => Ok(close_block(alloc, nested)?),
-        Comment::Value(_) | Comment::Note(_, _) | Comment::Ignored => Ok(nested),
+        Comment::Value(_) | Comment::Note(_, _) | Comment::Ignored => {
+            drop(comment);
+            Ok(nested)
+        }
     }
 }
 

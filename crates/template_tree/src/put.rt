@@ -71,7 +71,10 @@ fn put_said(
 {
     match comment {
         Comment::Note(name, args) => Ok(put_note(line, name, args, waiting)?),
-        Comment::Value(_) | Comment::Ignored => Ok(waiting),
+        Comment::Value(_) | Comment::Ignored => {
+            drop(comment);
+            Ok(waiting)
+        }
         Comment::Code(stmts) => {
             let mark = Comment::Code(stmts);
             Ok(put_mark(level, line, mark, waiting, puts)?)

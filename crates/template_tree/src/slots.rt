@@ -60,10 +60,17 @@ fn reach(alloc: Global, slots: &mut Vec<Slot>, level: usize) -> Result<(), Memor
 fn put_part(alloc: Global, slots: &mut Vec<Slot>, level: usize, part: Part) -> Result<(), Memory>
     ensures { (file : ℕ) → OnOk result (slots_of file slots.new.items ≡ build.changed level (build.with_part (part_of file part)) (slots_of file slots.old.items)) }
 {
-    reach(alloc, slots, level)?;
-    let slot = &mut slots[level];
-    slot.parts.push(part)?;
-    Ok(())
+    match reach(alloc, slots, level) {
+        Err(stop) => {
+            drop(part);
+            Err(stop)
+        }
+        Ok(()) => {
+            let slot = &mut slots[level];
+            slot.parts.push(part)?;
+            Ok(())
+        }
+    }
 }
 
 fn put_value(
@@ -117,12 +124,24 @@ fn put_beside(
             notes.push(TNote { name, args, line })?;
             put_notes(alloc, slots, level, notes)
         }
-        Comment::Code(_) => put_none(alloc, slots, level),
-        Comment::Open(_, _) => put_none(alloc, slots, level),
+        Comment::Code(_) => {
+            drop(comment);
+            put_none(alloc, slots, level)
+        }
+        Comment::Open(_, _) => {
+            drop(comment);
+            put_none(alloc, slots, level)
+        }
         Comment::Else => put_none(alloc, slots, level),
-        Comment::Elif(_) => put_none(alloc, slots, level),
+        Comment::Elif(_) => {
+            drop(comment);
+            put_none(alloc, slots, level)
+        }
         Comment::End => put_none(alloc, slots, level),
-        Comment::Ignored => put_none(alloc, slots, level),
+        Comment::Ignored => {
+            drop(comment);
+            put_none(alloc, slots, level)
+        }
     }
 }
 
@@ -227,11 +246,26 @@ fn put_front(alloc: Global, file: u32, put: Put, slots: &mut Vec<Slot>) -> Resul
     match put {
         Put::Item(start, notes) => {
             let level = start.level;
-            let slot = cut(alloc, slots, below(level)?);
-            let item = item_with(alloc, file, start, notes, slot)?;
-            put_part(alloc, slots, level, Part::Node(item))
+            match below(level) {
+                Err(stop) => {
+                    drop(start);
+                    drop(notes);
+                    Err(stop)
+                }
+                Ok(deeper) => {
+                    let slot = cut(alloc, slots, deeper);
+                    let item = item_with(alloc, file, start, notes, slot)?;
+                    put_part(alloc, slots, level, Part::Node(item))
+                }
+            }
         }
-        Put::Beside(level, line, comment) => put_beside(alloc, slots, below(level)?, line, comment),
+        Put::Beside(level, line, comment) => match below(level) {
+            Err(stop) => {
+                drop(comment);
+                Err(stop)
+            }
+            Ok(deeper) => put_beside(alloc, slots, deeper, line, comment),
+        },
         Put::Mark(level, line, comment) => {
             put_part(alloc, slots, level, Part::Mark(line, comment))
         }

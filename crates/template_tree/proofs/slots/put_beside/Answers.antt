@@ -1,30 +1,25 @@
 use Rattle.std.proofs.Common.{◌∙◌, ap, sym}
-use Rattle.std.proofs.Common.{rules, ◌≡◌, ◌<◌, ◌+◌, ℕ, List, ◌∷◌, IfOk, OnOk, length, option_map, take, ◌-◌, ◌*◌, ◌≤◌, ◌/◌, ◌%◌, Bool, true, false, nat_eq, nat_lt, [], ◌++◌, slice_index_or, slice_set, bit_and, bit_or, Fits, w8, w32, w64, Bor, MutBor}
-use Rattle.ytt_base.specs.View.{key_of, tree_of}
+use Rattle.std.proofs.Common.{List, ◌∷◌, [], ◌++◌}
 use Rattle.notes_read.specs.View.{said_of}
-use Rattle.star_tree.specs.View.{item_kind_of}
 use Rattle.star_tree.specs.Whole.{expr_of}
-use Rattle.template_spec.specs.Comments.{a_value, Said, a_note}
-use Rattle.template_events.specs.View.{shape_of}
+use Rattle.template_spec.specs.Comments.{a_value}
 use Rattle.template_pass.specs.Building as build
-use Rattle.template_spec.specs.Nesting as nesting
-use Rattle.template_tree.specs.Nests.{part_of, parts_of}
-use Rattle.template_tree.specs.Puts.{befores_of, put_of, puts_of}
-use Rattle.template_tree.specs.Slots.{same_slot, slot_of, slots_of, with_notes}
-use Rattle.template_tree.specs.View.{content_of, item_of, items_of, notes_of}
+use Rattle.template_tree.specs.Slots.{slots_of, with_notes}
+use Rattle.template_tree.specs.View.{notes_of}
 use Rattle.notes_read.specs.declared.comment.Comment.{Comment}
+use Rattle.template_spec.specs.Comments.{Said}
 use Rattle.template_tree.proofs.Slotting.{on_ok}
 use Rattle.template_tree.specs.declared.tree.TNote.{TNote}
 use Rattle.template_tree.proofs.slots.put_beside.Goals as goal
 
-pub returns-in-Value : goal.returns-in-Value
-returns-in-Value c = λ file.
+pub returns-in_ok-new-in-Value : goal.returns-in_ok-new-in-Value
+returns-in_ok-new-in-Value c = λ file.
     on_ok c.put_value.result _ _
     (λ h. h ∙ ap (λ (s : Said). build.changed c.args.level (build.with_beside file c.args.line s) (slots_of file c.args.slots.now.items)) (ap (λ e. a_value (expr_of file e)) (c.in_ok-new-in-Value.ensures) ∙ ap (said_of file) (sym c.in-Value.is)))
     (c.put_value.ensures file c.args.line)
 
-pub returns-in-Note : goal.returns-in-Note
-returns-in-Note c = λ file.
+pub returns-in_ok-push-in-Note : goal.returns-in_ok-push-in-Note
+returns-in_ok-push-in-Note c = λ file.
     let noted = ap (notes_of file) (c.in_ok-push-in-Note.ensures.ok ∙ ap (λ (ns : List TNote). ns ++ record { name = c.in-Note.name; args = c.in-Note.args; line = c.args.line } ∷ []) c.new-notes.ensures) in
     on_ok c.put_notes.result _ _
     (λ h. h ∙ ap (λ ns. build.changed c.args.level (with_notes ns) (slots_of file c.args.slots.now.items)) noted ∙ ap (λ (t : Comment). build.changed c.args.level (build.with_beside file c.args.line (said_of file t)) (slots_of file c.args.slots.now.items)) (sym c.in-Note.is))
@@ -50,6 +45,6 @@ pub returns-in-End : goal.returns-in-End
 returns-in-End c = λ file.
     on_ok c.put_none-in-End.result _ _ (λ h. h ∙ ap (λ (t : Comment). build.changed c.args.level (build.with_beside file c.args.line (said_of file t)) (slots_of file c.args.slots.now.items)) (sym c.in-End.is)) (c.put_none-in-End.ensures file)
 
-pub returns : goal.returns
-returns c = λ file.
+pub returns-in-Ignored : goal.returns-in-Ignored
+returns-in-Ignored c = λ file.
     on_ok c.put_none-in-Ignored.result _ _ (λ h. h ∙ ap (λ (t : Comment). build.changed c.args.level (build.with_beside file c.args.line (said_of file t)) (slots_of file c.args.slots.now.items)) (sym c.in-Ignored.is)) (c.put_none-in-Ignored.ensures file)
