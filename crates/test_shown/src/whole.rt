@@ -1,6 +1,7 @@
 // Code whole: expressions, statements, and heads of blocks. A part that stands on another line than the first has its line
 // behind `@`.
 
+use crate::trees::put_number;
 use sqlite_items::{Boxed, Items};
 use star_tree::code::{BinOp, Clause, Entry, Expr, Header, Loaded, NodeOp, Param, Stmt, UnOp};
 use std::alloc::{AllocError, Global};
@@ -10,9 +11,8 @@ fn put_line(out: &mut String, line: u32) -> Result<(), AllocError> {
     if line == 1 {
         return Ok(());
     }
-    let alloc = *out.allocator();
-    let number = format!(in alloc; "@{line}")?;
-    out.push_str(number.as_str())
+    out.push_str("@")?;
+    put_number(out, i128::from(line))
 }
 
 fn put_word(out: &mut String, word: &str, line: u32) -> Result<(), AllocError> {
@@ -27,9 +27,8 @@ fn put_text(out: &mut String, text: &str, line: u32) -> Result<(), AllocError> {
 }
 
 fn put_int(out: &mut String, value: i128, line: u32) -> Result<(), AllocError> {
-    let alloc = *out.allocator();
-    let number = format!(in alloc; "{value}")?;
-    put_word(out, number.as_str(), line)
+    put_number(out, value)?;
+    put_line(out, line)
 }
 
 /// `(WORD`
