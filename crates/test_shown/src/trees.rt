@@ -3,56 +3,78 @@
 use std::alloc::{AllocError, Global};
 use ytt_base::tree::{Key, Pairs, Tree, Trees};
 
+/// Puts a number behind the text. The error is want of memory.
+pub(crate) fn put_number(out: &mut String, n: i128) -> Result<(), AllocError> {
+    let alloc = *out.allocator();
+    let number = format!(in alloc; "{n}")?;
+    out.push_str(number.as_str())
+}
+
+fn truth_word(is: bool) -> &'static str {
+    if is { "true" } else { "false" }
+}
+
+fn put_quoted(out: &mut String, text: &str) -> Result<(), AllocError> {
+    out.push_str("'")?;
+    out.push_str(text)?;
+    out.push_str("'")
+}
+
+/// Puts a key behind the text. The error is want of memory.
+pub(crate) fn put_key(out: &mut String, key: &Key) -> Result<(), AllocError> {
+    match key {
+        Key::Null => out.push_str("null"),
+        Key::Bool(is) => out.push_str(truth_word(*is)),
+        Key::Int(n) => put_number(out, *n),
+        Key::Str(text) => put_quoted(out, text.as_str()),
+    }
+}
+
+/// Puts a tree behind the text. The error is want of memory.
+#[cycle(trees)]
+pub(crate) fn put_tree(out: &mut String, tree: &Tree) -> Result<(), AllocError> {
+    match tree {
+        Tree::Null => out.push_str("null"),
+        Tree::Bool(is) => out.push_str(truth_word(*is)),
+        Tree::Int(n) => put_number(out, *n),
+        Tree::Str(text) => put_quoted(out, text.as_str()),
+        Tree::List(trees) => put_trees(out, trees),
+        Tree::Map(pairs) => put_pairs(out, pairs),
+    }
+}
+
+#[cycle(trees)]
+fn put_trees(out: &mut String, trees: &Trees) -> Result<(), AllocError> {
+    out.push_str("[")?;
+    for (at, tree) in trees.as_slice().iter().enumerate() {
+        out.push_str(if at > 0 { " " } else { "" })?;
+        put_tree(out, tree)?;
+    }
+    out.push_str("]")
+}
+
+#[cycle(trees)]
+fn put_pairs(out: &mut String, pairs: &Pairs) -> Result<(), AllocError> {
+    out.push_str("{")?;
+    for (at, (key, tree)) in pairs.as_slice().iter().enumerate() {
+        out.push_str(if at > 0 { " " } else { "" })?;
+        put_key(out, key)?;
+        out.push_str("=")?;
+        put_tree(out, tree)?;
+    }
+    out.push_str("}")
+}
+
 /// A key: `null`, `true`, `7` or `'text'`. The error is want of memory.
 pub fn shown_key(alloc: Global, key: &Key) -> Result<String, AllocError> {
-    match key {
-        Key::Null => String::from_str(alloc, "null"),
-        Key::Bool(is) => format!(in alloc; "{is}"),
-        Key::Int(n) => format!(in alloc; "{n}"),
-        Key::Str(text) => format!(in alloc; "'{}'", text.as_str()),
-    }
+    let mut out = String::new(alloc);
+    put_key(&mut out, key)?;
+    Ok(out)
 }
 
 /// A tree: a scalar as a key is, `['a' 7]` and `{'a'=7 null=[]}`. The error is want of memory.
-#[cycle(trees)]
 pub fn shown_tree(alloc: Global, tree: &Tree) -> Result<String, AllocError> {
-    match tree {
-        Tree::Null => String::from_str(alloc, "null"),
-        Tree::Bool(is) => format!(in alloc; "{is}"),
-        Tree::Int(n) => format!(in alloc; "{n}"),
-        Tree::Str(text) => format!(in alloc; "'{}'", text.as_str()),
-        Tree::List(trees) => {
-            let inside = shown_trees(alloc, trees)?;
-            format!(in alloc; "[{inside}]")
-        }
-        Tree::Map(pairs) => {
-            let inside = shown_pairs(alloc, pairs)?;
-            format!(in alloc; "{{{inside}}}")
-        }
-    }
-}
-
-#[cycle(trees)]
-fn shown_trees(alloc: Global, trees: &Trees) -> Result<String, AllocError> {
-    let mut shown = String::new(alloc);
-    for (at, tree) in trees.as_slice().iter().enumerate() {
-        shown.push_str(if at > 0 { " " } else { "" })?;
-        let one = shown_tree(alloc, tree)?;
-        shown.push_str(one.as_str())?;
-    }
-    Ok(shown)
-}
-
-#[cycle(trees)]
-fn shown_pairs(alloc: Global, pairs: &Pairs) -> Result<String, AllocError> {
-    let mut shown = String::new(alloc);
-    for (at, (key, tree)) in pairs.as_slice().iter().enumerate() {
-        shown.push_str(if at > 0 { " " } else { "" })?;
-        let name = shown_key(alloc, key)?;
-        shown.push_str(name.as_str())?;
-        let one = shown_tree(alloc, tree)?;
-        shown.push_str("=")?;
-        shown.push_str(one.as_str())?;
-    }
-    Ok(shown)
+    let mut out = String::new(alloc);
+    put_tree(&mut out, tree)?;
+    Ok(out)
 }

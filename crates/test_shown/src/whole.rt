@@ -1,6 +1,7 @@
 // Code whole: expressions, statements, and heads of blocks. A part that stands on another line than the first has its line
 // behind `@`.
 
+use crate::trees::put_number;
 use sqlite_items::{Boxed, Items};
 use star_tree::code::{BinOp, Clause, Entry, Expr, Header, Loaded, NodeOp, Param, Stmt, UnOp};
 use std::alloc::{AllocError, Global};
@@ -10,9 +11,8 @@ fn put_line(out: &mut String, line: u32) -> Result<(), AllocError> {
     if line == 1 {
         return Ok(());
     }
-    let alloc = *out.allocator();
-    let number = format!(in alloc; "@{line}")?;
-    out.push_str(number.as_str())
+    out.push_str("@")?;
+    put_number(out, i128::from(line))
 }
 
 fn put_word(out: &mut String, word: &str, line: u32) -> Result<(), AllocError> {
@@ -27,9 +27,8 @@ fn put_text(out: &mut String, text: &str, line: u32) -> Result<(), AllocError> {
 }
 
 fn put_int(out: &mut String, value: i128, line: u32) -> Result<(), AllocError> {
-    let alloc = *out.allocator();
-    let number = format!(in alloc; "{value}")?;
-    put_word(out, number.as_str(), line)
+    put_number(out, value)?;
+    put_line(out, line)
 }
 
 /// `(WORD`
@@ -178,105 +177,96 @@ fn put_attribute(out: &mut String, name: &str) -> Result<(), AllocError> {
     out.push_str(")")
 }
 
-/// Puts an expression behind the text. The error is want of memory.
-#[cycle(code)]
-fn put_expr(out: &mut String, expr: &Expr) -> Result<(), AllocError> {
+/// `NAME=`
+fn put_named(out: &mut String, name: &str, line: u32) -> Result<(), AllocError> {
+    put_word(out, name, line)?;
+    out.push_str("=")
+}
+
+/// What an expression begins with: a literal and a name are whole then.
+fn put_beginning(out: &mut String, expr: &Expr) -> Result<(), AllocError> {
     match expr {
         Expr::Int(line, value) => put_int(out, *value, *line),
         Expr::Text(line, text) => put_text(out, text.as_str(), *line),
         Expr::Name(line, name) => put_word(out, name.as_str(), *line),
         Expr::Template(line, _) => put_word(out, "template", *line),
-        Expr::List(line, parts) => {
-            put_head(out, "list", *line)?;
-            put_exprs(out, parts)
-        }
-        Expr::Tuple(line, parts) => {
-            put_head(out, "tuple", *line)?;
-            put_exprs(out, parts)
-        }
-        Expr::Dict(line, entries) => {
-            put_head(out, "dict", *line)?;
-            put_entries(out, entries)
-        }
-        Expr::Unary(line, op, a) => {
-            put_head(out, unary_word(*op), *line)?;
-            put_last(out, a.get())
-        }
-        Expr::Star(line, a) => {
-            put_head(out, "*", *line)?;
-            put_last(out, a.get())
-        }
-        Expr::Stars(line, a) => {
-            put_head(out, "**", *line)?;
-            put_last(out, a.get())
-        }
-        Expr::Named(line, name, value) => {
-            put_word(out, name.as_str(), *line)?;
-            out.push_str("=")?;
-            put_expr(out, value.get())
-        }
-        Expr::Binary(line, op, a, b) => {
-            put_head(out, binary_word(*op), *line)?;
-            put_part(out, a.get())?;
-            put_last(out, b.get())
-        }
-        Expr::And(line, a, b) => {
-            put_head(out, "and", *line)?;
-            put_part(out, a.get())?;
-            put_last(out, b.get())
-        }
-        Expr::Or(line, a, b) => {
-            put_head(out, "or", *line)?;
-            put_part(out, a.get())?;
-            put_last(out, b.get())
-        }
-        Expr::Index(line, a, at) => {
-            put_head(out, "at", *line)?;
-            put_part(out, a.get())?;
-            put_last(out, at.get())
-        }
-        Expr::If(line, test, a, b) => {
-            put_head(out, "if", *line)?;
+        Expr::List(line, _) => put_head(out, "list", *line),
+        Expr::Tuple(line, _) => put_head(out, "tuple", *line),
+        Expr::Dict(line, _) => put_head(out, "dict", *line),
+        Expr::Unary(line, op, _) => put_head(out, unary_word(*op), *line),
+        Expr::Star(line, _) => put_head(out, "*", *line),
+        Expr::Stars(line, _) => put_head(out, "**", *line),
+        Expr::Named(line, name, _) => put_named(out, name.as_str(), *line),
+        Expr::Binary(line, op, _, _) => put_head(out, binary_word(*op), *line),
+        Expr::And(line, _, _) => put_head(out, "and", *line),
+        Expr::Or(line, _, _) => put_head(out, "or", *line),
+        Expr::Index(line, _, _) => put_head(out, "at", *line),
+        Expr::If(line, _, _, _) => put_head(out, "if", *line),
+        Expr::Call(line, _, _) => put_head(out, "call", *line),
+        Expr::Slice(line, _, _, _, _) => put_head(out, "slice", *line),
+        Expr::Dot(line, _, _) => put_head(out, ".", *line),
+        Expr::Lambda(line, _, _, _) => put_head(out, "lambda", *line),
+        Expr::ListFor(line, _, _) => put_head(out, "list-for", *line),
+        Expr::DictFor(line, _, _, _) => put_head(out, "dict-for", *line),
+    }
+}
+
+/// The parts of an expression, and `)` where it began with `(`.
+#[cycle(code)]
+fn put_parts(out: &mut String, expr: &Expr) -> Result<(), AllocError> {
+    match expr {
+        Expr::Int(_, _) | Expr::Text(_, _) | Expr::Name(_, _) | Expr::Template(_, _) => Ok(()),
+        Expr::List(_, parts) | Expr::Tuple(_, parts) => put_exprs(out, parts),
+        Expr::Dict(_, entries) => put_entries(out, entries),
+        Expr::Unary(_, _, a) | Expr::Star(_, a) | Expr::Stars(_, a) => put_last(out, a.get()),
+        Expr::Named(_, _, value) => put_expr(out, value.get()),
+        Expr::Binary(_, _, a, b) | Expr::And(_, a, b) | Expr::Or(_, a, b) | Expr::Index(_, a, b) =>
+            {
+                put_part(out, a.get())?;
+                put_last(out, b.get())
+            }
+        Expr::If(_, test, a, b) => {
             put_part(out, test.get())?;
             put_part(out, a.get())?;
             put_last(out, b.get())
         }
-        Expr::Call(line, function, args) => {
-            put_head(out, "call", *line)?;
+        Expr::Call(_, function, args) => {
             put_part(out, function.get())?;
             put_exprs(out, args)
         }
-        Expr::Slice(line, whole, low, high, step) => {
-            put_head(out, "slice", *line)?;
+        Expr::Slice(_, whole, low, high, step) => {
             put_part(out, whole.get())?;
             put_optional(out, low)?;
             put_optional(out, high)?;
             put_optional(out, step)?;
             out.push_str(")")
         }
-        Expr::Dot(line, whole, name) => {
-            put_head(out, ".", *line)?;
+        Expr::Dot(_, whole, name) => {
             put_part(out, whole.get())?;
             put_attribute(out, name.as_str())
         }
-        Expr::Lambda(line, _, params, body) => {
-            put_head(out, "lambda", *line)?;
+        Expr::Lambda(_, _, params, body) => {
             put_params(out, params)?;
             out.push_str(" :")?;
             put_last(out, body.get())
         }
-        Expr::ListFor(line, value, clauses) => {
-            put_head(out, "list-for", *line)?;
+        Expr::ListFor(_, value, clauses) => {
             put_part(out, value.get())?;
             put_clauses(out, clauses)
         }
-        Expr::DictFor(line, key, value, clauses) => {
-            put_head(out, "dict-for", *line)?;
+        Expr::DictFor(_, key, value, clauses) => {
             put_part(out, key.get())?;
             put_part(out, value.get())?;
             put_clauses(out, clauses)
         }
     }
+}
+
+/// Puts an expression behind the text. The error is want of memory.
+#[cycle(code)]
+fn put_expr(out: &mut String, expr: &Expr) -> Result<(), AllocError> {
+    put_beginning(out, expr)?;
+    put_parts(out, expr)
 }
 
 fn put_one(out: &mut String, word: &str, line: u32, a: &Expr) -> Result<(), AllocError> {
