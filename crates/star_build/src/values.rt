@@ -44,16 +44,18 @@ pub fn nothing(alloc: Global) -> Expr
 }
 
 /// No expression, where a part is none.
-fn no_expr(alloc: Global, _part: Part) -> Expr
+fn no_expr(alloc: Global, part: Part) -> Expr
     ensures { result ≡ spec.nothing }
 {
+    drop(part);
     nothing(alloc)
 }
 
 /// No text, where an expression has none.
-fn no_text(alloc: Global, _expr: Expr) -> Text
+fn no_text(alloc: Global, expr: Expr) -> Text
     ensures { result ≡ [] }
 {
+    drop(expr);
     Text::new(alloc)
 }
 
@@ -109,8 +111,9 @@ pub fn text_of(alloc: Global, expr: Expr) -> Text
 }
 
 /// No items, where a part holds others.
-pub fn no_items<T>(alloc: Global, _part: Part) -> Items<T>
+pub fn no_items<T>(alloc: Global, part: Part) -> Items<T>
     ensures { result ≡ [] }
 {
+    drop(part);
     Items::new(alloc)
 }

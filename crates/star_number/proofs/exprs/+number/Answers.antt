@@ -1,8 +1,9 @@
-use Rattle.std.proofs.Common.{ap, sym, ◌∙◌, map as each}
+use Rattle.std.proofs.Common.{ap, rules, sym, ◌∙◌, map as each}
 use Rattle.code_spec.specs.Numbering.{number_expr}
 use Rattle.star_tree.specs.Listed.{clause_of, entry_of, piece_of}
 use Rattle.star_tree.specs.Whole.{clauses_from, entries_from, expr_of, exprs_from, parameter_of, parameters_from, pieces_from}
 use Rattle.star_tree.specs.declared.code.Expr as held
+use Rattle.star_tree.specs.declared.code.Expr.{the_lemmas}
 use Rattle.star_number.specs.Rows.{number_clause, number_entry, number_parameter, number_piece}
 use Rattle.star_number.proofs.Rows.{clauses_row, entries_row, exprs_row, parameters_row, pieces_row, row_whole}
 use Rattle.star_number.proofs.Slices.{slice_numbered}
@@ -55,3 +56,51 @@ number_operation-returns-in_ok-step-in-Slice t c =
     c.in_ok-a-in-Slice.ensures.0 c.in_ok-a-in-Slice.ensures.1 c.in_ok-low-in-Slice.ensures.0 c.in_ok-low-in-Slice.ensures.1
     c.in_ok-high-in-Slice.ensures.0 c.in_ok-high-in-Slice.ensures.1 c.in_ok-step-in-Slice.ensures.0 c.in_ok-step-in-Slice.ensures.1 in
     (ap (λ p. p.result) whole, ap (λ p. p.next) whole)
+
+pub number_operation-returns-in_ok-b-in-Binary : goal.number_operation-returns-in_ok-b-in-Binary
+number_operation-returns-in_ok-b-in-Binary t c = search (rules, the_lemmas)
+
+pub number_operation-returns-in_ok-b-in-And : goal.number_operation-returns-in_ok-b-in-And
+number_operation-returns-in_ok-b-in-And t c = search (rules, the_lemmas)
+
+pub number_operation-returns-in_ok-b-in-Or : goal.number_operation-returns-in_ok-b-in-Or
+number_operation-returns-in_ok-b-in-Or t c = search (rules, the_lemmas)
+
+pub number_operation-returns-in_ok-b-in-If : goal.number_operation-returns-in_ok-b-in-If
+number_operation-returns-in_ok-b-in-If t c = search (rules, the_lemmas)
+
+pub number_operation-returns-in_ok-b-in-Index : goal.number_operation-returns-in_ok-b-in-Index
+number_operation-returns-in_ok-b-in-Index t c = search (rules, the_lemmas)
+
+pub number_operation-returns-in_ok-a-in-Unary : goal.number_operation-returns-in_ok-a-in-Unary
+number_operation-returns-in_ok-a-in-Unary t c = search (rules, the_lemmas)
+
+pub number_call-returns-in_ok-args-in-Call : goal.number_call-returns-in_ok-args-in-Call
+number_call-returns-in_ok-args-in-Call t c = search (rules, the_lemmas)
+
+pub number_call-returns-in_ok-a-in-Star : goal.number_call-returns-in_ok-a-in-Star
+number_call-returns-in_ok-a-in-Star t c = search (rules, the_lemmas)
+
+pub number_call-returns-in_ok-a-in-Stars : goal.number_call-returns-in_ok-a-in-Stars
+number_call-returns-in_ok-a-in-Stars t c = search (rules, the_lemmas)
+
+pub number_expr-returns-in_ok-members-in-List : goal.number_expr-returns-in_ok-members-in-List
+number_expr-returns-in_ok-members-in-List t c = search (rules, the_lemmas)
+
+pub number_expr-returns-in_ok-members-in-Tuple : goal.number_expr-returns-in_ok-members-in-Tuple
+number_expr-returns-in_ok-members-in-Tuple t c = search (rules, the_lemmas)
+
+pub number_expr-returns-in_ok-entries-in-Dict : goal.number_expr-returns-in_ok-entries-in-Dict
+number_expr-returns-in_ok-entries-in-Dict t c = search (rules, the_lemmas)
+
+pub number_expr-returns-in_ok-pieces-in-Template : goal.number_expr-returns-in_ok-pieces-in-Template
+number_expr-returns-in_ok-pieces-in-Template t c = search (rules, the_lemmas)
+
+pub number_expr-returns-in_ok-body-in-Lambda : goal.number_expr-returns-in_ok-body-in-Lambda
+number_expr-returns-in_ok-body-in-Lambda t c = search (rules, the_lemmas)
+
+pub number_expr-returns-in_ok-clauses-in-ListFor : goal.number_expr-returns-in_ok-clauses-in-ListFor
+number_expr-returns-in_ok-clauses-in-ListFor t c = search (rules, the_lemmas)
+
+pub number_expr-returns-in_ok-clauses-in-DictFor : goal.number_expr-returns-in_ok-clauses-in-DictFor
+number_expr-returns-in_ok-clauses-in-DictFor t c = search (rules, the_lemmas)
