@@ -1,0 +1,4 @@
+pub mod Frozen
+pub mod Names
+pub mod Pushing
+pub mod Reading

@@ -1,0 +1,8 @@
+use Rattle.object_arena.proofs.Names.{push_member, seen, value_of, acted, owns_kept}
+use Rattle.object_arena.proofs.arena.Arena.list_push.Goals as goal
+
+pub put_back-requires-clause-owns : goal.put_back-requires-clause-owns
+put_back-requires-clause-owns c = c.push-answer.ensures.owned (seen c.take-object.new.self) c.take-object.ensures.owned (owns_kept _ _ c.args.v c.take-object.ensures.out.grows c.requires.value)
+
+pub returns-clause-meaning : goal.returns-clause-meaning
+returns-clause-meaning c = acted (λ u. u) c.push-answer.result (seen c.args.self.now) (seen c.put_back.new.self) c.args.list.at c.take-object.result c.push-answer.new.self (push_member (value_of (seen c.args.self.now) c.args.v)) c.take-object.ensures.was (c.push-answer.ensures.meaning (seen c.args.self.now).held) (c.put_back.ensures (seen c.args.self.now) c.take-object.ensures.out)

@@ -1,0 +1,5 @@
+pub mod Acts
+pub mod Growing
+pub mod KeysOnce
+pub mod Names
+pub mod Slots

@@ -1,0 +1,6 @@
+pub mod Answers
+pub mod Changing
+pub mod Objects
+pub mod Owns
+pub mod Types
+pub mod View

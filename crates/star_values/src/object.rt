@@ -1,0 +1,180 @@
+// Objects: what can be changed.
+ghost use Rattle.std.specs.Prelude.{◌≡◌, ◌<◌, ◌^◌, ◌+◌, ◌-◌, List, true, false, slice_get};
+ghost use Rattle.star_spec.specs.Store.{count_of, list_of_contents};
+ghost use Rattle.star_spec.specs.Values as plain;
+ghost use Rattle.star_values.specs.Changing.{Unlocks, contents_kind};
+ghost use Rattle.star_values.specs.Objects.{contents_in};
+ghost use Rattle.star_values.specs.Owns.{OwnsContents, OwnsOption};
+ghost use Rattle.star_values.specs.View.{View, option_in};
+
+use crate::value::{Ref, Sort, Value, Values, value_at};
+use indexmap::IndexMap;
+use sqlite_items::Items;
+use std::alloc::Global;
+use ytt_base::text::{Memory, Text};
+
+/// The name of a variable, which is a text of the arena, and its box.
+#[derive(Clone, Copy)]
+pub struct NamedBox {
+    pub name: Ref,
+    pub at: Ref,
+}
+
+/// The variables of a scope, the innermost first.
+pub type Boxes = Items<NamedBox>;
+
+/// A function: the name that it shows, its file, the number of its code there, the variables that stood around it, and the
+/// values of its defaults.
+#[derive(Drop)]
+pub struct Function {
+    pub name: Text,
+    pub file: u32,
+    pub code: u64,
+    pub boxes: Boxes,
+    pub defaults: Values,
+}
+
+/// What an object holds.
+#[derive(Drop)]
+pub enum Contents {
+    List(Vec<Value>),
+    Dict(IndexMap<Value, Value>),
+    Box(Option<Value>),
+    Func(Function),
+}
+
+/// An object: what it holds, whether it is frozen, and how many loops walk it.
+#[derive(Drop)]
+pub struct Object {
+    pub contents: Contents,
+    pub frozen: bool,
+    pub loops: u64,
+}
+
+impl Contents {
+    /// Contents of the same kind with nothing in them. They take no memory.
+    pub fn empty_like(&self, alloc: Global) -> Contents
+        ensures kind { contents_kind result ≡ contents_kind self.now }
+        ensures owned { (a : View) → OwnsContents a result }
+    {
+        match self {
+            Contents::List(_) => Contents::List(Vec::new(alloc)),
+            Contents::Dict(_) => Contents::Dict(IndexMap::new(alloc)),
+            Contents::Box(_) => Contents::Box(None),
+            Contents::Func(_) => Contents::Func(Function {
+                name: Text::new(alloc),
+                file: 0,
+                code: 0,
+                boxes: Items::new(alloc),
+                defaults: Items::new(alloc),
+            }),
+        }
+    }
+
+    /// Their kind.
+    pub fn sort(&self) -> Sort
+        ensures { result ≡ contents_kind self.now }
+    {
+        match self {
+            Contents::List(_) => Sort::List,
+            Contents::Dict(_) => Sort::Dict,
+            Contents::Box(_) => Sort::Box,
+            Contents::Func(_) => Sort::Func,
+        }
+    }
+
+    /// How many members or pairs there are.
+    pub fn len(&self) -> usize
+        ensures { (held : List plain.Value) → result ≡ count_of (contents_in held self.now) }
+    {
+        match self {
+            Contents::List(items) => items.len(),
+            Contents::Dict(pairs) => pairs.len(),
+            Contents::Box(None) => 0,
+            Contents::Box(Some(_)) => 1,
+            Contents::Func(_) => 0,
+        }
+    }
+
+    /// The member of a list at a place; what a box has stands at place 0.
+    pub fn member(&self, at: usize) -> Option<Value>
+        ensures value { (held : List plain.Value) → option_in held result ≡ slice_get (list_of_contents (contents_in held self.now)) at }
+        ensures owned { (a : View) → OwnsContents a self.now → OwnsOption a result }
+    {
+        match self {
+            Contents::List(items) => value_at(items.as_slice(), at),
+            Contents::Box(inside) => { if at == 0 { *inside } else { None } }
+            _ => None,
+        }
+    }
+}
+
+impl Object {
+    /// A new object, which is neither frozen nor walked.
+    pub fn new(contents: Contents) -> Object
+        ensures { result ≡ record { contents = contents; frozen = false; loops = 0 } }
+    {
+        Object {
+            contents,
+            frozen: false,
+            loops: 0,
+        }
+    }
+
+    /// Whether it may be changed: not where it is frozen, nor where a loop walks it.
+    pub(crate) fn unlocked(&self) -> Result<(), ArenaStop>
+        ensures { Unlocks result self.now }
+    {
+        if self.frozen {
+            return Err(ArenaStop::Frozen);
+        }
+        if self.loops != 0 {
+            return Err(ArenaStop::Iterating);
+        }
+        Ok(())
+    }
+
+    /// It can't be changed any more.
+    pub fn freeze(&mut self)
+        ensures { self.new ≡ record self.old { frozen = true } }
+    {
+        self.frozen = true;
+    }
+
+    /// One more loop walks it.
+    pub fn begin_loop(&mut self)
+        requires { self.old.loops < 2 ^ 63 }
+        ensures { self.new ≡ record self.old { loops = self.old.loops + 1 } }
+    {
+        self.loops += 1;
+    }
+
+    /// One loop less walks it.
+    pub fn end_loop(&mut self)
+        ensures { self.new ≡ record self.old { loops = self.old.loops - 1 } }
+    {
+        self.loops = self.loops.saturating_sub(1);
+    }
+}
+
+/// Why a call of an arena refuses: the object is frozen, a loop walks it, it has no such place, it has no such key, or memory
+/// is wanting.
+#[derive(Clone, Copy, PartialEq, Eq)]
+pub enum ArenaStop {
+    Frozen,
+    Iterating,
+    IndexRange,
+    KeyMissing,
+    Memory,
+}
+
+impl From<Memory> for ArenaStop {
+    ghost use Rattle.std.specs.Prelude.{◌≡◌};
+    ghost use Rattle.star_values.specs.declared.object.ArenaStop.TheVariants as stop;
+
+    ghost from_gives = { λ _ s. s ≡ stop.Memory };
+
+    fn from(_: Memory) -> Self {
+        ArenaStop::Memory
+    }
+}

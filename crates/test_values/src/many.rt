@@ -1,0 +1,55 @@
+// A million pushes, puts and look-ups.
+
+use crate::trial::{Said, get, look, push, put};
+use object_arena::{Arena, Ref, Value};
+use std::alloc::Global;
+use std::test::Fail;
+use ytt_base::text::{Memory, Text};
+
+/// Pushes the numbers below `count` onto a list, and puts each under its text into a dict.
+fn fill(alloc: Global, arena: &mut Arena, list: Ref, dict: Ref, count: u32) -> Result<(), Memory> {
+    for n in 0..count {
+        let number = Value::Int(n as i128);
+        push(arena, list, number);
+        let text = format!(in alloc; "key{n}")?;
+        let key = arena.new_text(Text::of_string(text))?;
+        put(arena, dict, key, number);
+    }
+    Ok(())
+}
+
+/// Whether each number stands at its place of the list and under its text in the dict.
+fn stands(
+    alloc: Global,
+    arena: &mut Arena,
+    list: Ref,
+    dict: Ref,
+    count: u32,
+) -> Result<bool, Memory> {
+    let mut all = true;
+    for n in 0..count {
+        let number = Value::Int(n as i128);
+        let text = format!(in alloc; "key{n}")?;
+        let key = arena.new_text(Text::of_string(text))?;
+        let pushed = get(arena, list, n as u64) == Said::Value(number);
+        let found = look(arena, dict, key) == Said::Value(number);
+        all = all && pushed && found;
+    }
+    Ok(all)
+}
+
+#[test]
+fn a_million_of_each(rt: HostRuntime) -> Result<(), Fail> {
+    let alloc = rt.alloc();
+    let mut arena = Arena::new(alloc);
+    let list = arena.new_list(&[])?;
+    let dict = arena.new_dict()?;
+    match (list, dict) {
+        (Value::List(list), Value::Dict(dict)) => {
+            fill(alloc, &mut arena, list, dict, 1_000_000)?;
+            assert!(rt; stands(alloc, &mut arena, list, dict, 1_000_000)?);
+        }
+        _ => assert!(rt; false),
+    }
+    Ok(())
+}
