@@ -1,5 +1,5 @@
 -- The numbers of lambdas in what stands in lists.
-use Rattle.std.specs.Prelude.{◌≡◌, ℕ, List, [], ◌∷◌, ◌++◌}
+use Rattle.std.specs.Prelude.{List, [], ◌∷◌, ◌++◌}
 use Rattle.code_spec.specs.Numbering.{Pass, Passed, keep, over_one, over_two, number_expr}
 use Rattle.star_tree.specs.Whole.{Clause, for_part, if_part, Entry, Parameter, named_part, default_part, bare_part, star_part, stars_part, Piece, written_part, expr_part}
 
@@ -11,10 +11,6 @@ in_row f (x ∷ xs) = over_two (λ y ys. y ∷ ys) (f x) (in_row f xs)
 -- what a pass gives, behind others
 abbrev pub behind : {A : Type 0} → List A → Passed (List A) → Passed (List A)
 behind xs p = record { result = xs ++ p.result; next = p.next }
-
--- what is made, and the number after it, are what a pass gives
-abbrev pub IsPassed : {A : Type 0} → A → ℕ → Passed A → Type 0
-IsPassed a n p = (a ≡ p.result) × (n ≡ p.next)
 
 abbrev pub number_clause : Clause → Pass Clause
 number_clause (for_part t m) = over_two for_part (number_expr t) (number_expr m)

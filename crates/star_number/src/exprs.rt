@@ -1,6 +1,6 @@
 // Expressions with the numbers of their lambdas. `file` is the file of the places in them.
-ghost use Rattle.std.specs.Prelude.{IfOk};
-ghost use Rattle.star_number.specs.Rows.{IsPassed, number_clause, number_entry, number_parameter, number_piece};
+ghost use Rattle.std.specs.Prelude.{◌≡◌, IfOk, OnOk};
+ghost use Rattle.star_number.specs.Rows.{number_clause, number_entry, number_parameter, number_piece};
 ghost use Rattle.code_spec.specs.Numbering.{number_clauses, number_entries, number_expr, number_exprs, number_optional, number_parameters, number_pieces};
 ghost use Rattle.star_tree.specs.Listed.{clause_of, clauses_of, entries_of, entry_of, optional_of, piece_of, pieces_of};
 ghost use Rattle.star_tree.specs.Whole.{expr_of, exprs_of, parameter_of, parameters_of};
@@ -19,7 +19,8 @@ pub(crate) fn number_expr(
     expr: &Expr,
     next: &mut usize,
 ) -> Result<Expr, Memory>
-    ensures { IfOk result (λ e. IsPassed (expr_of file e) next.new (number_expr (expr_of file expr.now) next.old)) }
+    ensures result { IfOk result (λ e. expr_of file e ≡ (number_expr (expr_of file expr.now) next.old).result) }
+    ensures next { OnOk result (next.new ≡ (number_expr (expr_of file expr.now) next.old).next) }
 {
     match expr {
         Expr::Int(line, n) => Ok(Expr::Int(*line, *n)),
@@ -37,37 +38,6 @@ pub(crate) fn number_expr(
             let entries = number_entries(alloc, file, entries, next)?;
             Ok(Expr::Dict(*line, entries))
         }
-        Expr::Template(line, pieces) => {
-            let pieces = number_pieces(alloc, file, pieces, next)?;
-            Ok(Expr::Template(*line, pieces))
-        }
-        Expr::Lambda(line, _, params, body) => {
-            let number = take(next)?;
-            let params = number_params(alloc, file, params, next)?;
-            let body = number_boxed(alloc, file, body.get(), next)?;
-            Ok(Expr::Lambda(*line, number, params, body))
-        }
-        Expr::ListFor(line, element, clauses) => {
-            let element = number_boxed(alloc, file, element.get(), next)?;
-            let clauses = number_clauses(alloc, file, clauses, next)?;
-            Ok(Expr::ListFor(*line, element, clauses))
-        }
-        Expr::DictFor(line, key, value, clauses) => {
-            let key = number_boxed(alloc, file, key.get(), next)?;
-            let value = number_boxed(alloc, file, value.get(), next)?;
-            let clauses = number_clauses(alloc, file, clauses, next)?;
-            Ok(Expr::DictFor(*line, key, value, clauses))
-        }
-        _ => number_operation(alloc, file, expr, next),
-    }
-}
-
-/// The same, of what is no literal, name, display, function or comprehension.
-#[cycle(number)]
-fn number_operation(alloc: Global, file: u32, expr: &Expr, next: &mut usize) -> Result<Expr, Memory>
-    ensures { IfOk result (λ e. IsPassed (expr_of file e) next.new (number_expr (expr_of file expr.now) next.old)) }
-{
-    match expr {
         Expr::Unary(line, op, a) => {
             let a = number_boxed(alloc, file, a.get(), next)?;
             Ok(Expr::Unary(*line, *op, a))
@@ -93,28 +63,6 @@ fn number_operation(alloc: Global, file: u32, expr: &Expr, next: &mut usize) -> 
             let b = number_boxed(alloc, file, b.get(), next)?;
             Ok(Expr::If(*line, test, a, b))
         }
-        Expr::Index(line, a, b) => {
-            let a = number_boxed(alloc, file, a.get(), next)?;
-            let b = number_boxed(alloc, file, b.get(), next)?;
-            Ok(Expr::Index(*line, a, b))
-        }
-        Expr::Slice(line, a, low, high, step) => {
-            let a = number_boxed(alloc, file, a.get(), next)?;
-            let low = number_optional(alloc, file, low, next)?;
-            let high = number_optional(alloc, file, high, next)?;
-            let step = number_optional(alloc, file, step, next)?;
-            Ok(Expr::Slice(*line, a, low, high, step))
-        }
-        _ => number_call(alloc, file, expr, next),
-    }
-}
-
-/// The same, of a call, an argument with a name or stars, and an attribute: no other kind is left.
-#[cycle(number)]
-fn number_call(alloc: Global, file: u32, expr: &Expr, next: &mut usize) -> Result<Expr, Memory>
-    ensures { IfOk result (λ e. IsPassed (expr_of file e) next.new (number_expr (expr_of file expr.now) next.old)) }
-{
-    match expr {
         Expr::Call(line, function, args) => {
             let function = number_boxed(alloc, file, function.get(), next)?;
             let args = number_exprs(alloc, file, args, next)?;
@@ -132,11 +80,43 @@ fn number_call(alloc: Global, file: u32, expr: &Expr, next: &mut usize) -> Resul
             let a = number_boxed(alloc, file, a.get(), next)?;
             Ok(Expr::Stars(*line, a))
         }
+        Expr::Index(line, a, b) => {
+            let a = number_boxed(alloc, file, a.get(), next)?;
+            let b = number_boxed(alloc, file, b.get(), next)?;
+            Ok(Expr::Index(*line, a, b))
+        }
+        Expr::Slice(line, a, low, high, step) => {
+            let a = number_boxed(alloc, file, a.get(), next)?;
+            let low = number_optional(alloc, file, low, next)?;
+            let high = number_optional(alloc, file, high, next)?;
+            let step = number_optional(alloc, file, step, next)?;
+            Ok(Expr::Slice(*line, a, low, high, step))
+        }
         Expr::Dot(line, a, name) => {
             let a = number_boxed(alloc, file, a.get(), next)?;
             Ok(Expr::Dot(*line, a, name.copy()?))
         }
-        _ => Err(Memory),
+        Expr::Lambda(line, _, params, body) => {
+            let number = take(next)?;
+            let params = number_params(alloc, file, params, next)?;
+            let body = number_boxed(alloc, file, body.get(), next)?;
+            Ok(Expr::Lambda(*line, number, params, body))
+        }
+        Expr::ListFor(line, element, clauses) => {
+            let element = number_boxed(alloc, file, element.get(), next)?;
+            let clauses = number_clauses(alloc, file, clauses, next)?;
+            Ok(Expr::ListFor(*line, element, clauses))
+        }
+        Expr::DictFor(line, key, value, clauses) => {
+            let key = number_boxed(alloc, file, key.get(), next)?;
+            let value = number_boxed(alloc, file, value.get(), next)?;
+            let clauses = number_clauses(alloc, file, clauses, next)?;
+            Ok(Expr::DictFor(*line, key, value, clauses))
+        }
+        Expr::Template(line, pieces) => {
+            let pieces = number_pieces(alloc, file, pieces, next)?;
+            Ok(Expr::Template(*line, pieces))
+        }
     }
 }
 
@@ -148,7 +128,8 @@ pub(crate) fn number_boxed(
     expr: &Expr,
     next: &mut usize,
 ) -> Result<Boxed<Expr>, Memory>
-    ensures { IfOk result (λ e. IsPassed (expr_of file e) next.new (number_expr (expr_of file expr.now) next.old)) }
+    ensures result { IfOk result (λ e. expr_of file e ≡ (number_expr (expr_of file expr.now) next.old).result) }
+    ensures next { OnOk result (next.new ≡ (number_expr (expr_of file expr.now) next.old).next) }
 {
     let numbered = number_expr(alloc, file, expr, next)?;
     Ok(Boxed::new(alloc, numbered)?)
@@ -162,7 +143,8 @@ pub(crate) fn number_exprs(
     exprs: &Items<Expr>,
     next: &mut usize,
 ) -> Result<Args, Memory>
-    ensures { IfOk result (λ es. IsPassed (exprs_of file es) next.new (number_exprs (exprs_of file exprs.now) next.old)) }
+    ensures result { IfOk result (λ es. exprs_of file es ≡ (number_exprs (exprs_of file exprs.now) next.old).result) }
+    ensures next { OnOk result (next.new ≡ (number_exprs (exprs_of file exprs.now) next.old).next) }
 {
     let mut numbered = Items::new(alloc);
     for expr in exprs.as_slice() {
@@ -178,7 +160,8 @@ fn number_optional(
     part: &Option<Boxed<Expr>>,
     next: &mut usize,
 ) -> Result<Option<Boxed<Expr>>, Memory>
-    ensures { IfOk result (λ o. IsPassed (optional_of file o) next.new (number_optional (optional_of file part.now) next.old)) }
+    ensures result { IfOk result (λ o. optional_of file o ≡ (number_optional (optional_of file part.now) next.old).result) }
+    ensures next { OnOk result (next.new ≡ (number_optional (optional_of file part.now) next.old).next) }
 {
     match part {
         Some(expr) => Ok(Some(number_boxed(alloc, file, expr.get(), next)?)),
@@ -188,7 +171,8 @@ fn number_optional(
 
 #[cycle(number)]
 fn number_entry(alloc: Global, file: u32, entry: &Entry, next: &mut usize) -> Result<Entry, Memory>
-    ensures { IfOk result (λ e. IsPassed (entry_of file e) next.new (number_entry (entry_of file entry.now) next.old)) }
+    ensures result { IfOk result (λ e. entry_of file e ≡ (number_entry (entry_of file entry.now) next.old).result) }
+    ensures next { OnOk result (next.new ≡ (number_entry (entry_of file entry.now) next.old).next) }
 {
     match entry {
         Entry::Pair(key, value) => {
@@ -206,7 +190,8 @@ fn number_entries(
     entries: &Items<Entry>,
     next: &mut usize,
 ) -> Result<Items<Entry>, Memory>
-    ensures { IfOk result (λ es. IsPassed (entries_of file es) next.new (number_entries (entries_of file entries.now) next.old)) }
+    ensures result { IfOk result (λ es. entries_of file es ≡ (number_entries (entries_of file entries.now) next.old).result) }
+    ensures next { OnOk result (next.new ≡ (number_entries (entries_of file entries.now) next.old).next) }
 {
     let mut numbered = Items::new(alloc);
     for entry in entries.as_slice() {
@@ -222,7 +207,8 @@ fn number_clause(
     clause: &Clause,
     next: &mut usize,
 ) -> Result<Clause, Memory>
-    ensures { IfOk result (λ k. IsPassed (clause_of file k) next.new (number_clause (clause_of file clause.now) next.old)) }
+    ensures result { IfOk result (λ k. clause_of file k ≡ (number_clause (clause_of file clause.now) next.old).result) }
+    ensures next { OnOk result (next.new ≡ (number_clause (clause_of file clause.now) next.old).next) }
 {
     match clause {
         Clause::ForIn(target, members) => {
@@ -244,7 +230,8 @@ fn number_clauses(
     clauses: &Items<Clause>,
     next: &mut usize,
 ) -> Result<Items<Clause>, Memory>
-    ensures { IfOk result (λ ks. IsPassed (clauses_of file ks) next.new (number_clauses (clauses_of file clauses.now) next.old)) }
+    ensures result { IfOk result (λ ks. clauses_of file ks ≡ (number_clauses (clauses_of file clauses.now) next.old).result) }
+    ensures next { OnOk result (next.new ≡ (number_clauses (clauses_of file clauses.now) next.old).next) }
 {
     let mut numbered = Items::new(alloc);
     for clause in clauses.as_slice() {
@@ -255,7 +242,8 @@ fn number_clauses(
 
 #[cycle(number)]
 fn number_piece(alloc: Global, file: u32, piece: &Piece, next: &mut usize) -> Result<Piece, Memory>
-    ensures { IfOk result (λ p. IsPassed (piece_of file p) next.new (number_piece (piece_of file piece.now) next.old)) }
+    ensures result { IfOk result (λ p. piece_of file p ≡ (number_piece (piece_of file piece.now) next.old).result) }
+    ensures next { OnOk result (next.new ≡ (number_piece (piece_of file piece.now) next.old).next) }
 {
     match piece {
         Piece::Written(text) => Ok(Piece::Written(text.copy()?)),
@@ -273,7 +261,8 @@ fn number_pieces(
     pieces: &Items<Piece>,
     next: &mut usize,
 ) -> Result<Items<Piece>, Memory>
-    ensures { IfOk result (λ ps. IsPassed (pieces_of file ps) next.new (number_pieces (pieces_of file pieces.now) next.old)) }
+    ensures result { IfOk result (λ ps. pieces_of file ps ≡ (number_pieces (pieces_of file pieces.now) next.old).result) }
+    ensures next { OnOk result (next.new ≡ (number_pieces (pieces_of file pieces.now) next.old).next) }
 {
     let mut numbered = Items::new(alloc);
     for piece in pieces.as_slice() {
@@ -284,7 +273,8 @@ fn number_pieces(
 
 #[cycle(number)]
 fn number_param(alloc: Global, file: u32, param: &Param, next: &mut usize) -> Result<Param, Memory>
-    ensures { IfOk result (λ p. IsPassed (parameter_of file p) next.new (number_parameter (parameter_of file param.now) next.old)) }
+    ensures result { IfOk result (λ p. parameter_of file p ≡ (number_parameter (parameter_of file param.now) next.old).result) }
+    ensures next { OnOk result (next.new ≡ (number_parameter (parameter_of file param.now) next.old).next) }
 {
     match param {
         Param::Required(name) => Ok(Param::Required(name.copy()?)),
@@ -306,7 +296,8 @@ pub(crate) fn number_params(
     params: &Params,
     next: &mut usize,
 ) -> Result<Params, Memory>
-    ensures { IfOk result (λ ps. IsPassed (parameters_of file ps) next.new (number_parameters (parameters_of file params.now) next.old)) }
+    ensures result { IfOk result (λ ps. parameters_of file ps ≡ (number_parameters (parameters_of file params.now) next.old).result) }
+    ensures next { OnOk result (next.new ≡ (number_parameters (parameters_of file params.now) next.old).next) }
 {
     let mut numbered = Items::new(alloc);
     for param in params.as_slice() {

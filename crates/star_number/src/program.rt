@@ -1,7 +1,6 @@
 // Programs with the numbers of their functions.
-ghost use Rattle.std.specs.Prelude.{◌≡◌, IfOk};
+ghost use Rattle.std.specs.Prelude.{◌≡◌, IfOk, OnOk};
 ghost use Rattle.star_tree.specs.Whole.{instruction_of, loaded_names_of, part_of, program_of};
-ghost use Rattle.star_number.specs.Rows.{IsPassed};
 ghost use Rattle.template_spec.specs.Numbered.{number_instruction, number_part, numbered_program};
 
 use crate::exprs::{number_boxed, number_exprs, number_params};
@@ -13,7 +12,8 @@ use ytt_base::text::Memory;
 
 /// A part of a node.
 fn number_node(alloc: Global, file: u32, part: &NodeOp, next: &mut usize) -> Result<NodeOp, Memory>
-    ensures { IfOk result (λ o. IsPassed (part_of file o) next.new (number_part (part_of file part.now) next.old)) }
+    ensures result { IfOk result (λ o. part_of file o ≡ (number_part (part_of file part.now) next.old).result) }
+    ensures next { OnOk result (next.new ≡ (number_part (part_of file part.now) next.old).next) }
 {
     match part {
         NodeOp::Start(place, kind, holds) => Ok(NodeOp::Start(*place, *kind, *holds)),
@@ -45,9 +45,11 @@ fn copy_loaded(alloc: Global, loaded: &Items<Loaded>) -> Result<Items<Loaded>, M
     Ok(copies)
 }
 
-/// A statement that is no head of a block: no other kind is left.
-fn number_simple(alloc: Global, file: u32, stmt: &Stmt, next: &mut usize) -> Result<Stmt, Memory>
-    ensures { IfOk result (λ s. IsPassed (instruction_of file s) next.new (number_instruction (instruction_of file stmt.now) next.old)) }
+/// A statement, the head or the end of a block, or a part of a node: equal to this one but for the
+/// numbers of the functions that begin in it.
+fn number_stmt(alloc: Global, file: u32, stmt: &Stmt, next: &mut usize) -> Result<Stmt, Memory>
+    ensures result { IfOk result (λ s. instruction_of file s ≡ (number_instruction (instruction_of file stmt.now) next.old).result) }
+    ensures next { OnOk result (next.new ≡ (number_instruction (instruction_of file stmt.now) next.old).next) }
 {
     match stmt {
         Stmt::Expr(line, expr) => {
@@ -75,16 +77,6 @@ fn number_simple(alloc: Global, file: u32, stmt: &Stmt, next: &mut usize) -> Res
         Stmt::Break(line) => Ok(Stmt::Break(*line)),
         Stmt::Continue(line) => Ok(Stmt::Continue(*line)),
         Stmt::Pass(line) => Ok(Stmt::Pass(*line)),
-        _ => Err(Memory),
-    }
-}
-
-/// A statement, the head or the end of a block, or a part of a node: equal to this one but for the
-/// numbers of the functions that begin in it.
-fn number_stmt(alloc: Global, file: u32, stmt: &Stmt, next: &mut usize) -> Result<Stmt, Memory>
-    ensures { IfOk result (λ s. IsPassed (instruction_of file s) next.new (number_instruction (instruction_of file stmt.now) next.old)) }
-{
-    match stmt {
         Stmt::If(line, test) => {
             let test = number_boxed(alloc, file, test.get(), next)?;
             Ok(Stmt::If(*line, test))
@@ -106,7 +98,6 @@ fn number_stmt(alloc: Global, file: u32, stmt: &Stmt, next: &mut usize) -> Resul
         }
         Stmt::Close(line) => Ok(Stmt::Close(*line)),
         Stmt::Node(part) => Ok(Stmt::Node(number_node(alloc, file, part, next)?)),
-        _ => number_simple(alloc, file, stmt, next),
     }
 }
 
