@@ -1,7 +1,7 @@
 -- Objects that are frozen one after the other.
 use Rattle.std.proofs.Common.{◌≡◌, ◌≤◌, ◌∷◌}
 use Rattle.object_arena.proofs.Names.{ℕ, zero, suc, [], length, Option, Some, None, slice_get, refl, ap, ◌∙◌, arith, length-set, Store, as_frozen, change, changed, freeze_since}
-use Rattle.star_spec.specs.Values as plain
+use Rattle.value_spec.specs.Values as plain
 
 changed_further : (f : plain.Object → plain.Object) (o : plain.Object) (st : Store) (i : ℕ) (found : Option plain.Object) → changed f (o ∷ st) (suc i) found ≡ o ∷ changed f st i found
 changed_further f o st i None = refl

@@ -1,7 +1,7 @@
 -- A held thing comes to an arena, where none stands that is the same.
 use Rattle.std.proofs.Common.{◌≡◌, ◌<◌, ◌∷◌, ◌++◌, if◌then◌else◌}
 use Rattle.object_arena.proofs.Names.{inl, inr, ℕ, Bool, true, false, true≢false, List, [], length, get_or, Some, slice_get, refl, sym, ap, subst, ◌∙◌, arith, list_any, list_any_at, get_or_from_slice_get, slice_get-get_or, slice_get_within, insert_key, IsKey, text_value, tuple_value, values_from, Held, Object, held_value, held_of, store_in, view_of, Grows, OwnsHeld, NumberedAt, SameHeld, Sound, MeansSame, View, grows_same, held_kept, same_if_key, IsNew, front_or_last, held_length, view_more_held, grows_more_held, sound_more_held, held_here, some_same}
-use Rattle.star_spec.specs.Values as plain
+use Rattle.value_spec.specs.Values as plain
 use Rattle.star_values.specs.declared.held.Held.TheVariants as held
 use Rattle.star_values.specs.View.{values_in}
 

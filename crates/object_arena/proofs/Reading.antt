@@ -1,7 +1,7 @@
 -- What stands at a place, as the store's acts see it.
 use Rattle.std.proofs.Common.{◌≡◌, ◌∷◌}
 use Rattle.object_arena.proofs.Names.{ℕ, Bool, List, [], length, get_or, Option, Some, slice_get, refl, sym, ap, ◌∙◌, length-map, get_or_from_slice_get, slice_get-map, option_map, lookup, IsKey, none_value, tuple_value, values_in, values_from, Store, found, index_range, key_missing, pairs_of_contents, pairs_in, value_of_key, dict_get, DecidesOne, pairs_of, Ref, Value, Contents, Object, contents_in, object_in, held_at, object_at, OneKey, OwnsContents, View, members_in, value_of, values_of, some_held, identified, value_seen, is_object, choose, sort_at, tuple_members, object_count, length_of}
-use Rattle.star_spec.specs.Values as plain
+use Rattle.value_spec.specs.Values as plain
 use Rattle.star_values.specs.declared.value.Sort.TheVariants as sort
 use Rattle.star_values.specs.declared.value.Value.TheVariants as value
 use Rattle.star_values.specs.declared.object.Contents.TheVariants as contents

@@ -1,7 +1,7 @@
 -- What a call does that makes a value.
 use Rattle.std.specs.Prelude.{◌≡◌}
 use Rattle.object_arena.specs.Names.{Result, IfOk, OnErr, OnOk, Memory, with_object, Value, Grows, Owns, View, value_of}
-use Rattle.star_spec.specs.Values as plain
+use Rattle.value_spec.specs.Values as plain
 
 -- It gives the value x, which the arena owns, and leaves the store; where memory is wanting nothing is changed.
 pub record Makes (x : plain.Value) (result : Result Value Memory) (a b : View) : Type 0 where

@@ -1,6 +1,6 @@
 -- What stands at a place of an arena.
 use Rattle.object_arena.specs.Names.{ℕ, Bool, true, false, List, [], length, Option, Some, None, slice_get, count_of, values_in, of_list, of_dict, of_box, of_function, Sort, Ref, held_at, object_at, View, members_in}
-use Rattle.star_spec.specs.Values as plain
+use Rattle.value_spec.specs.Values as plain
 use Rattle.star_values.specs.declared.value.Sort.TheVariants as sort
 
 -- lists, dicts, functions and boxes have a position in the store, and nothing else has

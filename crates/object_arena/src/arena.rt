@@ -53,6 +53,11 @@ impl Arena {
         }
     }
 
+    /// Where it takes its memory from.
+    pub fn alloc(&self) -> Global {
+        self.alloc
+    }
+
     /// How many held things there are. Each is of a kind.
     pub(crate) fn held_count(&self) -> usize
         ensures count { result ≡ length (seen self.now).held }

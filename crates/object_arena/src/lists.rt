@@ -1,7 +1,7 @@
 // Changes of lists, and of boxes, which are lists of at most one member. Each refuses a frozen object with `Frozen`, and then
 // one that a loop walks with `Iterating`.
 ghost use Rattle.std.specs.Prelude.{◌≡◌};
-ghost use Rattle.object_arena.specs.Names.{IfOk, IsTrue, Some, slice_get, clear, list_insert, list_push, list_remove, list_set, Answers, TakesNone, seen, Grows, Owns, object_at, value_of};
+ghost use Rattle.object_arena.specs.Names.{IfOk, IsTrue, Some, slice_get, clear, list_extend, list_insert, list_push, list_remove, list_set, Answers, TakesNone, seen, Grows, Owns, OwnsAll, object_at, value_of, values_of};
 ghost use Rattle.star_values.specs.declared.value.Sort.TheVariants as sort;
 ghost use Rattle.object_arena.specs.Stands.{has_members, has_room, is_walked};
 
@@ -34,6 +34,20 @@ impl Arena {
     {
         let mut object = self.take(list.at);
         let answer = object.push(v);
+        self.put_back(list.at, object);
+        answer
+    }
+
+    /// Puts values behind the members of a list.
+    pub fn list_extend(&mut self, list: Ref, more: &[Value]) -> Result<(), ArenaStop>
+        requires list { object_at (seen self.old) list.at ≡ Some sort.List }
+        requires values { OwnsAll (seen self.old) more.now }
+        ensures meaning { Answers (λ u. u) result (seen self.old).store (seen self.new).store (list_extend list.at (values_of (seen self.old) more.now) (seen self.old).store) }
+        ensures held { (seen self.new).held ≡ (seen self.old).held }
+        ensures grows { Grows (seen self.old) (seen self.new) }
+    {
+        let mut object = self.take(list.at);
+        let answer = object.extend(more);
         self.put_back(list.at, object);
         answer
     }

@@ -1,7 +1,7 @@
 // What makes values.
 ghost use Rattle.std.specs.Prelude.{◌≡◌};
-ghost use Rattle.object_arena.specs.Names.{[], IfOk, OnErr, OnOk, Option, None, length, with_object, dict_value, fragment_value, function_value, list_value, module_value, of_box, of_dict, of_function, of_list, range_value, replace_value, struct_value, text_value, tuple_value, values_from, item_kind_of, env_in, native_by, seen, Grows, Owns, OwnsAll, OwnsBuilt, OwnsEnv, OwnsFields, OwnsObjectRef, OwnsOption, built_in, fields_in, option_in, value_of, values_of};
-ghost use Rattle.star_spec.specs.Values as plain;
+ghost use Rattle.object_arena.specs.Names.{[], IfOk, OnErr, OnOk, Option, None, length, with_object, dict_value, fragment_value, function_value, list_value, module_value, of_box, of_dict, of_function, of_list, range_value, native_value, replacement, struct_value, text_value, tuple_value, values_from, item_kind_of, env_in, native_by, seen, Grows, Owns, OwnsAll, OwnsBuilt, OwnsEnv, OwnsFields, OwnsObjectRef, OwnsOption, built_in, fields_in, option_in, value_of, values_of};
+ghost use Rattle.value_spec.specs.Values as plain;
 ghost use Rattle.object_arena.specs.Made.{Makes, MakesObject};
 ghost use Rattle.star_values.specs.declared.value.Sort.TheVariants as sort;
 
@@ -62,7 +62,7 @@ impl Arena {
         on: Option<Value>,
     ) -> Result<Value, Memory>
         requires { OwnsOption (seen self.old) on }
-        ensures made { Makes (native_by by name (option_in (seen self.old).held on)) result (seen self.old) (seen self.new) }
+        ensures made { Makes (native_value (native_by by name (option_in (seen self.old).held on))) result (seen self.old) (seen self.new) }
     {
         Ok(Value::Native(Ref::of(self.push_thing(Thing::Native(by, name, on))?, Sort::Native)))
     }
@@ -70,7 +70,7 @@ impl Arena {
     /// What stands in a node's place: the members of a value.
     pub fn new_replacement(&mut self, value: Value) -> Result<Value, Memory>
         requires { Owns (seen self.old) value }
-        ensures made { Makes (replace_value (value_of (seen self.old) value)) result (seen self.old) (seen self.new) }
+        ensures made { Makes (native_value (replacement (value_of (seen self.old) value))) result (seen self.old) (seen self.new) }
     {
         Ok(Value::Native(Ref::of(self.push_thing(Thing::Replacement(value))?, Sort::Native)))
     }

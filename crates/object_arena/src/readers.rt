@@ -1,6 +1,6 @@
 // What an arena shows.
 ghost use Rattle.std.specs.Prelude.{◌≡◌, ◌↔◌};
-ghost use Rattle.object_arena.specs.Names.{IfOk, IsTrue, Some, slice_get, box_at, found, function_at, index_range, list_at, list_get, fragment_value, module_value, range_value, struct_value, text_value, tuple_value, values_from, item_kind_of, Answers, TakesNone, function_in, seen, thing_value, Owns, OwnsAll, OwnsBuilt, OwnsFields, OwnsFunction, OwnsOption, OwnsThing, held_at, object_at, built_in, fields_in, option_in, value_of, values_of};
+ghost use Rattle.object_arena.specs.Names.{IfOk, IsSome, IsTrue, Some, slice_get, box_at, found, function_at, index_range, list_at, list_get, may_change, fragment_value, module_value, range_value, struct_value, text_value, tuple_value, values_from, item_kind_of, Answers, TakesNone, function_in, seen, thing_value, Owns, OwnsAll, OwnsBuilt, OwnsFields, OwnsFunction, OwnsOption, OwnsThing, held_at, object_at, built_in, fields_in, option_in, value_of, values_of};
 ghost use Rattle.star_values.specs.declared.value.Sort.TheVariants as sort;
 ghost use Rattle.star_values.specs.declared.value.Value.TheVariants as value;
 ghost use Rattle.object_arena.specs.Shapes.{HasShape};
@@ -111,6 +111,16 @@ impl Arena {
             None => Err(ArenaStop::IndexRange),
             Some(value) => Ok(value),
         }
+    }
+
+    /// Whether an object may be changed. It refuses with what any change of the object is refused with: a frozen one with
+    /// `Frozen`, and then one that a loop walks with `Iterating`.
+    pub fn may_change(&self, r: Ref) -> Result<(), ArenaStop>
+        requires { IsSome (object_at (seen self.now) r.at) }
+        ensures meaning { Answers (λ u. u) result (seen self.now).store (seen self.now).store (may_change r.at (seen self.now).store) }
+        ensures no_memory { TakesNone result }
+    {
+        self.object(r.at).unlocked()
     }
 
     /// A member of a tuple. It refuses with `IndexRange` where there is no such place.

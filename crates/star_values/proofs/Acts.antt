@@ -1,8 +1,8 @@
 -- Changes of objects, as the acts see them.
 use Rattle.std.proofs.Common.{◌≡◌, ◌<◌, ◌==◌, ◌∷◌, if◌then◌else◌}
-use Rattle.star_values.proofs.Names.{ℕ, suc, nat_le, true, false, List, [], map, length, get_or, Some, Result, Ok, Err, IfOk, slice_get, sym, ap, subst, rules, Bool, cond, Option, None, refl, ◌∙◌, slice_set, eqb-true, le-leb, length-map, map-set, set-set, set-get_or, get_or_from_slice_get, slice_get_past, slice_get-get_or, slice_get-map, remove, option_map, lookup, remove_entry, map-insert, map-remove, insert_entry, of_list, of_dict, Answer, set_member, insert_member, remove_member, did, refused, key_missing, value_at_place, value_of_key, with_value, with_pair, put_pair, with_contents, with_pairs, put_key, cut_by, cut_key, Act, at_object, on_found, put_back, change, changed, IsKey, same_key, further, place_of_key, same_key_alike, ArenaStop, Value, Object, Answers, SetsAt, InsertsAt, RemovesAt, DecidesOne, Identified, Owns, OwnsAll, Each, OwnsPair, Grows, View, value_in, pair_in, pairs_in, object_in, IsBack, IsOut}
+use Rattle.star_values.proofs.Names.{ℕ, suc, nat_le, true, false, List, [], map, length, get_or, Some, Result, Ok, Err, IfOk, slice_get, sym, ap, subst, rules, Bool, cond, Option, None, refl, ◌∙◌, slice_set, eqb-true, le-leb, length-map, map-set, set-set, set-get_or, get_or_from_slice_get, slice_get_past, slice_get-get_or, slice_get-map, remove, option_map, lookup, remove_entry, map-insert, map-remove, insert_entry, of_list, of_dict, Answer, set_member, insert_member, remove_member, did, refused, key_missing, value_at_place, value_of_key, with_value, with_pair, put_pair, with_contents, with_pairs, put_key, cut_by, cut_key, Act, at_object, on_found, put_back, change, changed, IsKey, same_key, further, place_of_key, same_key_alike, ArenaStop, Value, Object, Answers, SetsAt, InsertsAt, RemovesAt, DecidesOne, Identified, Owns, OwnsAll, Each, OwnsPair, Grows, View, value_in, value_of, pair_in, pairs_in, object_in, IsBack, IsOut}
 use Rattle.std.specs.Prelude.{IsTrue}
-use Rattle.star_spec.specs.Values as plain
+use Rattle.value_spec.specs.Values as plain
 use Rattle.star_values.specs.declared.object.ArenaStop.TheVariants as stop
 use Rattle.star_values.proofs.Growing.{each_at, grows_then}
 
@@ -103,9 +103,9 @@ put_act eq held k v es new o d f l c known n =
     let e : put_key (value_in held k) (value_in held v) o ≡ did tt (record o { contents = of_dict (put_pair (value_in held k) (value_in held v) (pairs_in held es)) }) = rw (is_free o (of_dict (pairs_in held es)) f l c) in
     e ∙ ap (λ ps. did tt (record o { contents = of_dict ps })) (sym (put_seen eq held k v es d known) ∙ ap (pairs_in held) (sym n))
 
-pub put_owned : (a : View) (eq : Value → Value → Bool) (k v : Value) (es : List (Value × Value)) → Each (OwnsPair a) es → Owns a k → Owns a v → Each (OwnsPair a) (insert_entry eq es k v)
-put_owned a eq k v [] h o w = ((o, w), tt)
-put_owned a eq k v (e ∷ es) h o w = elim (eq k e.0) as (λ b. Each (OwnsPair a) (if b then (e.0, v) ∷ es else e ∷ insert_entry eq es k v)) [ true ↦ ((h.0.0, w), h.1) | false ↦ (h.0, put_owned a eq k v es h.1 o w) ]
+pub put_owned : (a : View) (eq : Value → Value → Bool) (k v : Value) (es : List (Value × Value)) → Each (OwnsPair a) es → Owns a k → Owns a v → IsKey (value_of a k) → Each (OwnsPair a) (insert_entry eq es k v)
+put_owned a eq k v [] h o w key = ((o, w, key), tt)
+put_owned a eq k v (e ∷ es) h o w key = elim (eq k e.0) as (λ b. Each (OwnsPair a) (if b then (e.0, v) ∷ es else e ∷ insert_entry eq es k v)) [ true ↦ ((h.0.0, w, h.0.2), h.1) | false ↦ (h.0, put_owned a eq k v es h.1 o w key) ]
 
 -- ---- a pair that goes
 

@@ -1,7 +1,7 @@
 -- What is owned stays owned, and the same, as an arena grows.
 use Rattle.std.proofs.Common.{◌≡◌, ◌∷◌, ◌++◌}
-use Rattle.star_values.proofs.Names.{ℕ, zero, suc, List, [], map, get_or, Option, Some, None, slice_get, slice_set, refl, sym, ap, subst, ◌∙◌, rules, get_or_from_slice_get, none_value, item_kind_of, Sort, Ref, Value, NamedValue, BuiltNote, BuiltItem, ind-BuiltItem, BuiltValue, fold-BuiltValue, BuiltItem-F, BuiltValue-F, Thing, Held, NamedBox, Contents, Object, fold-roll-BuiltItem, fold-roll-BuiltValue, map-BuiltItem, map-BuiltValue, roll-BuiltItem, roll-BuiltValue, native_by, thing_value, held_value, variable_in, pair_in, contents_in, object_in, store_in, held_sort, OwnsHeldRef, OwnsObjectRef, Owns, Each, OwnsAll, OwnsOption, OwnsFields, OwnsVariable, OwnsPair, field_values, note_values, all_values, body_values, item_values, values_of_item, OwnsItem, OwnsBuilt, OwnsThing, OwnsHeld, OwnsContents, OwnsObject, Grows, View, text_in, members_in, bounds_in, struct_in, module_in, item_kind_in, children_in, native_in, option_in, fields_in, scalar_key, notes_in, in_children, value_step, item_step, body_in, child_in, built_in, value_of, values_of}
-use Rattle.star_spec.specs.Values as plain
+use Rattle.star_values.proofs.Names.{ℕ, zero, suc, List, [], map, get_or, Option, Some, None, slice_get, slice_set, refl, sym, ap, subst, ◌∙◌, rules, get_or_from_slice_get, none_value, item_kind_of, Sort, Ref, Value, NamedValue, BuiltNote, BuiltItem, ind-BuiltItem, BuiltValue, fold-BuiltValue, BuiltItem-F, BuiltValue-F, Thing, Held, NamedBox, Contents, Object, fold-roll-BuiltItem, fold-roll-BuiltValue, IsKey, map-BuiltItem, map-BuiltValue, roll-BuiltItem, roll-BuiltValue, native_by, thing_value, held_value, variable_in, pair_in, contents_in, object_in, store_in, held_sort, OwnsHeldRef, OwnsObjectRef, Owns, Each, OwnsAll, OwnsOption, OwnsFields, OwnsVariable, OwnsPair, field_values, note_values, all_values, body_values, item_values, values_of_item, OwnsItem, OwnsBuilt, OwnsThing, OwnsHeld, OwnsContents, OwnsObject, Grows, View, text_in, members_in, bounds_in, struct_in, module_in, item_kind_in, children_in, native_in, option_in, fields_in, scalar_key, notes_in, in_children, value_step, item_step, body_in, child_in, built_in, value_of, values_of}
+use Rattle.value_spec.specs.Values as plain
 use Rattle.star_values.specs.declared.value.Sort.TheVariants as sort
 use Rattle.star_values.specs.declared.value.Value.TheVariants as value
 use Rattle.star_values.specs.declared.held.Thing.TheVariants as thing
@@ -74,11 +74,14 @@ kept a b (value.Range r) g o = held_ref_kept a b sort.Range r (λ v. plain.range
 kept a b (value.Struct r) g o = held_ref_kept a b sort.Struct r (λ v. plain.struct_value (struct_in v)) g o
 kept a b (value.Fragment r) g o = held_ref_kept a b sort.Fragment r (λ v. plain.fragment_value (item_kind_in v) (children_in v)) g o
 kept a b (value.Func r) g o = object_ref_kept a b sort.Func r (plain.function_value r.at) g o
-kept a b (value.Native r) g o = held_ref_kept a b sort.Native r native_in g o
+kept a b (value.Native r) g o = held_ref_kept a b sort.Native r (λ v. plain.native_value (native_in v)) g o
 kept a b (value.Module r) g o = held_ref_kept a b sort.Module r (λ v. plain.module_value (module_in v).0 (module_in v).1) g o
 
 pub owns_kept : (a b : View) (v : Value) → Grows a b → Owns a v → Owns b v
 owns_kept a b v g o = (kept a b v g o).0
+
+pub value_kept : (a b : View) (v : Value) → Grows a b → Owns a v → value_of b v ≡ value_of a v
+value_kept a b v g o = (kept a b v g o).1
 
 -- ---- values, and those with names
 
@@ -87,6 +90,9 @@ all_kept a b vs g o = each_kept (Owns a) (Owns b) (value_of b) (value_of a) vs (
 
 pub owns_all_kept : (a b : View) (vs : List Value) → Grows a b → OwnsAll a vs → OwnsAll b vs
 owns_all_kept a b vs g o = (all_kept a b vs g o).0
+
+pub values_kept : (a b : View) (vs : List Value) → Grows a b → OwnsAll a vs → values_of b vs ≡ values_of a vs
+values_kept a b vs g o = (all_kept a b vs g o).1
 
 option_kept : (a b : View) (v : Option Value) → Grows a b → OwnsOption a v → OwnsOption b v × (option_in b.held v ≡ option_in a.held v)
 option_kept a b None g o = (tt, refl)
@@ -103,7 +109,7 @@ pair_kept : (a b : View) (p : Value × Value) → Grows a b → OwnsPair a p →
 pair_kept a b p g o =
     let k = kept a b p.0 g o.0 in
     let v = kept a b p.1 g o.1 in
-    ((k.0, v.0), λ i. (k.1 i, v.1 i))
+    ((k.0, v.0, subst IsKey (sym k.1) o.2), λ i. (k.1 i, v.1 i))
 
 variable_kept : (a b : View) (x : NamedBox) → Grows a b → OwnsVariable a x → OwnsVariable b x × (variable_in b.held x ≡ variable_in a.held x)
 variable_kept a b x g o =
@@ -200,8 +206,8 @@ thing_kept : (a b : View) (t : Thing) → Grows a b → OwnsThing a t → OwnsTh
 thing_kept a b (thing.Range start stop step) g o = (tt, refl)
 thing_kept a b (thing.Struct fs) g o = let k = fields_kept a b fs g o in (k.0, ap plain.struct_value k.1)
 thing_kept a b (thing.Module x fs) g o = let k = fields_kept a b fs g o in (k.0, ap (plain.module_value x) k.1)
-thing_kept a b (thing.Native by x on) g o = let k = option_kept a b on g o in (k.0, ap (native_by by x) k.1)
-thing_kept a b (thing.Replacement v) g o = let k = kept a b v g o in (k.0, ap plain.replace_value k.1)
+thing_kept a b (thing.Native by x on) g o = let k = option_kept a b on g o in (k.0, ap (λ v. plain.native_value (native_by by x v)) k.1)
+thing_kept a b (thing.Replacement v) g o = let k = kept a b v g o in (k.0, ap (λ x. plain.native_value (plain.replacement x)) k.1)
 thing_kept a b (thing.Fragment k is) g o = let b = built_kept a b is g o in (b.0, ap (plain.fragment_value (item_kind_of k)) b.1)
 
 pub held_kept : (a b : View) (h : Held) → Grows a b → OwnsHeld a h → OwnsHeld b h × (held_value b.held h ≡ held_value a.held h)

@@ -1,7 +1,7 @@
 -- Values that are equal as keys are one, since keys stand once.
 use Rattle.std.proofs.Common.{◌≡◌, ◌∷◌}
-use Rattle.star_values.proofs.Names.{ℤ, pos, negsuc, Bool, true, false, List, [], get_or, Some, IsTrue, slice_get, refl, sym, ap, subst, ◌∙◌, rules, tests, and_parts, get_or_from_slice_get, bytes_eq-Decides, same_bool, same_integer, IsKey, AreKeys, same_key, same_keys, none_value, bool_value, int_value, text_value, tuple_value, no_values, a_value, values_from, Sort, Ref, Value, Held, Contents, Identified, pairs_of, held_value, held_sort, OwnsHeldRef, Owns, OwnsAll, OwnsPair, OwnsHeld, OwnsContents, OneKey, KeysOnce, SameHeld, View, native_in, text_in, members_in, value_in, value_of, values_of}
-use Rattle.star_spec.specs.Values as plain
+use Rattle.star_values.proofs.Names.{ℤ, pos, negsuc, Bool, true, false, List, [], get_or, Some, IsTrue, slice_get, refl, sym, ap, subst, ◌∙◌, rules, tests, and_parts, get_or_from_slice_get, bytes_eq-Decides, same_bool, same_integer, IsKey, AreKeys, same_key, same_keys, none_value, bool_value, int_value, text_value, tuple_value, no_values, a_value, values_from, Sort, Ref, Value, Held, Contents, Identified, pairs_of, held_value, held_sort, OwnsHeldRef, Owns, OwnsAll, OwnsPair, OwnsHeld, OwnsContents, OneKey, KeysOnce, SameHeld, View, text_in, members_in, value_in, value_of, values_of}
+use Rattle.value_spec.specs.Values as plain
 use Rattle.star_values.specs.declared.value.Sort.TheVariants as sort
 use Rattle.star_values.specs.declared.value.Value.TheVariants as value
 use Rattle.star_values.specs.declared.held.Held.TheVariants as held
@@ -70,21 +70,12 @@ stands a k r f same o =
     let x = some_held (slice_get a.held r.at) k o.1 in
     x.1 ∙ ap Some (same x.0 (sym (ap held_sort x.1) ∙ o.1) ∙ ap f (sym (get_or_from_slice_get a.held r.at x.0 none_value x.1)))
 
--- what is called or stands in a node's place is no key
-native_no_key : (v : plain.Value) → IsKey (native_in v) → ⊥
-native_no_key (plain.builtin_value x) h = h
-native_no_key (plain.method_value x v) h = h
-native_no_key (plain.native_value x vs) h = h
-native_no_key (plain.replace_value v) h = h
-native_no_key _ h = h
-
 keyed : (a : View) (v : Value) → Owns a v → IsKey (value_of a v) → KeyAt a.held (value_of a v) v
 keyed a value.None o k = refl
 keyed a (value.Bool b) o k = refl
 keyed a (value.Int z) o k = refl
 keyed a (value.Text r) o k = (r, refl, o.0, stands a sort.Text r (λ x. text_value (text_in x)) a_text o)
 keyed a (value.Tuple r) o k = (r, refl, o.0, stands a sort.Tuple r (λ x. tuple_value (members_in x)) a_tuple o)
-keyed a (value.Native r) o k = absurd (native_no_key (get_or a.held r.at none_value) k)
 keyed a _ o k = absurd k
 
 -- ---- owned keys

@@ -3,7 +3,7 @@ pub use Rattle.std.proofs.Common.{◌≡◌, ℕ, zero, suc, List, [], ◌∷◌
 pub use Rattle.std.proofs.lemmas.Bool.{and_parts, eqb-true, le-leb}
 pub use Rattle.std.proofs.lemmas.Grind.{common_steps}
 pub use Rattle.std.proofs.lemmas.List.{length-map, map-set, set-set, set-get_or, map-append}
-pub use Rattle.std.proofs.lemmas.Option.{get_or_from_slice_get, slice_get_past, slice_get-get_or, slice_get-map, slice_get_read, slice_get_cases}
+pub use Rattle.std.proofs.lemmas.Option.{get_or_from_slice_get, slice_get_past, slice_get-get_or, slice_get-map, slice_get_cases}
 pub use Rattle.std.proofs.lemmas.Slice.Eq.{bytes_eq-Decides}
 pub use Rattle.std.specs.Map.{lookup, remove_entry}
 pub use Rattle.std.specs.Option.{option_map}
@@ -11,11 +11,11 @@ pub use Rattle.std.specs.Prelude.{remove, if◌then◌else◌}
 pub use Rattle.indexmap.proofs.SetLemmas.{map-insert, map-remove}
 pub use Rattle.indexmap.specs.IndexMap.{insert_entry}
 pub use Rattle.ytt_base.specs.Trees.{same_bool, same_integer}
-pub use Rattle.star_spec.proofs.Keys.{same_key_alike}
-pub use Rattle.star_spec.specs.Keys.{IsKey, AreKeys, same_key, same_keys, place_of_key}
+pub use Rattle.value_spec.proofs.Keys.{same_key_alike}
+pub use Rattle.value_spec.specs.Keys.{IsKey, AreKeys, same_key, same_keys, place_of_key}
 pub use Rattle.code_spec.specs.Options.{further}
-pub use Rattle.star_spec.specs.Store.{Answer, set_member, insert_member, remove_member, did, refused, key_missing, value_at_place, value_of_key, with_value, with_pair, put_pair, with_contents, with_pairs, put_key, cut_by, cut_key, Act, at_object, on_found, put_back, change, changed}
-pub use Rattle.star_spec.specs.Values.{none_value, bool_value, int_value, text_value, tuple_value, no_values, a_value, values_from, of_list, of_dict, Store}
+pub use Rattle.value_spec.specs.Store.{Answer, set_member, insert_member, remove_member, did, refused, key_missing, value_at_place, value_of_key, with_value, with_pair, put_pair, with_contents, with_pairs, put_key, cut_by, cut_key, Act, at_object, on_found, put_back, change, changed}
+pub use Rattle.value_spec.specs.Values.{none_value, bool_value, int_value, text_value, tuple_value, no_values, a_value, values_from, of_list, of_dict, Store}
 pub use Rattle.star_tree.specs.View.{item_kind_of}
 pub use Rattle.star_values.specs.Answers.{Answers}
 pub use Rattle.star_values.specs.Changing.{Identified, pairs_of, SetsAt, InsertsAt, RemovesAt, DecidesOne, contents_kind, IsBack, IsOut}

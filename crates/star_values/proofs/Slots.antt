@@ -1,7 +1,7 @@
 -- What stands in an arena: held things, each made of those before it, and objects; and more of them, or others of the same kinds.
 use Rattle.std.proofs.Common.{◌≡◌, ◌⊎◌, ◌+◌, ◌<◌, ◌∷◌, ◌++◌}
 use Rattle.star_values.proofs.Names.{inl, inr, ℕ, zero, suc, List, [], length, Option, Some, None, IsSome, slice_get, slice_set, refl, sym, ap, subst, ◌∙◌, rules, arith, common_steps, map-append, length-map, map-set, slice_get_cases, IsKey, Store, Sort, Thing, Held, Contents, Object, contents_kind, thing_value, held_value, held_from, held_of, contents_in, object_in, store_in, view_of, Grows, held_sort, held_at, object_sort, contents_sort, object_at, OwnsHeld, OwnsContents, OwnsObject, Each, NumberedAt, InOrder, KeysOnce, Sound, View}
-use Rattle.star_spec.specs.Values as plain
+use Rattle.value_spec.specs.Values as plain
 use Rattle.star_values.specs.declared.held.Answerer.TheVariants as answerer
 use Rattle.star_values.specs.declared.held.Thing.TheVariants as thing
 use Rattle.star_values.specs.declared.held.Held.TheVariants as held

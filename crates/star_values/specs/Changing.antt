@@ -1,7 +1,7 @@
 -- Changes of one object of the code, which is taken out of an arena, changed, and put back.
 use Rattle.std.specs.Prelude.{◌≡◌, ◌↔◌, ◌<◌, ◌≤◌, ◌==◌}
 use Rattle.star_values.specs.Types.{ℕ, Bool, true, false, List, [], length, insert, remove, slice_get, slice_set, Some, None, IsTrue, Result, Ok, Err, IsKey, same_key, ArenaStop, Sort, Value, Contents, Object, Held}
-use Rattle.star_spec.specs.Values as plain
+use Rattle.value_spec.specs.Values as plain
 use Rattle.star_values.specs.declared.object.ArenaStop.TheVariants as stop
 use Rattle.star_values.specs.declared.value.Sort.TheVariants as sort
 use Rattle.star_values.specs.declared.object.Contents.TheVariants as contents

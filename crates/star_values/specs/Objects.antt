@@ -1,7 +1,7 @@
 -- The plain data that held things and objects stand for, and what contracts see of them together.
-use Rattle.star_values.specs.Types.{ℕ, List, [], get_or, Option, Some, None, Name, option_members, none_value, text_value, tuple_value, range_value, struct_value, fragment_value, module_value, builtin_value, method_value, native_value, replace_value, of_list, of_dict, of_box, of_function, values_from, Env, Store, item_kind_of, Value, Answerer, Thing, Held, NamedBox, Function, Contents, Object}
+use Rattle.star_values.specs.Types.{ℕ, List, [], get_or, Option, Some, None, Name, option_members, none_value, text_value, tuple_value, range_value, struct_value, fragment_value, module_value, native_value, builtin, method, host_native, replacement, of_list, of_dict, of_box, of_function, values_from, Env, Store, item_kind_of, Value, Answerer, Thing, Held, NamedBox, Function, Contents, Object}
 use Rattle.std.specs.Prelude.{map as each, ◌∷◌, ◌++◌}
-use Rattle.star_spec.specs.Values as plain
+use Rattle.value_spec.specs.Values as plain
 use Rattle.star_values.specs.declared.held.Answerer.TheVariants as answerer
 use Rattle.star_values.specs.declared.held.Thing.TheVariants as thing
 use Rattle.star_values.specs.declared.held.Held.TheVariants as held
@@ -11,17 +11,17 @@ use Rattle.star_values.specs.View.{View, text_in, value_in, values_in, option_in
 -- ---- held things
 
 -- a function or method of the language, or what a host answers
-abbrev pub native_by : Answerer → Name → Option plain.Value → plain.Value
-native_by answerer.Language x None = builtin_value x
-native_by answerer.Language x (Some v) = method_value x v
-native_by answerer.Host x on = native_value x (values_from (option_members on))
+abbrev pub native_by : Answerer → Name → Option plain.Value → plain.Native
+native_by answerer.Language x None = builtin x
+native_by answerer.Language x (Some v) = method x v
+native_by answerer.Host x on = host_native x (values_from (option_members on))
 
 abbrev pub thing_value : (before : List plain.Value) → Thing → plain.Value
 thing_value before (thing.Range start stop step) = range_value start stop step
 thing_value before (thing.Struct fs) = struct_value (fields_in before fs)
 thing_value before (thing.Module x fs) = module_value x (fields_in before fs)
-thing_value before (thing.Native by x on) = native_by by x (option_in before on)
-thing_value before (thing.Replacement v) = replace_value (value_in before v)
+thing_value before (thing.Native by x on) = native_value (native_by by x (option_in before on))
+thing_value before (thing.Replacement v) = native_value (replacement (value_in before v))
 thing_value before (thing.Fragment k is) = fragment_value (item_kind_of k) (built_in before is)
 
 -- a held thing is made of those before it

@@ -1,7 +1,7 @@
 -- Which values an arena owns, how it grows, and what holds of each.
 use Rattle.std.specs.Prelude.{◌≡◌, ◌∷◌, ◌++◌}
-use Rattle.star_values.specs.Types.{ℕ, List, [], length, Option, Some, None, IsTrue, slice_get, IsKey, same_key, Store, text_value, tuple_value, range_value, struct_value, fragment_value, module_value, builtin_value, method_value, native_value, replace_value, of_list, of_dict, of_box, of_function, Sort, Ref, Value, NamedValue, CallArgs, BuiltNote, BuiltItem, fold-BuiltItem, BuiltItem-F, BuiltValue-F, Thing, Held, NamedBox, Function, Contents, Object}
-use Rattle.star_spec.specs.Values as plain
+use Rattle.star_values.specs.Types.{ℕ, List, [], length, Option, Some, None, IsTrue, slice_get, IsKey, same_key, Store, text_value, tuple_value, range_value, struct_value, fragment_value, module_value, native_value, of_list, of_dict, of_box, of_function, Sort, Ref, Value, NamedValue, CallArgs, BuiltNote, BuiltItem, fold-BuiltItem, BuiltItem-F, BuiltValue-F, Thing, Held, NamedBox, Function, Contents, Object}
+use Rattle.value_spec.specs.Values as plain
 use Rattle.star_values.specs.declared.value.Sort.TheVariants as sort
 use Rattle.star_values.specs.declared.value.Value.TheVariants as value
 use Rattle.star_values.specs.declared.held.Thing.TheVariants as thing
@@ -19,10 +19,7 @@ held_sort (Some (range_value start stop step)) = Some sort.Range
 held_sort (Some (struct_value fs)) = Some sort.Struct
 held_sort (Some (fragment_value k cs)) = Some sort.Fragment
 held_sort (Some (module_value x fs)) = Some sort.Module
-held_sort (Some (builtin_value x)) = Some sort.Native
-held_sort (Some (method_value x v)) = Some sort.Native
-held_sort (Some (native_value x vs)) = Some sort.Native
-held_sort (Some (replace_value v)) = Some sort.Native
+held_sort (Some (native_value n)) = Some sort.Native
 held_sort _ = None
 
 abbrev pub contents_sort : plain.Contents → Sort
@@ -95,8 +92,9 @@ OwnsVariable a b = OwnsHeldRef a sort.Text b.name × OwnsObjectRef a sort.Box b.
 abbrev pub OwnsEnv : View → List NamedBox → Type 0
 OwnsEnv a bs = Each (OwnsVariable a) bs
 
+-- the pair of a dict, whose first part is a key
 abbrev pub OwnsPair : View → Value × Value → Type 0
-OwnsPair a p = Owns a p.0 × Owns a p.1
+OwnsPair a p = Owns a p.0 × Owns a p.1 × IsKey (value_of a p.0)
 
 abbrev pub OwnsFunction : View → Function → Type 0
 OwnsFunction a f = OwnsEnv a f.boxes × OwnsAll a f.defaults

@@ -4,10 +4,10 @@ pub use Rattle.ytt_base.specs.Trees.{Scalar}
 pub use Rattle.ytt_base.specs.View.{tree_of, key_of}
 pub use Rattle.ytt_base.specs.declared.tree.Key.{Key}
 pub use Rattle.code_spec.specs.Code.{Name}
-pub use Rattle.star_spec.specs.Keys.{IsKey, same_key}
+pub use Rattle.value_spec.specs.Keys.{IsKey, same_key}
 pub use Rattle.code_spec.specs.Program.{ItemKind, document_item}
-pub use Rattle.star_spec.specs.Store.{option_members, Answer, did, refused, frozen, iterating, index_range, key_missing}
-pub use Rattle.star_spec.specs.Values.{none_value, bool_value, int_value, text_value, tuple_value, range_value, struct_value, fragment_value, list_value, dict_value, function_value, module_value, builtin_value, method_value, native_value, replace_value, Fields, no_fields, a_field, Children, no_children, a_child, no_values, values_from, arguments, child, no_built, a_built, one, map_of, list_of, Store, of_list, of_dict, of_box, of_function, Env}
+pub use Rattle.value_spec.specs.Store.{option_members, Answer, did, refused, frozen, iterating, index_range, key_missing}
+pub use Rattle.value_spec.specs.Values.{none_value, bool_value, int_value, text_value, tuple_value, range_value, struct_value, fragment_value, list_value, dict_value, function_value, module_value, native_value, builtin, method, host_native, replacement, Fields, no_fields, a_field, Children, no_children, a_child, no_values, values_from, arguments, child, no_built, a_built, one, map_of, list_of, Store, of_list, of_dict, of_box, of_function, Env}
 pub use Rattle.star_tree.specs.View.{item_kind_of}
 pub use Rattle.star_values.specs.declared.object.ArenaStop.{ArenaStop}
 pub use Rattle.star_values.specs.declared.value.Sort.{Sort}

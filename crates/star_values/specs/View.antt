@@ -1,8 +1,8 @@
 -- What contracts see of an arena: what its held things are, by their places, and the store of its objects. What a value of
 -- the code is follows from the held things by a function.
-use Rattle.star_values.specs.Types.{ℕ, ℤ, pos, List, [], get_or, Option, Some, None, tree_of, key_of, Key, Scalar, Name, ItemKind, document_item, none_value, bool_value, int_value, text_value, tuple_value, range_value, struct_value, fragment_value, list_value, dict_value, function_value, module_value, builtin_value, method_value, native_value, replace_value, Fields, no_fields, a_field, Children, no_children, a_child, no_values, values_from, arguments, child, no_built, a_built, one, map_of, list_of, Store, Value, NamedValue, CallArgs, BuiltNote, BuiltItem, fold-BuiltItem, BuiltValue, fold-BuiltValue, BuiltItem-F, BuiltValue-F}
+use Rattle.star_values.specs.Types.{ℕ, ℤ, pos, List, [], get_or, Option, Some, None, tree_of, key_of, Key, Scalar, Name, ItemKind, document_item, none_value, bool_value, int_value, text_value, tuple_value, range_value, struct_value, fragment_value, list_value, dict_value, function_value, module_value, native_value, builtin, Fields, no_fields, a_field, Children, no_children, a_child, no_values, values_from, arguments, child, no_built, a_built, one, map_of, list_of, Store, Value, NamedValue, CallArgs, BuiltNote, BuiltItem, fold-BuiltItem, BuiltValue, fold-BuiltValue, BuiltItem-F, BuiltValue-F}
 use Rattle.std.specs.Prelude.{map as each, ◌∷◌}
-use Rattle.star_spec.specs.Values as plain
+use Rattle.value_spec.specs.Values as plain
 use Rattle.star_values.specs.declared.value.Value.TheVariants as value
 
 pub record View : Type 0 where
@@ -41,12 +41,9 @@ children_in (fragment_value k cs) = cs
 children_in _ = no_children
 
 -- what is called by a name, or stands in a node's place
-abbrev pub native_in : plain.Value → plain.Value
-native_in (builtin_value x) = builtin_value x
-native_in (method_value x v) = method_value x v
-native_in (native_value x held) = native_value x held
-native_in (replace_value v) = replace_value v
-native_in _ = builtin_value []
+abbrev pub native_in : plain.Value → plain.Native
+native_in (native_value n) = n
+native_in _ = builtin []
 
 -- ---- values
 
@@ -63,7 +60,7 @@ value_in held (value.Range r) = range_value (bounds_in (get_or held r.at none_va
 value_in held (value.Struct r) = struct_value (struct_in (get_or held r.at none_value))
 value_in held (value.Fragment r) = fragment_value (item_kind_in (get_or held r.at none_value)) (children_in (get_or held r.at none_value))
 value_in held (value.Func r) = function_value r.at
-value_in held (value.Native r) = native_in (get_or held r.at none_value)
+value_in held (value.Native r) = native_value (native_in (get_or held r.at none_value))
 value_in held (value.Module r) = module_value (module_in (get_or held r.at none_value)).0 (module_in (get_or held r.at none_value)).1
 
 abbrev pub values_in : (held : List plain.Value) → List Value → List plain.Value

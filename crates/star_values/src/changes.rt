@@ -1,13 +1,14 @@
 // Changes of lists, of boxes, which are lists of at most one member, and of dicts. Each refuses a frozen object with `Frozen`, and
 // then one that a loop walks with `Iterating`; where it refuses, or memory is wanting, nothing is changed.
 ghost use Rattle.std.specs.Prelude.{◌≡◌, ◌++◌, ◌∷◌, [], List, IfOk, IsTrue, Some, OnOk, OnErr, IfNone};
-ghost use Rattle.star_spec.specs.Store.{empty_out, insert_member, push_member, remove_member, set_member, cut_key, put_key};
-ghost use Rattle.star_spec.specs.Values as plain;
+ghost use Rattle.value_spec.specs.Keys.{IsKey};
+ghost use Rattle.value_spec.specs.Store.{empty_out, extend_members, insert_member, push_member, remove_member, set_member, cut_key, put_key};
+ghost use Rattle.value_spec.specs.Values as plain;
 ghost use Rattle.star_values.specs.Answers.{Answers, TakesNone};
 ghost use Rattle.star_values.specs.Changing.{InsertsAt, IsList, RemovesAt, SetsAt, contents_kind, has_members, has_room, is_walked, DecidesOne, Identified, IsDict, pairs_of};
 ghost use Rattle.star_values.specs.Objects.{object_in};
-ghost use Rattle.star_values.specs.Owns.{Owns, OwnsContents};
-ghost use Rattle.star_values.specs.View.{View, value_in};
+ghost use Rattle.star_values.specs.Owns.{Owns, OwnsAll, OwnsContents};
+ghost use Rattle.star_values.specs.View.{View, value_in, value_of, values_in};
 ghost use Rattle.indexmap.specs.IndexMap.{get_by, insert_entry, shift_remove_entry};
 
 use crate::object::{ArenaStop, Contents, Object};
@@ -21,6 +22,15 @@ fn put_last(items: &mut Vec<Value>, value: Value) -> Result<(), Memory>
     ensures err { OnErr result (items.new.items ≡ items.old.items) }
 {
     items.push(value)?;
+    Ok(())
+}
+
+/// Puts values behind those of a list.
+fn put_all(items: &mut Vec<Value>, more: &[Value]) -> Result<(), Memory>
+    ensures ok { OnOk result (items.new.items ≡ items.old.items ++ more.now) }
+    ensures err { OnErr result (items.new.items ≡ items.old.items) }
+{
+    items.extend_from_slice(more)?;
     Ok(())
 }
 
@@ -94,6 +104,21 @@ impl Object {
         match &mut self.contents {
             Contents::List(items) => put_last(items, value)?,
             Contents::Box(inside) => *inside = Some(value),
+            _ => unreachable!(),
+        }
+        Ok(())
+    }
+
+    /// Puts values behind the members of a list.
+    pub fn extend(&mut self, more: &[Value]) -> Result<(), ArenaStop>
+        requires { IsList self.old.contents }
+        ensures meaning { (held : List plain.Value) → Answers (λ u. u) result (object_in held self.old) (object_in held self.new) (extend_members (values_in held more.now) (object_in held self.old)) }
+        ensures kind { contents_kind self.new.contents ≡ contents_kind self.old.contents }
+        ensures owned { (a : View) → OwnsContents a self.old.contents → OwnsAll a more.now → OwnsContents a self.new.contents }
+    {
+        self.unlocked()?;
+        match &mut self.contents {
+            Contents::List(items) => put_all(items, more)?,
             _ => unreachable!(),
         }
         Ok(())
@@ -173,7 +198,7 @@ impl Object {
         requires { IsDict self.old.contents }
         ensures meaning { (held : List plain.Value) → Identified held key (pairs_of self.old.contents) → Answers (λ u. u) result (object_in held self.old) (object_in held self.new) (put_key (value_in held key) (value_in held value) (object_in held self.old)) }
         ensures kind { contents_kind self.new.contents ≡ contents_kind self.old.contents }
-        ensures owned { (a : View) → OwnsContents a self.old.contents → Owns a key → Owns a value → OwnsContents a self.new.contents }
+        ensures owned { (a : View) → OwnsContents a self.old.contents → Owns a key → Owns a value → IsKey (value_of a key) → OwnsContents a self.new.contents }
     {
         equal_values_are_one();
         self.unlocked()?;

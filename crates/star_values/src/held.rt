@@ -3,7 +3,7 @@ ghost use Rattle.std.specs.Prelude.{◌≡◌, List, Some, nat_eq, bytes_eq};
 ghost use Rattle.std.specs.Hash as fed;
 ghost use Rattle.std.specs.Cmp.Rules.{comparing, hashing};
 ghost use Rattle.std.proofs.Common.{rules};
-ghost use Rattle.star_spec.specs.Values as plain;
+ghost use Rattle.value_spec.specs.Values as plain;
 ghost use Rattle.star_values.specs.Objects.{held_value};
 ghost use Rattle.star_values.specs.Owns.{held_sort};
 

@@ -1,7 +1,7 @@
 // Objects: what can be changed.
 ghost use Rattle.std.specs.Prelude.{◌≡◌, ◌<◌, ◌^◌, ◌+◌, ◌-◌, List, true, false, slice_get};
-ghost use Rattle.star_spec.specs.Store.{count_of, list_of_contents};
-ghost use Rattle.star_spec.specs.Values as plain;
+ghost use Rattle.value_spec.specs.Store.{count_of, list_of_contents};
+ghost use Rattle.value_spec.specs.Values as plain;
 ghost use Rattle.star_values.specs.Changing.{Unlocks, contents_kind};
 ghost use Rattle.star_values.specs.Objects.{contents_in};
 ghost use Rattle.star_values.specs.Owns.{OwnsContents, OwnsOption};
@@ -122,7 +122,7 @@ impl Object {
     }
 
     /// Whether it may be changed: not where it is frozen, nor where a loop walks it.
-    pub(crate) fn unlocked(&self) -> Result<(), ArenaStop>
+    pub fn unlocked(&self) -> Result<(), ArenaStop>
         ensures { Unlocks result self.now }
     {
         if self.frozen {

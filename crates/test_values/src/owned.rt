@@ -1,8 +1,8 @@
 // What a call of the arena asks of its arguments, tested.
 ghost use Rattle.std.specs.Prelude.{IsTrue, slice_get};
 ghost use Rattle.object_arena.specs.Stands as stands;
-ghost use Rattle.star_spec.specs.Keys.{AreKeys, IsKey};
-ghost use Rattle.star_spec.specs.Values.{values_from};
+ghost use Rattle.value_spec.specs.Keys.{AreKeys, IsKey};
+ghost use Rattle.value_spec.specs.Values.{values_from};
 ghost use Rattle.star_values.specs.Objects.{seen};
 ghost use Rattle.star_values.specs.Owns.{Owns, OwnsAll};
 ghost use Rattle.star_values.specs.View.{View, value_of, values_of};

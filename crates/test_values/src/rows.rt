@@ -15,6 +15,14 @@ const ROWS: &[(&str, &str)] = &[
         "ok ok ok [1,True,] ",
     ),
     (
+        "list 1; extend #0 2 x; extend #0; show #0; dict; extend #1",
+        "ok ok ok [1,2,x,] ok unfit ",
+    ),
+    (
+        "list 1; may-change #0; freeze; may-change #0; extend #0; show #0",
+        "ok ok ok Frozen Frozen [1,] ",
+    ),
+    (
         "list 1 2; insert #0 1 x; show #0; insert #0 3 y; show #0",
         "ok ok [1,x,2,] ok [1,x,2,y,] ",
     ),

@@ -2,7 +2,9 @@
 
 use crate::owned::are_owned;
 use crate::shown::shown_said;
-use crate::trial::{Said, clear, cut, get, insert, length, look, pair, push, put, remove, set};
+use crate::trial::{
+    Said, clear, cut, extend, get, insert, length, look, may_change, pair, push, put, remove, set,
+};
 use object_arena::{Arena, Ref, Value, Values};
 use sqlite_items::Items;
 use star_values::value_at;
@@ -141,6 +143,8 @@ impl Script {
     fn call_on(&mut self, name: &str, r: Ref, rest: &[Value]) -> Result<Said, Memory> {
         let said = match (name, rest) {
             ("push", [value]) => push(&mut self.arena, r, *value),
+            ("extend", more) => extend(&mut self.arena, r, more),
+            ("may-change", []) => may_change(&self.arena, r),
             ("set", [Value::Int(at), value]) => set(&mut self.arena, r, place_from(*at), *value),
             ("get", [Value::Int(at)]) => get(&self.arena, r, place_from(*at)),
             ("insert", [Value::Int(at), value]) => insert(

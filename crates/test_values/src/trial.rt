@@ -1,6 +1,6 @@
 // Scripts of calls, and what each call answers.
 
-use crate::owned::{has_members, has_room, is_key, is_of, is_owned, is_walked};
+use crate::owned::{are_owned, has_members, has_room, is_key, is_of, is_owned, is_walked};
 use object_arena::{Arena, ArenaStop, Ref, Sort, Value};
 
 /// What a call answered.
@@ -34,6 +34,22 @@ fn given(answer: Result<Value, ArenaStop>) -> Said {
 pub fn push(arena: &mut Arena, list: Ref, value: Value) -> Said {
     if is_owned(arena, value) && has_room(arena, list) {
         return done(arena.list_push(list, value));
+    }
+    Said::Unfit
+}
+
+/// Puts values behind the members of a list.
+pub fn extend(arena: &mut Arena, list: Ref, more: &[Value]) -> Said {
+    if are_owned(arena, more) && is_of(arena, list, Sort::List) {
+        return done(arena.list_extend(list, more));
+    }
+    Said::Unfit
+}
+
+/// Whether a list or a dict may be changed.
+pub fn may_change(arena: &Arena, r: Ref) -> Said {
+    if is_walked(arena, r) {
+        return done(arena.may_change(r));
     }
     Said::Unfit
 }

@@ -1,7 +1,7 @@
 use Rattle.std.proofs.Common.{◌≤◌, ◌-◌, List, [], ◌∷◌, length, get_or, take, drop, refl, subst, arith}
 use Rattle.std.proofs.lemmas.List.{take_all}
-use Rattle.star_spec.specs.Keys.{AreKeys, IsKey}
-use Rattle.star_spec.specs.Values.{values_from}
+use Rattle.value_spec.specs.Keys.{AreKeys, IsKey}
+use Rattle.value_spec.specs.Values.{values_from}
 use Rattle.star_values.specs.declared.value.Value.{Value}
 use Rattle.star_values.specs.declared.value.Value.TheVariants as value
 use Rattle.star_values.specs.View.{View, value_of, values_of}

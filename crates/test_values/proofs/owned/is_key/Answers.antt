@@ -1,5 +1,5 @@
 use Rattle.std.proofs.Common.{sym, subst}
-use Rattle.star_spec.specs.Keys.{IsKey}
+use Rattle.value_spec.specs.Keys.{IsKey}
 use Rattle.star_values.specs.declared.value.Value.{Value}
 use Rattle.star_values.specs.Objects.{seen}
 use Rattle.star_values.specs.View.{value_of}

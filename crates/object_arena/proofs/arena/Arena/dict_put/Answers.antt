@@ -1,8 +1,8 @@
-use Rattle.object_arena.proofs.Names.{put_key, seen, value_of, acted, owns_kept, identified}
+use Rattle.object_arena.proofs.Names.{put_key, seen, value_of, acted, owns_kept, value_kept, identified, IsKey, subst, sym}
 use Rattle.object_arena.proofs.arena.Arena.dict_put.Goals as goal
 
 pub put_back-requires-clause-owns : goal.put_back-requires-clause-owns
-put_back-requires-clause-owns c = c.put-answer.ensures.owned (seen c.take-object.new.self) c.take-object.ensures.owned (owns_kept _ _ c.args.key c.take-object.ensures.out.grows c.requires.owned) (owns_kept _ _ c.args.v c.take-object.ensures.out.grows c.requires.value)
+put_back-requires-clause-owns c = c.put-answer.ensures.owned (seen c.take-object.new.self) c.take-object.ensures.owned (owns_kept _ _ c.args.key c.take-object.ensures.out.grows c.requires.owned) (owns_kept _ _ c.args.v c.take-object.ensures.out.grows c.requires.value) (subst IsKey (sym (value_kept _ _ c.args.key c.take-object.ensures.out.grows c.requires.owned)) c.requires.key)
 
 pub returns-clause-meaning : goal.returns-clause-meaning
 returns-clause-meaning c =
