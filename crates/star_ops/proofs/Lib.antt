@@ -1,11 +1,5 @@
-pub mod Anywhere
-pub mod ByKinds
+pub mod Changing
 pub mod Copies
-pub mod Floor
-pub mod Meeting
+pub mod IntegerRows
+pub mod Members
 pub mod Parts
-pub mod Passing
-pub mod RowsAnywhere
-pub mod Shifts
-pub mod Tuples
-pub mod Views

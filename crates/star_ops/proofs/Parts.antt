@@ -2,7 +2,7 @@
 use Rattle.std.proofs.Common.{◌≡◌, ℕ, Bool, true, false, ◌==◌, ◌&&◌, ◌||◌, ◌⊎◌, inl, inr, List, [], ◌∷◌, ◌++◌, refl, sym, ap, subst}
 use Rattle.std.proofs.Common.{eq-eqb, eqb-true}
 use Rattle.std.specs.Str.Iter.{HasSubslice}
-use Rattle.star_spec.specs.Operators.{begins_with, is_part}
+use Rattle.operator_spec.specs.Operators.{begins_with, is_part}
 
 same_head : (a b : Bool) → (a && b) ≡ true → (a ≡ true) × (b ≡ true)
 same_head true b h = (refl, h)

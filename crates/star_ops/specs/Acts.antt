@@ -1,29 +1,65 @@
--- The operators of the table that the program's operators are.
-use Rattle.std.specs.Prelude.{ℤ, ◌+ℤ◌, ◌-ℤ◌, ◌*ℤ◌}
-use Rattle.std.specs.Int.{w128, int_bit_and, int_bit_or, int_bit_xor}
+-- The operators that are for integers alone, and values that have members.
+use Rattle.std.specs.Prelude.{ℤ, Bool, true, false, not, List, [], ◌∷◌, Result, Ok, Err}
+use Rattle.ytt_base.specs.declared.fault.FaultKind.{FaultKind}
+use Rattle.ytt_base.specs.declared.fault.Stop.{Stop}
+use Rattle.ytt_base.specs.declared.fault.Stop.TheVariants as stop
+use Rattle.ytt_base.specs.Outcomes.{fault_at}
+use Rattle.star_values.specs.declared.value.Value.{Value as Held}
+use Rattle.star_values.specs.declared.value.Value.TheVariants as value
 use Rattle.ytt_base.specs.declared.fault.FaultKind.TheVariants as kind
 use Rattle.ytt_base.specs.declared.fault.Place.{Place}
-use Rattle.star_spec.specs.Members.{as_int}
-use Rattle.star_spec.specs.Numbers.{floor_quotient, floor_remainder, shifted_left, shifted_right}
-use Rattle.star_spec.specs.Operators.{if_both, int_of, divided, shifted}
-use Rattle.star_spec.specs.Outcomes.{Computation, give, fail}
-use Rattle.star_spec.specs.Values.{Value, int_value}
-use Rattle.star_ops.specs.declared.operators.IntegerOp.{IntegerOp}
-use Rattle.star_ops.specs.declared.operators.IntegerOp.TheVariants as integer
+use Rattle.value_spec.specs.Members.{as_int}
+use Rattle.value_spec.specs.Outcomes.{Computation, fail}
+use Rattle.value_spec.specs.Values.{Value}
+use Rattle.operator_spec.specs.Operators.{if_both}
+use Rattle.operator_spec.specs.Order.{Comparison, is_below, is_above}
+use Rattle.star_tree.specs.declared.code.BinOp.{BinOp}
+use Rattle.star_tree.specs.declared.code.BinOp.TheVariants as binary
+use Rattle.star_integers.specs.Answers.{answered, integer_answer}
+use Rattle.star_integers.specs.declared.operators.IntegerOp.{IntegerOp}
 
--- what an operator gives for two integers
-abbrev pub integer_act : IntegerOp → Place → ℤ → ℤ → Computation (Unit {0}) Value
-integer_act integer.Add p x y = int_of p (x +ℤ y)
-integer_act integer.Multiply p x y = int_of p (x *ℤ y)
-integer_act integer.Subtract p x y = int_of p (x -ℤ y)
-integer_act integer.FloorDivide p x y = divided floor_quotient p x y
-integer_act integer.Remainder p x y = divided floor_remainder p x y
-integer_act integer.BitAnd p x y = give (int_value (int_bit_and w128 x y))
-integer_act integer.BitOr p x y = give (int_value (int_bit_or w128 x y))
-integer_act integer.BitXor p x y = give (int_value (int_bit_xor w128 x y))
-integer_act integer.ShiftLeft p x y = shifted shifted_left p x y
-integer_act integer.ShiftRight p x y = shifted shifted_right p x y
-
--- the row of an operator that is for integers alone
+-- what such an operator gives for two values
 abbrev pub integer_row : IntegerOp → Place → Value → Value → Computation (Unit {0}) Value
-integer_row o p a b = if_both (as_int a) (as_int b) (integer_act o p) (fail kind.ValueKind p)
+integer_row o p a b = if_both (as_int a) (as_int b) (λ x y. answered p (integer_answer o x y)) (fail kind.ValueKind p)
+
+-- an integer, or its refusal at a place
+abbrev pub placed : Place → Result ℤ FaultKind → Result Held Stop
+placed p (Ok z) = Ok (value.Int z)
+placed p (Err k) = Err (stop.Fault (fault_at k p))
+
+-- values that have members to go through
+abbrev pub is_iterable : Held → Bool
+is_iterable (value.Tuple r) = true
+is_iterable (value.List r) = true
+is_iterable (value.Dict r) = true
+is_iterable (value.Range r) = true
+is_iterable _ = false
+
+-- the keys of pairs
+abbrev pub first_parts : List (Held × Held) → List Held
+first_parts [] = []
+first_parts (p ∷ ps) = p.0 ∷ first_parts ps
+
+-- ---- operators that test
+
+abbrev pub is_order : BinOp → Bool
+is_order binary.Less = true
+is_order binary.Greater = true
+is_order binary.AtMost = true
+is_order binary.AtLeast = true
+is_order _ = false
+
+abbrev pub is_test : BinOp → Bool
+is_test binary.Equal = true
+is_test binary.Unequal = true
+is_test binary.In = true
+is_test binary.NotIn = true
+is_test o = is_order o
+
+-- what an operator of order asks of one
+abbrev pub order_test : BinOp → Comparison → Bool
+order_test binary.Less c = is_below c
+order_test binary.Greater c = is_above c
+order_test binary.AtMost c = not (is_above c)
+order_test binary.AtLeast c = not (is_below c)
+order_test _ c = false

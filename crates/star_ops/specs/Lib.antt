@@ -1,4 +1,1 @@
 pub mod Acts
-pub mod Alike
-pub mod Meets
-pub mod View

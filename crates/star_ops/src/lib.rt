@@ -1,18 +1,18 @@
-//! What operators give for None, bools, integers of 128 bits, texts and tuples.
+//! What operators give for the values of an arena: the whole table but for `%` with a text at its left, which isn't built yet.
 //!
-//! `unary` and `binary` give exactly what the table of operators says, or its refusal, and take exactly its steps,
-//! whatever objects there are. None come back, and none are taken where memory is short.
+//! `unary`, `binary`, `augment`, `compare`, `equal`, `index`, `slice` and `truth` give exactly what the definitions say, refuse
+//! exactly as they refuse, leave the store as they leave it, and take exactly their steps: a refusal of the kinds comes before
+//! the steps, and the steps before the effect. What was owned stays owned; where memory is wanting nothing more is said.
 #![tactic(auto)]
 
-mod equality;
+mod in_place;
+mod integers;
 mod membership;
-mod numbers;
-mod operators;
-mod order;
+mod products;
 mod rows;
-mod steps;
 mod sums;
-mod value;
+mod truths;
+mod unions;
 
-pub use rows::{binary, unary};
-pub use value::{Value, Values, truth};
+pub use rows::{augment, binary, compare, equal, index, slice, unary};
+pub use truths::truth;

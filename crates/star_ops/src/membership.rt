@@ -1,49 +1,68 @@
-// Parts of texts and members of tuples.
+// `in`.
 ghost use Rattle.std.specs.Prelude.{◌≡◌};
-ghost use Rattle.star_spec.specs.Operators.{is_part, part_of_text};
-ghost use Rattle.star_ops.specs.Alike.{alike, among_by, within};
-ghost use Rattle.star_ops.specs.Meets.{Meets, as_is, state_of};
-ghost use Rattle.star_ops.specs.View.{value_of, values_of};
+ghost use Rattle.value_spec.specs.Values.{int_value};
+ghost use Rattle.operator_spec.specs.Operators.{contained_in, is_part, key_of_dict, part_of_text};
+ghost use Rattle.star_values.specs.Objects.{seen};
+ghost use Rattle.star_values.specs.Owns.{Owns};
+ghost use Rattle.star_values.specs.View.{value_of};
+ghost use Rattle.star_values.specs.declared.value.Value.TheVariants as value;
+ghost use Rattle.star_steps.specs.Meets.{Meets, as_is, state_in};
 
-use crate::equality::pair_equal;
-use crate::steps::{pay, refusal};
-use crate::value::{MAX_DEPTH, Value, members, text};
-use std::alloc::Global;
+use object_arena::{Arena, Ref, Value};
+use star_compare::{among, bounds, key_size, value_under};
+use star_integers::{in_range, range_count};
+use star_steps::{pay, refusal, tuple_members};
 use ytt_base::fault::{FaultKind, Place, Stop};
 
-/// Whether a text is part of another, or a tuple has a member that equals the value; else `ValueKind`.
-#[tactic(auto, unfolding(crate::specs::Alike::within))]
+/// Whether a text is part of another, a key stands in a dict, an integer is one of a range's, or an equal value is among the members of a
+/// tuple or list; else `ValueKind`.
 pub(crate) fn is_in(
-    alloc: Global,
+    arena: &Arena,
     place: Place,
-    value: &Value,
-    whole: &Value,
+    value: Value,
+    whole: Value,
     steps: &mut u64,
 ) -> Result<bool, Stop>
-    ensures { Meets as_is result (state_of steps.new) (within place (value_of value.now) (value_of whole.now) (state_of steps.old)) }
+    requires value { Owns (seen arena.now) value }
+    requires whole { Owns (seen arena.now) whole }
+    ensures { Meets as_is result (state_in (seen arena.now) steps.new) (contained_in place (value_of (seen arena.now) value) (value_of (seen arena.now) whole) (state_in (seen arena.now) steps.old)) }
 {
     match whole {
-        Value::Text(t) => match value {
-            Value::Text(x) => part_found(alloc, place, text(x), text(t), steps),
-            _ => Err(refusal(alloc, FaultKind::ValueKind, place)),
+        Value::Text(text) => match value {
+            Value::Text(part) => {
+                part_found(
+                    arena,
+                    place,
+                    arena.text(part).as_str(),
+                    arena.text(text).as_str(),
+                    steps,
+                )
+            }
+            _ => Err(refusal(arena, FaultKind::ValueKind, place)),
         },
-        Value::Tuple(tuple) => member_found(alloc, place, value, members(tuple), steps),
-        _ => Err(refusal(alloc, FaultKind::ValueKind, place)),
+        Value::Tuple(tuple) => among(arena, place, value, tuple_members(arena, tuple), steps),
+        Value::List(list) => among(arena, place, value, arena.list(list), steps),
+        Value::Dict(dict) => key_found(arena, place, value, dict, steps),
+        Value::Range(range) => match value {
+            Value::Int(number) => number_found(arena, place, number, range, steps),
+            _ => Err(refusal(arena, FaultKind::ValueKind, place)),
+        },
+        _ => Err(refusal(arena, FaultKind::ValueKind, place)),
     }
 }
 
 /// It takes a sixteenth of the bytes of both as steps.
 fn part_found(
-    alloc: Global,
+    arena: &Arena,
     place: Place,
     part: &str,
     whole: &str,
     steps: &mut u64,
 ) -> Result<bool, Stop>
-    ensures { Meets as_is result (state_of steps.new) (part_of_text place part.now whole.now (state_of steps.old)) }
+    ensures { Meets as_is result (state_in (seen arena.now) steps.new) (part_of_text place part.now whole.now (state_in (seen arena.now) steps.old)) }
 {
     let bytes = part.len() as u128 + whole.len() as u128;
-    pay(alloc, place, bytes / 16, steps)?;
+    pay(arena, place, bytes / 16, steps)?;
     Ok(has_part(whole, part))
 }
 
@@ -53,22 +72,34 @@ fn has_part(whole: &str, part: &str) -> bool
     whole.contains(part)
 }
 
-/// It takes a step and those of an equality for each member up to the first that is equal.
-fn member_found(
-    alloc: Global,
+/// It takes the key's size as steps.
+fn key_found(
+    arena: &Arena,
     place: Place,
-    value: &Value,
-    members: &[Value],
+    key: Value,
+    dict: Ref,
     steps: &mut u64,
 ) -> Result<bool, Stop>
-    ensures { Meets as_is result (state_of steps.new) (among_by (alike 100 place) place (value_of value.now) (values_of members.now) (state_of steps.old)) }
+    requires key { Owns (seen arena.now) key }
+    requires dict { Owns (seen arena.now) (value.Dict dict) }
+    ensures { Meets as_is result (state_in (seen arena.now) steps.new) (key_of_dict place (value_of (seen arena.now) key) dict.at (state_in (seen arena.now) steps.old)) }
 {
-    let mut rest = members;
-    while let [first, more @ ..] = rest {
-        if pair_equal(alloc, place, MAX_DEPTH, first, value, steps)? {
-            return Ok(true);
-        }
-        rest = more;
-    }
-    Ok(false)
+    key_size(arena, place, key, steps)?;
+    Ok(value_under(arena, dict, key).is_some())
+}
+
+/// It takes the range's numbers as steps.
+fn number_found(
+    arena: &Arena,
+    place: Place,
+    number: i128,
+    range: Ref,
+    steps: &mut u64,
+) -> Result<bool, Stop>
+    requires { Owns (seen arena.now) (value.Range range) }
+    ensures { Meets as_is result (state_in (seen arena.now) steps.new) (contained_in place (int_value number) (value_of (seen arena.now) (value.Range range)) (state_in (seen arena.now) steps.old)) }
+{
+    let (from, to, step) = bounds(arena, range);
+    pay(arena, place, range_count(from, to, step), steps)?;
+    Ok(in_range(from, to, step, number))
 }

@@ -1,269 +1,241 @@
 // Each operator's row.
-ghost use Rattle.std.specs.Prelude.{◌≡◌, ◌≤◌, not};
-ghost use Rattle.star_spec.specs.Operators.{answered, binary_row, compared, denied, not_row, remainder_row, unary_row};
-ghost use Rattle.star_spec.specs.Order.{is_above, is_below};
-ghost use Rattle.star_ops.specs.Alike.{comparing, is_at_least, is_at_most, same, within};
-ghost use Rattle.star_ops.specs.Meets.{Meets, Spends, Tells, state_of};
-ghost use Rattle.star_ops.specs.View.{comparison_of, value_of};
+ghost use Rattle.std.specs.Prelude.{◌≡◌, ℕ, IsTrue};
+ghost use Rattle.operator_spec.specs.Equality.{equality};
+ghost use Rattle.operator_spec.specs.Operators.{answered, augment_row, binary_row, compared, contained_in, denied, not_row, remainder_row, unary_row};
+ghost use Rattle.operator_spec.specs.Order.{Comparison, comparison, is_above, is_below};
+ghost use Rattle.index_spec.specs.Index.{index_row};
+ghost use Rattle.index_spec.specs.Slices.{slice_row};
 ghost use Rattle.star_tree.specs.Whole.{binary_operator_of, unary_operator_of};
+ghost use Rattle.star_ops.specs.Acts.{is_order, is_test, order_test};
+ghost use Rattle.star_compare.specs.Alike.{comparison_of};
+ghost use Rattle.star_index.specs.Cuts.{cut_in};
+ghost use Rattle.star_values.specs.Objects.{seen};
+ghost use Rattle.star_values.specs.Owns.{Owns};
+ghost use Rattle.star_values.specs.View.{View, value_of};
+ghost use Rattle.star_steps.specs.Meets.{Gives, Meets, as_is, state_in};
 
-use crate::equality::equals;
+use crate::in_place::extend;
+use crate::integers::{inverse, negative, on_integers, positive};
 use crate::membership::is_in;
-use crate::numbers::{inverse, negative, on_integers, positive};
-use crate::operators::IntegerOp;
-use crate::order::compare;
-use crate::steps::{pay, refusal};
-use crate::sums::{add, multiply};
-use crate::value::{Value, truth, turning_cost};
+use crate::products::multiply;
+use crate::sums::add;
+use crate::truths::{truth, turning_cost};
+use crate::unions::unite;
+use object_arena::{Arena, Cut, Value, Work};
+use star_integers::IntegerOp;
+use star_steps::{pay, refusal};
 use star_tree::code::{BinOp, UnOp};
-use std::alloc::Global;
 use std::cmp::Ordering;
 use ytt_base::fault::{FaultKind, Place, Stop};
 
 /// What an operator before its operand gives, each refusal at the operator's place: `ValueKind`, `IntOverflow`,
-/// and `Steps` of `not`. Of the steps those are taken that it takes, and none where memory is short.
+/// and `Steps` of `not`.
 pub fn unary(
-    alloc: Global,
-    place: Place,
+    arena: &mut Arena,
+    work: &mut Work,
     op: UnOp,
-    operand: &Value,
-    steps: &mut u64,
-) -> Result<Value, Stop>
-    ensures meaning { Spends value_of result steps.new steps.old (unary_row place (unary_operator_of op) (value_of operand.now)) }
-    ensures spent { steps.new ≤ steps.old }
-{
-    let mut rest = *steps;
-    match row_before(alloc, place, op, operand, &mut rest) {
-        Ok(value) => {
-            *steps = rest;
-            Ok(value)
-        }
-        Err(Stop::Fault(fault)) => {
-            *steps = rest;
-            Err(Stop::Fault(fault))
-        }
-        Err(Stop::Memory) => Err(Stop::Memory),
-    }
-}
-
-/// The same, where nothing is known of the steps when memory is short.
-fn row_before(
-    alloc: Global,
+    value: Value,
     place: Place,
-    op: UnOp,
-    operand: &Value,
-    steps: &mut u64,
 ) -> Result<Value, Stop>
-    ensures { Meets value_of result (state_of steps.new) (unary_row place (unary_operator_of op) (value_of operand.now) (state_of steps.old)) }
+    requires { Owns (seen arena.old) value }
+    ensures row { Gives (unary_row place (unary_operator_of op) (value_of (seen arena.old) value) (state_in (seen arena.old) work.old.steps)) result (seen arena.old) (seen arena.new) work.new.steps }
+    ensures depth { work.new.depth ≡ work.old.depth }
 {
     match op {
-        UnOp::Minus => negative(alloc, place, operand),
-        UnOp::Plus => positive(alloc, place, operand),
-        UnOp::Invert => inverse(alloc, place, operand),
-        UnOp::Not => not_true(alloc, place, operand, steps),
+        UnOp::Minus => negative(arena, place, value),
+        UnOp::Plus => positive(arena, place, value),
+        UnOp::Invert => inverse(arena, place, value),
+        UnOp::Not => not_true(arena, place, value, &mut work.steps),
     }
 }
 
-fn not_true(alloc: Global, place: Place, operand: &Value, steps: &mut u64) -> Result<Value, Stop>
-    ensures { Meets value_of result (state_of steps.new) (not_row place (value_of operand.now) (state_of steps.old)) }
+fn not_true(arena: &Arena, place: Place, value: Value, steps: &mut u64) -> Result<Value, Stop>
+    requires { Owns (seen arena.now) value }
+    ensures { Gives (not_row place (value_of (seen arena.now) value) (state_in (seen arena.now) steps.old)) result (seen arena.now) (seen arena.now) steps.new }
 {
-    pay(alloc, place, turning_cost(operand), steps)?;
-    Ok(Value::Bool(!truth(operand)))
+    pay(arena, place, turning_cost(arena, value), steps)?;
+    Ok(Value::Bool(!truth(arena, value)))
 }
 
-/// What an operator between its operands gives, each refusal at the operator's place: `ValueKind`,
-/// `IntOverflow`, `DivideZero`, `TooDeep` where tuples nest too deep, `Steps`, and `NotBuilt` where `%` stands
-/// behind a text. Of the steps those are taken
-/// that it takes, and none where memory is short.
+/// What an operator between its operands gives, each refusal at the operator's place: `ValueKind`, `IntOverflow`, `DivideZero`,
+/// `TooDeep` where collections nest too deep, `Steps`, and `NotBuilt` where `%` stands behind a text.
 pub fn binary(
-    alloc: Global,
-    place: Place,
+    arena: &mut Arena,
+    work: &mut Work,
     op: BinOp,
-    left: &Value,
-    right: &Value,
-    steps: &mut u64,
-) -> Result<Value, Stop>
-    ensures meaning { Spends value_of result steps.new steps.old (binary_row place (binary_operator_of op) (value_of left.now) (value_of right.now)) }
-    ensures spent { steps.new ≤ steps.old }
-{
-    let mut rest = *steps;
-    match row_between(alloc, place, op, left, right, &mut rest) {
-        Ok(value) => {
-            *steps = rest;
-            Ok(value)
-        }
-        Err(Stop::Fault(fault)) => {
-            *steps = rest;
-            Err(Stop::Fault(fault))
-        }
-        Err(Stop::Memory) => Err(Stop::Memory),
-    }
-}
-
-/// The same, where nothing is known of the steps when memory is short.
-fn row_between(
-    alloc: Global,
+    left: Value,
+    right: Value,
     place: Place,
-    op: BinOp,
-    left: &Value,
-    right: &Value,
-    steps: &mut u64,
 ) -> Result<Value, Stop>
-    ensures { Meets value_of result (state_of steps.new) (binary_row place (binary_operator_of op) (value_of left.now) (value_of right.now) (state_of steps.old)) }
+    requires left { Owns (seen arena.old) left }
+    requires right { Owns (seen arena.old) right }
+    ensures row { Gives (binary_row place (binary_operator_of op) (value_of (seen arena.old) left) (value_of (seen arena.old) right) (state_in (seen arena.old) work.old.steps)) result (seen arena.old) (seen arena.new) work.new.steps }
+    ensures depth { work.new.depth ≡ work.old.depth }
 {
+    let steps = &mut work.steps;
     match op {
-        BinOp::Add => add(alloc, place, left, right, steps),
-        BinOp::Multiply => multiply(alloc, place, left, right, steps),
-        BinOp::Subtract => on_integers(alloc, place, IntegerOp::Subtract, left, right),
-        BinOp::FloorDivide => on_integers(alloc, place, IntegerOp::FloorDivide, left, right),
-        BinOp::Remainder => remainder_row(alloc, place, left, right),
-        BinOp::BitAnd => on_integers(alloc, place, IntegerOp::BitAnd, left, right),
-        BinOp::BitOr => on_integers(alloc, place, IntegerOp::BitOr, left, right),
-        BinOp::BitXor => on_integers(alloc, place, IntegerOp::BitXor, left, right),
-        BinOp::ShiftLeft => on_integers(alloc, place, IntegerOp::ShiftLeft, left, right),
-        BinOp::ShiftRight => on_integers(alloc, place, IntegerOp::ShiftRight, left, right),
-        BinOp::Equal => equal_row(alloc, place, left, right, steps),
-        BinOp::Unequal => unequal_row(alloc, place, left, right, steps),
-        BinOp::Less => less_row(alloc, place, left, right, steps),
-        BinOp::Greater => greater_row(alloc, place, left, right, steps),
-        BinOp::AtMost => at_most_row(alloc, place, left, right, steps),
-        BinOp::AtLeast => at_least_row(alloc, place, left, right, steps),
-        BinOp::In => in_row(alloc, place, left, right, steps),
-        BinOp::NotIn => not_in_row(alloc, place, left, right, steps),
+        BinOp::Add => add(arena, place, left, right, steps),
+        BinOp::Multiply => multiply(arena, place, left, right, steps),
+        BinOp::BitOr => unite(arena, place, left, right, steps),
+        BinOp::Remainder => remainder(arena, place, left, right),
+        BinOp::Subtract => on_integers(arena, place, IntegerOp::Subtract, left, right),
+        BinOp::FloorDivide => on_integers(arena, place, IntegerOp::FloorDivide, left, right),
+        BinOp::BitAnd => on_integers(arena, place, IntegerOp::BitAnd, left, right),
+        BinOp::BitXor => on_integers(arena, place, IntegerOp::BitXor, left, right),
+        BinOp::ShiftLeft => on_integers(arena, place, IntegerOp::ShiftLeft, left, right),
+        BinOp::ShiftRight => on_integers(arena, place, IntegerOp::ShiftRight, left, right),
+        _ => test(arena, place, op, left, right, steps),
     }
 }
 
-/// What `%` gives. With a text at its left it formats, which is `NotBuilt` so far.
-fn remainder_row(alloc: Global, place: Place, left: &Value, right: &Value) -> Result<Value, Stop>
-    ensures { Tells value_of result (remainder_row place (value_of left.now) (value_of right.now)) }
+/// The remainder of two integers; with a text at the left `NotBuilt`; else `ValueKind`.
+fn remainder(arena: &Arena, place: Place, left: Value, right: Value) -> Result<Value, Stop>
+    ensures { (a : View) (n : ℕ) → Gives (remainder_row place (value_of a left) (value_of a right) (state_in a n)) result a a n }
 {
     match left {
-        Value::Text(_) => Err(refusal(alloc, FaultKind::NotBuilt, place)),
-        Value::Int(_) => on_integers(alloc, place, IntegerOp::Remainder, left, right),
-        _ => Err(refusal(alloc, FaultKind::ValueKind, place)),
+        Value::Text(_) => Err(refusal(arena, FaultKind::NotBuilt, place)),
+        Value::Int(_) => on_integers(arena, place, IntegerOp::Remainder, left, right),
+        _ => Err(refusal(arena, FaultKind::ValueKind, place)),
     }
 }
 
-fn equal_row(
-    alloc: Global,
+/// What an operator gives that tests: equality, order, `in`.
+fn test(
+    arena: &Arena,
     place: Place,
-    left: &Value,
-    right: &Value,
+    op: BinOp,
+    left: Value,
+    right: Value,
     steps: &mut u64,
 ) -> Result<Value, Stop>
-    ensures { Meets value_of result (state_of steps.new) (answered (same place (value_of left.now) (value_of right.now)) (state_of steps.old)) }
+    requires op { IsTrue (is_test op) }
+    requires left { Owns (seen arena.now) left }
+    requires right { Owns (seen arena.now) right }
+    ensures { Gives (binary_row place (binary_operator_of op) (value_of (seen arena.now) left) (value_of (seen arena.now) right) (state_in (seen arena.now) steps.old)) result (seen arena.now) (seen arena.now) steps.new }
 {
-    let holds = equals(alloc, place, left, right, steps)?;
-    Ok(Value::Bool(holds))
-}
-
-fn unequal_row(
-    alloc: Global,
-    place: Place,
-    left: &Value,
-    right: &Value,
-    steps: &mut u64,
-) -> Result<Value, Stop>
-    ensures { Meets value_of result (state_of steps.new) (denied (same place (value_of left.now) (value_of right.now)) (state_of steps.old)) }
-{
-    let holds = equals(alloc, place, left, right, steps)?;
-    Ok(Value::Bool(!holds))
-}
-
-fn less_row(
-    alloc: Global,
-    place: Place,
-    left: &Value,
-    right: &Value,
-    steps: &mut u64,
-) -> Result<Value, Stop>
-    ensures { Meets value_of result (state_of steps.new) (compared is_below (comparing place (value_of left.now) (value_of right.now)) (state_of steps.old)) }
-{
-    let order = compare(alloc, place, left, right, steps)?;
-    Ok(Value::Bool(is_less(order)))
-}
-
-fn greater_row(
-    alloc: Global,
-    place: Place,
-    left: &Value,
-    right: &Value,
-    steps: &mut u64,
-) -> Result<Value, Stop>
-    ensures { Meets value_of result (state_of steps.new) (compared is_above (comparing place (value_of left.now) (value_of right.now)) (state_of steps.old)) }
-{
-    let order = compare(alloc, place, left, right, steps)?;
-    Ok(Value::Bool(is_greater(order)))
-}
-
-fn at_most_row(
-    alloc: Global,
-    place: Place,
-    left: &Value,
-    right: &Value,
-    steps: &mut u64,
-) -> Result<Value, Stop>
-    ensures { Meets value_of result (state_of steps.new) (compared is_at_most (comparing place (value_of left.now) (value_of right.now)) (state_of steps.old)) }
-{
-    let order = compare(alloc, place, left, right, steps)?;
-    Ok(Value::Bool(!is_greater(order)))
-}
-
-fn at_least_row(
-    alloc: Global,
-    place: Place,
-    left: &Value,
-    right: &Value,
-    steps: &mut u64,
-) -> Result<Value, Stop>
-    ensures { Meets value_of result (state_of steps.new) (compared is_at_least (comparing place (value_of left.now) (value_of right.now)) (state_of steps.old)) }
-{
-    let order = compare(alloc, place, left, right, steps)?;
-    Ok(Value::Bool(!is_less(order)))
-}
-
-fn in_row(
-    alloc: Global,
-    place: Place,
-    left: &Value,
-    right: &Value,
-    steps: &mut u64,
-) -> Result<Value, Stop>
-    ensures { Meets value_of result (state_of steps.new) (answered (within place (value_of left.now) (value_of right.now)) (state_of steps.old)) }
-{
-    let holds = is_in(alloc, place, left, right, steps)?;
-    Ok(Value::Bool(holds))
-}
-
-fn not_in_row(
-    alloc: Global,
-    place: Place,
-    left: &Value,
-    right: &Value,
-    steps: &mut u64,
-) -> Result<Value, Stop>
-    ensures { Meets value_of result (state_of steps.new) (denied (within place (value_of left.now) (value_of right.now)) (state_of steps.old)) }
-{
-    let holds = is_in(alloc, place, left, right, steps)?;
-    Ok(Value::Bool(!holds))
-}
-
-fn is_less(order: Ordering) -> bool
-    ensures { result ≡ is_below (comparison_of order) }
-{
-    match order {
-        Ordering::Less => true,
-        Ordering::Equal => false,
-        Ordering::Greater => false,
+    match op {
+        BinOp::Equal | BinOp::Unequal => {
+            let holds = star_compare::equal(arena, place, left, right, steps)?;
+            Ok(Value::Bool(if matches!(op, BinOp::Equal) {
+                holds
+            } else {
+                !holds
+            }))
+        }
+        BinOp::In | BinOp::NotIn => {
+            let holds = is_in(arena, place, left, right, steps)?;
+            Ok(Value::Bool(if matches!(op, BinOp::In) {
+                holds
+            } else {
+                !holds
+            }))
+        }
+        BinOp::Less | BinOp::Greater | BinOp::AtMost | BinOp::AtLeast => {
+            let order = star_compare::compare(arena, place, left, right, steps)?;
+            Ok(Value::Bool(told(op, order)))
+        }
+        _ => unreachable!(),
     }
 }
 
-fn is_greater(order: Ordering) -> bool
-    ensures { result ≡ is_above (comparison_of order) }
+/// What an operator of order says of one.
+fn told(op: BinOp, order: Ordering) -> bool
+    requires { IsTrue (is_order op) }
+    ensures { result ≡ order_test op (comparison_of order) }
 {
-    match order {
-        Ordering::Less => false,
-        Ordering::Equal => false,
-        Ordering::Greater => true,
+    match op {
+        BinOp::Less => matches!(order, Ordering::Less),
+        BinOp::Greater => matches!(order, Ordering::Greater),
+        BinOp::AtMost => !matches!(order, Ordering::Greater),
+        BinOp::AtLeast => !matches!(order, Ordering::Less),
+        _ => unreachable!(),
     }
+}
+
+/// What an assignment with an operator gives for what was there and a value: `+=` gives a list itself, with the members of the value
+/// behind its own, and refuses as a change of it does; all else is as between operands.
+pub fn augment(
+    arena: &mut Arena,
+    work: &mut Work,
+    op: BinOp,
+    left: Value,
+    right: Value,
+    place: Place,
+) -> Result<Value, Stop>
+    requires left { Owns (seen arena.old) left }
+    requires right { Owns (seen arena.old) right }
+    ensures row { Gives (augment_row place (binary_operator_of op) (value_of (seen arena.old) left) (value_of (seen arena.old) right) (state_in (seen arena.old) work.old.steps)) result (seen arena.old) (seen arena.new) work.new.steps }
+    ensures depth { work.new.depth ≡ work.old.depth }
+{
+    match op {
+        BinOp::Add => match left {
+            Value::List(list) => extend(arena, place, list, right, &mut work.steps),
+            _ => add(arena, place, left, right, &mut work.steps),
+        },
+        _ => binary(arena, work, op, left, right, place),
+    }
+}
+
+/// Which of two bools, integers, texts, tuples or lists comes first, each refusal at a place: `ValueKind`, `TooDeep`, `Steps`.
+pub fn compare(
+    arena: &Arena,
+    work: &mut Work,
+    left: Value,
+    right: Value,
+    place: Place,
+) -> Result<Ordering, Stop>
+    requires left { Owns (seen arena.now) left }
+    requires right { Owns (seen arena.now) right }
+    ensures meaning { Meets comparison_of result (state_in (seen arena.now) work.new.steps) (comparison place (value_of (seen arena.now) left) (value_of (seen arena.now) right) (state_in (seen arena.now) work.old.steps)) }
+    ensures depth { work.new.depth ≡ work.old.depth }
+{
+    star_compare::compare(arena, place, left, right, &mut work.steps)
+}
+
+/// Whether two values are equal, each refusal at a place: `TooDeep`, `Steps`.
+pub fn equal(
+    arena: &Arena,
+    work: &mut Work,
+    left: Value,
+    right: Value,
+    place: Place,
+) -> Result<bool, Stop>
+    requires left { Owns (seen arena.now) left }
+    requires right { Owns (seen arena.now) right }
+    ensures meaning { Meets as_is result (state_in (seen arena.now) work.new.steps) (equality place (value_of (seen arena.now) left) (value_of (seen arena.now) right) (state_in (seen arena.now) work.old.steps)) }
+    ensures depth { work.new.depth ≡ work.old.depth }
+{
+    star_compare::equal(arena, place, left, right, &mut work.steps)
+}
+
+/// What an index of a value gives, each refusal at a place: `ValueKind`, `IndexRange`, `KeyMissing` with the key's text, `CutsCharacter`, `TooDeep`,
+/// `Steps`.
+pub fn index(
+    arena: &mut Arena,
+    work: &mut Work,
+    value: Value,
+    index: Value,
+    place: Place,
+) -> Result<Value, Stop>
+    requires value { Owns (seen arena.old) value }
+    requires index { Owns (seen arena.old) index }
+    ensures row { Gives (index_row place (value_of (seen arena.old) value) (value_of (seen arena.old) index) (state_in (seen arena.old) work.old.steps)) result (seen arena.old) (seen arena.new) work.new.steps }
+    ensures depth { work.new.depth ≡ work.old.depth }
+{
+    star_index::index(arena, place, value, index, &mut work.steps)
+}
+
+/// What a slice of a value gives, each refusal at a place: `ValueKind`, `CutsCharacter`, `Steps`.
+pub fn slice(
+    arena: &mut Arena,
+    work: &mut Work,
+    value: Value,
+    cut: Cut,
+    place: Place,
+) -> Result<Value, Stop>
+    requires { Owns (seen arena.old) value }
+    ensures row { Gives (slice_row place (value_of (seen arena.old) value) (cut_in (seen arena.old).held cut) (state_in (seen arena.old) work.old.steps)) result (seen arena.old) (seen arena.new) work.new.steps }
+    ensures depth { work.new.depth ≡ work.old.depth }
+{
+    star_index::slice(arena, place, value, cut, &mut work.steps)
 }

@@ -1,30 +1,40 @@
-use Rattle.star_spec.specs.Operators.{binary_row}
-use Rattle.star_ops.specs.View.{value_of}
-use Rattle.star_tree.specs.Whole.{binary_operator_of}
-use Rattle.star_ops.proofs.Anywhere.{bad_anywhere, bad_less, done_anywhere, done_less}
-use Rattle.star_ops.proofs.RowsAnywhere.{binary_anywhere}
+use Rattle.star_values.specs.Objects.{seen}
+use Rattle.star_values.specs.View.{value_of}
+use Rattle.star_integers.specs.declared.operators.IntegerOp.TheVariants as integer
+use Rattle.star_steps.specs.Meets.{state_in}
+use Rattle.star_steps.proofs.Meeting.{gives_same}
+use Rattle.star_ops.proofs.IntegerRows.{row_of_ints}
 use Rattle.star_ops.proofs.rows.binary.Goals as goal
 
-pub returns-in-Ok-clause-meaning : goal.returns-in-Ok-clause-meaning
-returns-in-Ok-clause-meaning c =
-    done_anywhere (binary_row c.args.place (binary_operator_of c.args.op) (value_of c.args.left.now) (value_of c.args.right.now)) c.args.steps.now c.row_between.new.steps
-    (binary_anywhere c.args.place (binary_operator_of c.args.op) c.args.left.now c.args.right.now c.args.steps.now)
-    (value_of c.in-Ok.value) c.in-Ok.ensures
+pub returns-in-Remainder-clause-row : goal.returns-in-Remainder-clause-row
+returns-in-Remainder-clause-row c = rw c.in-Remainder.is (c.remainder.ensures (seen c.args.arena.now) c.args.work.now.steps)
 
-pub returns-in-Ok-clause-spent : goal.returns-in-Ok-clause-spent
-returns-in-Ok-clause-spent c =
-    done_less (binary_row c.args.place (binary_operator_of c.args.op) (value_of c.args.left.now) (value_of c.args.right.now)) c.args.steps.now c.row_between.new.steps
-    (binary_anywhere c.args.place (binary_operator_of c.args.op) c.args.left.now c.args.right.now c.args.steps.now)
-    (value_of c.in-Ok.value) c.in-Ok.ensures
+pub returns-in-Subtract-clause-row : goal.returns-in-Subtract-clause-row
+returns-in-Subtract-clause-row c =
+    let a = seen c.args.arena.now in
+    rw c.in-Subtract.is (gives_same _ _ _ _ _ _ (row_of_ints integer.Subtract c.args.place (value_of a c.args.left) (value_of a c.args.right) (state_in a c.args.work.now.steps) tt) (c.on_integers.ensures a c.args.work.now.steps))
 
-pub returns-in-Err-Fault-clause-meaning : goal.returns-in-Err-Fault-clause-meaning
-returns-in-Err-Fault-clause-meaning c =
-    bad_anywhere (binary_row c.args.place (binary_operator_of c.args.op) (value_of c.args.left.now) (value_of c.args.right.now)) c.args.steps.now c.row_between.new.steps
-    (binary_anywhere c.args.place (binary_operator_of c.args.op) c.args.left.now c.args.right.now c.args.steps.now)
-    c.in-Err-Fault.fault (rw c.in-Err-Fault.field-0-is at c.in-Err-Fault.ensures)
+pub returns-in-FloorDivide-clause-row : goal.returns-in-FloorDivide-clause-row
+returns-in-FloorDivide-clause-row c =
+    let a = seen c.args.arena.now in
+    rw c.in-FloorDivide.is (gives_same _ _ _ _ _ _ (row_of_ints integer.FloorDivide c.args.place (value_of a c.args.left) (value_of a c.args.right) (state_in a c.args.work.now.steps) tt) (c.on_integers-in-FloorDivide.ensures a c.args.work.now.steps))
 
-pub returns-in-Err-Fault-clause-spent : goal.returns-in-Err-Fault-clause-spent
-returns-in-Err-Fault-clause-spent c =
-    bad_less (binary_row c.args.place (binary_operator_of c.args.op) (value_of c.args.left.now) (value_of c.args.right.now)) c.args.steps.now c.row_between.new.steps
-    (binary_anywhere c.args.place (binary_operator_of c.args.op) c.args.left.now c.args.right.now c.args.steps.now)
-    c.in-Err-Fault.fault (rw c.in-Err-Fault.field-0-is at c.in-Err-Fault.ensures)
+pub returns-in-BitAnd-clause-row : goal.returns-in-BitAnd-clause-row
+returns-in-BitAnd-clause-row c =
+    let a = seen c.args.arena.now in
+    rw c.in-BitAnd.is (gives_same _ _ _ _ _ _ (row_of_ints integer.BitAnd c.args.place (value_of a c.args.left) (value_of a c.args.right) (state_in a c.args.work.now.steps) tt) (c.on_integers-in-BitAnd.ensures a c.args.work.now.steps))
+
+pub returns-in-BitXor-clause-row : goal.returns-in-BitXor-clause-row
+returns-in-BitXor-clause-row c =
+    let a = seen c.args.arena.now in
+    rw c.in-BitXor.is (gives_same _ _ _ _ _ _ (row_of_ints integer.BitXor c.args.place (value_of a c.args.left) (value_of a c.args.right) (state_in a c.args.work.now.steps) tt) (c.on_integers-in-BitXor.ensures a c.args.work.now.steps))
+
+pub returns-in-ShiftLeft-clause-row : goal.returns-in-ShiftLeft-clause-row
+returns-in-ShiftLeft-clause-row c =
+    let a = seen c.args.arena.now in
+    rw c.in-ShiftLeft.is (gives_same _ _ _ _ _ _ (row_of_ints integer.ShiftLeft c.args.place (value_of a c.args.left) (value_of a c.args.right) (state_in a c.args.work.now.steps) tt) (c.on_integers-in-ShiftLeft.ensures a c.args.work.now.steps))
+
+pub returns-in-ShiftRight-clause-row : goal.returns-in-ShiftRight-clause-row
+returns-in-ShiftRight-clause-row c =
+    let a = seen c.args.arena.now in
+    rw c.in-ShiftRight.is (gives_same _ _ _ _ _ _ (row_of_ints integer.ShiftRight c.args.place (value_of a c.args.left) (value_of a c.args.right) (state_in a c.args.work.now.steps) tt) (c.on_integers-in-ShiftRight.ensures a c.args.work.now.steps))

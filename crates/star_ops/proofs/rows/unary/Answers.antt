@@ -1,30 +1,11 @@
-use Rattle.star_spec.specs.Operators.{unary_row}
-use Rattle.star_ops.specs.View.{value_of}
-use Rattle.star_tree.specs.Whole.{unary_operator_of}
-use Rattle.star_ops.proofs.Anywhere.{bad_anywhere, bad_less, done_anywhere, done_less}
-use Rattle.star_ops.proofs.RowsAnywhere.{unary_anywhere}
+use Rattle.star_values.specs.Objects.{seen}
 use Rattle.star_ops.proofs.rows.unary.Goals as goal
 
-pub returns-in-Ok-clause-meaning : goal.returns-in-Ok-clause-meaning
-returns-in-Ok-clause-meaning c =
-    done_anywhere (unary_row c.args.place (unary_operator_of c.args.op) (value_of c.args.operand.now)) c.args.steps.now c.row_before.new.steps
-    (unary_anywhere c.args.place (unary_operator_of c.args.op) c.args.operand.now c.args.steps.now)
-    (value_of c.in-Ok.value) c.in-Ok.ensures
+pub returns-in-Minus-clause-row : goal.returns-in-Minus-clause-row
+returns-in-Minus-clause-row c = rw c.in-Minus.is (c.negative.ensures (seen c.args.arena.now) c.args.work.now.steps)
 
-pub returns-in-Ok-clause-spent : goal.returns-in-Ok-clause-spent
-returns-in-Ok-clause-spent c =
-    done_less (unary_row c.args.place (unary_operator_of c.args.op) (value_of c.args.operand.now)) c.args.steps.now c.row_before.new.steps
-    (unary_anywhere c.args.place (unary_operator_of c.args.op) c.args.operand.now c.args.steps.now)
-    (value_of c.in-Ok.value) c.in-Ok.ensures
+pub returns-in-Plus-clause-row : goal.returns-in-Plus-clause-row
+returns-in-Plus-clause-row c = rw c.in-Plus.is (c.positive.ensures (seen c.args.arena.now) c.args.work.now.steps)
 
-pub returns-in-Err-Fault-clause-meaning : goal.returns-in-Err-Fault-clause-meaning
-returns-in-Err-Fault-clause-meaning c =
-    bad_anywhere (unary_row c.args.place (unary_operator_of c.args.op) (value_of c.args.operand.now)) c.args.steps.now c.row_before.new.steps
-    (unary_anywhere c.args.place (unary_operator_of c.args.op) c.args.operand.now c.args.steps.now)
-    c.in-Err-Fault.fault (rw c.in-Err-Fault.field-0-is at c.in-Err-Fault.ensures)
-
-pub returns-in-Err-Fault-clause-spent : goal.returns-in-Err-Fault-clause-spent
-returns-in-Err-Fault-clause-spent c =
-    bad_less (unary_row c.args.place (unary_operator_of c.args.op) (value_of c.args.operand.now)) c.args.steps.now c.row_before.new.steps
-    (unary_anywhere c.args.place (unary_operator_of c.args.op) c.args.operand.now c.args.steps.now)
-    c.in-Err-Fault.fault (rw c.in-Err-Fault.field-0-is at c.in-Err-Fault.ensures)
+pub returns-in-Invert-clause-row : goal.returns-in-Invert-clause-row
+returns-in-Invert-clause-row c = rw c.in-Invert.is (c.inverse.ensures (seen c.args.arena.now) c.args.work.now.steps)

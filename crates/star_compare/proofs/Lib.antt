@@ -1,0 +1,5 @@
+pub mod Comparing
+pub mod Keys
+pub mod Levels
+pub mod Numbers
+pub mod UnderKeys

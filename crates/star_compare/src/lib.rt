@@ -1,0 +1,16 @@
+//! Equality, order and sizes of the values of an arena.
+//!
+//! Each call takes exactly the steps of the definition and refuses exactly as it refuses: `TooDeep` where more than 100
+//! collections stand in one another, `Steps` where fewer are left than it takes, and `ValueKind` where the kinds have no
+//! order, or a value is no key. None changes the arena.
+#![tactic(auto)]
+
+mod equality;
+mod order;
+mod pairs;
+mod sizes;
+
+pub use equality::{among, bounds, equal};
+pub use order::compare;
+pub use pairs::{field_under, pair_at, pair_count, value_under};
+pub use sizes::key_size;

@@ -1,0 +1,19 @@
+//! Fragments, which are items that a function built: whether two are equal, and the values of their members.
+//!
+//! A fragment is never turned into a tree: its items, and the trees in them, are walked as they stand, so the work of a call stays
+//! within the steps that it takes.
+#![tactic(auto)]
+
+mod copies;
+mod equality;
+mod fragment;
+mod fresh;
+mod keys;
+mod members;
+mod node;
+mod sizes;
+
+pub use equality::fragments_equal;
+pub use fresh::dict_of;
+pub use keys::place_of_key;
+pub use members::{fragment_length, member_value};

@@ -1,0 +1,10 @@
+pub mod Bytes
+pub mod Characters
+pub mod Counts
+pub mod Ends
+pub mod KeyLevels
+pub mod Members
+pub mod Names
+pub mod Picks
+pub mod Quoting
+pub mod Rows

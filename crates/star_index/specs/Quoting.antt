@@ -1,0 +1,12 @@
+-- Characters between quotes.
+use Rattle.std.specs.Prelude.{ℕ, ◌/◌, ◌%◌, nat_lt, ◌||◌, ◌==◌, List, [], ◌∷◌, ◌++◌, if◌then◌else◌, codes}
+use Rattle.std.specs.Char.{encode_utf8}
+use Rattle.index_spec.specs.KeyTexts.{hex_digit, quoted_bytes}
+
+-- a character as it stands between quotes
+abbrev pub quoted_character : ℕ → List ℕ
+quoted_character c = quoted_bytes (encode_utf8 c)
+
+-- one that has no short escape: by its number where it isn't printed
+abbrev pub unescaped : ℕ → List ℕ
+unescaped c = if nat_lt c 32 || c == 127 then codes "\\x" ++ (hex_digit (c / 16) ∷ hex_digit (c % 16) ∷ []) else encode_utf8 c

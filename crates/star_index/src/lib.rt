@@ -1,0 +1,17 @@
+//! Indexes and slices of the values of an arena.
+//!
+//! `index` and `slice` give exactly what the definitions say, refuse exactly as they refuse, and take exactly their steps: a place
+//! that isn't there is `IndexRange`, a key that isn't there is `KeyMissing` with the key's text, and a cut through a character
+//! is `CutsCharacter`.
+#![tactic(auto)]
+
+mod fragments;
+mod indexes;
+mod key_text;
+mod keys;
+mod places;
+mod slices;
+mod texts;
+
+pub use indexes::index;
+pub use slices::slice;

@@ -1,0 +1,4 @@
+pub mod Acts
+pub mod Floor
+pub mod Progressions
+pub mod Shifts

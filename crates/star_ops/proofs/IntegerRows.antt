@@ -1,0 +1,60 @@
+-- The rows of operators where an operand is an integer.
+use Rattle.std.proofs.Common.{◌≡◌, ℤ, Option, Some, None, FitsSigned, to_z, of_z, refl, sym, subst, ◌∙◌}
+use Rattle.std.proofs.lemmas.Int.{to_z-of_z}
+use Rattle.std.specs.Int.{w128}
+use Rattle.ytt_base.specs.declared.fault.FaultKind.TheVariants as kind
+use Rattle.ytt_base.specs.declared.fault.Place.{Place}
+use Rattle.value_spec.specs.Members.{as_int}
+use Rattle.value_spec.specs.Outcomes.{State, Computation, fail}
+use Rattle.value_spec.specs.Values.{Value, int_value}
+use Rattle.operator_spec.specs.Operators.{if_both, sum_row, product_row, remainder_row, union_row, binary_row}
+use Rattle.star_integers.specs.Answers.{answered, integer_answer, operator_of}
+use Rattle.star_integers.specs.declared.operators.IntegerOp.{IntegerOp}
+use Rattle.star_integers.specs.declared.operators.IntegerOp.TheVariants as integer
+use Rattle.star_integers.proofs.Acts as acts
+use Rattle.star_ops.specs.Acts.{integer_row}
+
+-- what follows from two numbers, where each is one
+both_as : (o q : Option ℤ) (f g : ℤ → ℤ → Computation (Unit {0}) Value) (m : Computation (Unit {0}) Value) (s : State (Unit {0})) → ((x y : ℤ) → f x y s ≡ g x y s) → if_both o q f m s ≡ if_both o q g m s
+both_as (Some x) (Some y) f g m s h = h x y
+both_as None q f g m s h = refl
+both_as (Some x) None f g m s h = refl
+
+-- where the left is an integer, the sum is that of integers
+pub sum_of_int : (p : Place) (z : ℤ) (w : Value) (s : State (Unit {0})) → sum_row p (int_value z) w s ≡ integer_row integer.Add p (int_value z) w s
+sum_of_int p z w s = both_as (Some z) (as_int w) _ (λ x y. answered p (integer_answer integer.Add x y)) (fail kind.ValueKind p) s (λ x y. acts.integer_row integer.Add p x y s)
+
+pub product_of_ints : (p : Place) (v w : Value) (x y : ℤ) (s : State (Unit {0})) → v ≡ int_value x → w ≡ int_value y → product_row p v w s ≡ integer_row integer.Multiply p v w s
+product_of_ints p v w x y s e f = (λ i. product_row p (e i) (f i) s) ∙ acts.integer_row integer.Multiply p x y s ∙ (λ i. integer_row integer.Multiply p (sym e i) (sym f i) s)
+
+-- a number that is passed to a call
+pub one_passed : (P : ℤ → Type 0) (z : ℤ) → FitsSigned w128 z → P (to_z w128 (of_z w128 z)) → P z
+one_passed P z f h = subst P (to_z-of_z w128 z f) h
+
+-- the rows that are for integers alone
+abbrev pub IsInteger : IntegerOp → Type 0
+IsInteger integer.Add = ⊥
+IsInteger integer.Multiply = ⊥
+IsInteger integer.Remainder = ⊥
+IsInteger integer.BitOr = ⊥
+IsInteger _ = Unit {0}
+
+pub row_of_ints : (o : IntegerOp) (p : Place) (v w : Value) (s : State (Unit {0})) → IsInteger o → binary_row p (operator_of o) v w s ≡ integer_row o p v w s
+row_of_ints integer.Subtract p v w s h = both_as (as_int v) (as_int w) _ _ (fail kind.ValueKind p) s (λ x y. acts.integer_row integer.Subtract p x y s)
+row_of_ints integer.FloorDivide p v w s h = both_as (as_int v) (as_int w) _ _ (fail kind.ValueKind p) s (λ x y. acts.integer_row integer.FloorDivide p x y s)
+row_of_ints integer.BitAnd p v w s h = both_as (as_int v) (as_int w) _ _ (fail kind.ValueKind p) s (λ x y. acts.integer_row integer.BitAnd p x y s)
+row_of_ints integer.BitXor p v w s h = both_as (as_int v) (as_int w) _ _ (fail kind.ValueKind p) s (λ x y. acts.integer_row integer.BitXor p x y s)
+row_of_ints integer.ShiftLeft p v w s h = both_as (as_int v) (as_int w) _ _ (fail kind.ValueKind p) s (λ x y. acts.integer_row integer.ShiftLeft p x y s)
+row_of_ints integer.ShiftRight p v w s h = both_as (as_int v) (as_int w) _ _ (fail kind.ValueKind p) s (λ x y. acts.integer_row integer.ShiftRight p x y s)
+row_of_ints integer.Add p v w s h = absurd h
+row_of_ints integer.Multiply p v w s h = absurd h
+row_of_ints integer.Remainder p v w s h = absurd h
+row_of_ints integer.BitOr p v w s h = absurd h
+
+-- `%` where the left is an integer
+pub rest_of_int : (p : Place) (z : ℤ) (w : Value) (s : State (Unit {0})) → remainder_row p (int_value z) w s ≡ integer_row integer.Remainder p (int_value z) w s
+rest_of_int p z w s = both_as (Some z) (as_int w) _ _ (fail kind.ValueKind p) s (λ x y. acts.integer_row integer.Remainder p x y s)
+
+-- `|` where the left is an integer
+pub union_of_int : (p : Place) (z : ℤ) (w : Value) (s : State (Unit {0})) → union_row p (int_value z) w s ≡ integer_row integer.BitOr p (int_value z) w s
+union_of_int p z w s = both_as (Some z) (as_int w) _ _ (fail kind.ValueKind p) s (λ x y. acts.integer_row integer.BitOr p x y s)

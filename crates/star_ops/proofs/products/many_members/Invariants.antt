@@ -1,0 +1,9 @@
+use Rattle.std.proofs.Common.{◌≡◌}
+use Rattle.operator_spec.specs.Operators.{copies}
+use Rattle.star_values.specs.Objects.{seen}
+use Rattle.star_values.specs.Owns.{OwnsAll}
+use Rattle.star_values.specs.View.{values_of}
+use Rattle.star_ops.proofs.products.many_members.Given as goal
+
+abbrev pub invariant-loop : goal.invariant-loop
+invariant-loop l = (values_of (seen l.arena) l.all ≡ copies l.counter (values_of (seen l.arena) l.members)) × OwnsAll (seen l.arena) l.all

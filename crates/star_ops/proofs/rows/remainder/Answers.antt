@@ -1,0 +1,8 @@
+use Rattle.star_values.specs.View.{value_of}
+use Rattle.star_steps.specs.Meets.{state_in}
+use Rattle.star_steps.proofs.Meeting.{gives_same}
+use Rattle.star_ops.proofs.IntegerRows.{rest_of_int}
+use Rattle.star_ops.proofs.rows.remainder.Goals as goal
+
+pub returns-in-Int : goal.returns-in-Int
+returns-in-Int c = λ a n. rw c.in-Int.is (gives_same _ _ _ _ _ _ (rest_of_int c.args.place c.in-Int.field-0 (value_of a c.args.right) (state_in a n)) (rw c.in-Int.is at c.on_integers.ensures a n))

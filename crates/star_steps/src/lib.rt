@@ -1,0 +1,9 @@
+//! What all operations over an arena share: the steps that they take, and their refusals.
+//!
+//! `specs/Meets` says how what a call returned stands to how a computation of the definitions ends: the state is that of the
+//! arena's objects with the steps that are left.
+#![tactic(auto)]
+
+mod steps;
+
+pub use steps::{pay, refusal, stop_at, tuple_members};
