@@ -2,8 +2,8 @@
 use Rattle.std.proofs.Common.{◌≡◌, Result, Err, sym, ap, subst, ◌∙◌}
 use Rattle.ytt_base.specs.declared.fault.Stop.{Stop}
 use Rattle.ytt_base.specs.declared.fault.Stop.TheVariants as stop
-use Rattle.star_spec.specs.Outcomes.{State, Ending, done, then_do, Computation}
-use Rattle.star_ops.specs.Meets.{Meets}
+use Rattle.value_spec.specs.Outcomes.{State, Ending, done, then_do, Computation}
+use Rattle.plain_ops.specs.Meets.{Meets}
 
 -- a refusal is the end of all that would follow
 pub meets_stop : {A B C D : Type 0} (view : A → B) (onto : C → D) (e : Stop) (s : State (Unit {0})) (o : Ending (Unit {0}) B) (k : B → Computation (Unit {0}) D) (r : Result C Stop) → Meets view (Err e) s o → r ≡ Err e → Meets onto r s (then_do o k)

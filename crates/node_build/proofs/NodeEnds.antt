@@ -1,12 +1,12 @@
 -- The end of a node, and the node under it.
-use Rattle.std.proofs.Common.{◌≡◌, ℕ, ◌+◌, List, [], ◌∷◌, Result, Err, refl, ap, ◌∙◌}
+use Rattle.std.proofs.Common.{◌≡◌, ℕ, ◌+◌, List, ◌∷◌, Result, Err, refl, ap, ◌∙◌}
 use Rattle.ytt_base.specs.declared.fault.Place.{Place}
 use Rattle.ytt_base.specs.declared.fault.Stop.{Stop}
 use Rattle.ytt_base.specs.View.{tree_of}
 use Rattle.star_spec.specs.Flow.{Flow, on}
-use Rattle.star_spec.specs.Outcomes.{Computation, State, done, give, then_do}
+use Rattle.value_spec.specs.Outcomes.{Computation, State, done, give, then_do}
 use Rattle.code_spec.specs.Program.{node_end}
-use Rattle.star_spec.specs.Values.{Children, one, taken}
+use Rattle.value_spec.specs.Values.{Children, one, taken}
 use Rattle.star_tree.specs.View.{holds_of}
 use Rattle.template_meaning.specs.Adding.{add_child, add_taken}
 use Rattle.template_meaning.specs.Run.{Node, closed_with}
@@ -14,7 +14,7 @@ use Rattle.node_build.specs.Parts.{written_part}
 use Rattle.node_build.specs.declared.built.BuiltItem.{BuiltItem}
 use Rattle.node_build.specs.declared.members.Members.{Members}
 use Rattle.node_build.specs.declared.node.OpenNode.{OpenNode}
-use Rattle.star_ops.specs.Meets.{Meets}
+use Rattle.plain_ops.specs.Meets.{Meets}
 use Rattle.node_build.specs.Positions.{in_scalar_key}
 use Rattle.node_build.specs.View.{built_notes_of, child_of, children_of, node_at}
 use Rattle.node_build.proofs.Meeting.{done_then, meets_same, meets_stop}

@@ -2,8 +2,8 @@
 use Rattle.std.proofs.Common.{◌≡◌, ℕ, zero, suc, ◌+◌, ◌<◌, Bool, true, false, ◌||◌, List, [], ◌∷◌, ◌++◌, length, drop, get_or, slice_set, Option, Some, None, bytes_eq, codes, if◌then◌else◌, refl, sym, ap, ◌∙◌, rules, arith}
 use Rattle.ytt_base.specs.declared.fault.Place.{Place}
 use Rattle.ytt_base.specs.Trees.{Scalar}
-use Rattle.star_spec.specs.Outcomes.{State, done, then_do, give, ◌>>=◌}
-use Rattle.star_spec.specs.Values.{Child, Children, a_child}
+use Rattle.value_spec.specs.Outcomes.{State, done, then_do, give, ◌>>=◌}
+use Rattle.value_spec.specs.Values.{Child, Children, a_child}
 use Rattle.template_meaning.specs.Adding.{add_child, in_place_if, keys_equal, overrides}
 use Rattle.node_build.specs.declared.built.BuiltItem.{BuiltItem}
 use Rattle.node_build.specs.declared.built.BuiltNote.{BuiltNote}

@@ -9,15 +9,15 @@ use Rattle.ytt_base.specs.View.{tree_of, trees_of}
 use Rattle.std.proofs.Math.ListN.{drop_of_length-le}
 use Rattle.ytt_laws.proofs.InTurn.{and_trees, trees-last, trees-none}
 use Rattle.ytt_laws.proofs.Lists.{dropped}
-use Rattle.star_spec.specs.Outcomes.{Computation, Ending, State, done, bad, give, paid, then_do, ◌>>=◌}
+use Rattle.value_spec.specs.Outcomes.{Computation, Ending, State, done, bad, give, paid, then_do, ◌>>=◌}
 use Rattle.code_spec.specs.Program.{ItemKind}
-use Rattle.star_spec.specs.Values as plain
-use Rattle.star_spec.specs.Values.{Taken, one, taken, tuple_value, text_value, values_from, values_in}
-use Rattle.star_ops.specs.declared.value.Value.{Value, fold_out-Value, map-Value, out-Value}
-use Rattle.star_ops.specs.declared.value.Value.TheOpen.{Value-F}
-use Rattle.star_ops.specs.Meets.{Meets}
-use Rattle.star_ops.specs.View.{value_of, value_step, values_of}
-use Rattle.star_ops.proofs.Tuples.{members_again}
+use Rattle.value_spec.specs.Values as plain
+use Rattle.value_spec.specs.Values.{Taken, one, taken, tuple_value, text_value, values_from, values_in}
+use Rattle.plain_ops.specs.declared.value.Value.{Value, fold_out-Value, map-Value, out-Value}
+use Rattle.plain_ops.specs.declared.value.Value.TheOpen.{Value-F}
+use Rattle.plain_ops.specs.Meets.{Meets}
+use Rattle.plain_ops.specs.View.{value_of, value_step, values_of}
+use Rattle.plain_ops.proofs.Tuples.{members_again}
 use Rattle.template_meaning.specs.Take.{levels_at, take_over, tree_of_value, trees_by}
 use Rattle.node_build.specs.Taking.{list_taken, member_taken, members_taken, text_taken}
 use Rattle.node_build.proofs.Meeting.{meets_same, meets_stop}

@@ -4,9 +4,9 @@ use Rattle.ytt_base.specs.declared.tree.Key.{Key}
 use Rattle.ytt_base.specs.declared.tree.Tree.{Tree}
 use Rattle.ytt_base.specs.Trees.{Trees, tree, Pairs, pair, is_null}
 use Rattle.ytt_base.specs.View.{key_of, tree_of}
-use Rattle.star_spec.specs.Values.{child, a_child}
+use Rattle.value_spec.specs.Values.{child, a_child}
 use Rattle.template_meaning.specs.Meaning.{documents}
-use Rattle.template_meaning.specs.Take.{body_tree, children_pairs, children_trees}
+use Rattle.value_spec.specs.Built.{body_tree, children_pairs, children_trees}
 use Rattle.node_build.specs.declared.built.BuiltItem.{BuiltItem}
 use Rattle.node_build.specs.Positions.{in_scalar_key}
 use Rattle.node_build.specs.View.{body_of, built_notes_of, children_of}

@@ -2,7 +2,7 @@
 use Rattle.std.proofs.Common.{◌≡◌, List, rules}
 use Rattle.ytt_base.specs.declared.tree.Tree.{Tree}
 use Rattle.ytt_base.specs.View.{tree_of}
-use Rattle.star_spec.specs.Values.{child, one, map_of, list_of}
+use Rattle.value_spec.specs.Values.{child, one, map_of, list_of}
 use Rattle.node_build.specs.declared.built.BuiltItem.{BuiltItem}
 use Rattle.node_build.specs.declared.built.BuiltValue as held
 use Rattle.node_build.specs.declared.built.BuiltValue.{the_lemmas}

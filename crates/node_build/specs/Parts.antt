@@ -1,9 +1,9 @@
 -- What parts of a node do to the open nodes that has no code in it, and how a value is taken over into a node.
-use Rattle.std.specs.Prelude.{suc, List, [], ◌∷◌, Some}
+use Rattle.std.specs.Prelude.{suc, List, ◌∷◌, Some}
 use Rattle.star_spec.specs.Flow.{on, Part}
-use Rattle.star_spec.specs.Outcomes.{Computation, paid, give, ill_formed, ◌>>=◌}
+use Rattle.value_spec.specs.Outcomes.{paid, give, ill_formed, ◌>>=◌}
 use Rattle.code_spec.specs.Program.{NodePart, node_start, node_note, node_key, node_key_from, node_value, node_value_from, node_end}
-use Rattle.star_spec.specs.Values.{Value, one, taken}
+use Rattle.value_spec.specs.Values.{Value, one, taken}
 use Rattle.ytt_base.specs.Trees.{scalar}
 use Rattle.template_meaning.specs.Adding.{add_taken}
 use Rattle.template_meaning.specs.Run.{Node, closed_with, on_top, opened}

@@ -3,9 +3,9 @@ use Rattle.std.specs.Prelude.{ℕ, zero, suc, List, length}
 use Rattle.ytt_base.specs.declared.fault.FaultKind.TheVariants as kind
 use Rattle.ytt_base.specs.declared.fault.Place.{Place}
 use Rattle.ytt_base.specs.Trees.{Tree, Trees, scalar, string, list}
-use Rattle.star_spec.specs.Keys.{text_cost}
-use Rattle.star_spec.specs.Outcomes.{Computation, fail, give, paid, paid_by, ◌>>=◌}
-use Rattle.star_spec.specs.Values.{Value}
+use Rattle.value_spec.specs.Keys.{text_cost}
+use Rattle.value_spec.specs.Outcomes.{Computation, fail, give, paid, paid_by, ◌>>=◌}
+use Rattle.value_spec.specs.Values.{Value}
 use Rattle.template_meaning.specs.Take.{tree_of_value, trees_by}
 
 abbrev pub text_taken : Place → (text : List ℕ) → Computation (Unit {0}) Tree

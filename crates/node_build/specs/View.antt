@@ -1,13 +1,13 @@
 -- The plain data that built items and open nodes stand for.
 use Rattle.std.specs.Prelude.{ℕ, suc, Bool, true, false, List, [], ◌∷◌, map as each}
 use Rattle.ytt_base.specs.View.{tree_of}
-use Rattle.star_spec.specs.Values as plain
-use Rattle.star_spec.specs.Values.{values_from, no_fields, arguments, child, no_children, a_child, no_built, a_built, one, map_of, list_of, taken}
+use Rattle.value_spec.specs.Values as plain
+use Rattle.value_spec.specs.Values.{values_from, no_fields, arguments, child, no_children, a_child, no_built, a_built, one, map_of, list_of, taken}
 use Rattle.star_tree.specs.View.{item_kind_of, holds_of}
 use Rattle.template_meaning.specs.Run.{Node}
 use Rattle.node_build.specs.Positions.{in_scalar_key}
-use Rattle.star_ops.specs.declared.value.Value.{Value}
-use Rattle.star_ops.specs.View.{values_of}
+use Rattle.plain_ops.specs.declared.value.Value.{Value}
+use Rattle.plain_ops.specs.View.{values_of}
 use Rattle.node_build.specs.declared.built.BuiltNote.{BuiltNote}
 use Rattle.node_build.specs.declared.built.BuiltItem.{BuiltItem, fold-BuiltItem}
 use Rattle.node_build.specs.declared.built.BuiltValue.{BuiltValue, fold-BuiltValue}

@@ -5,7 +5,7 @@ ghost use Rattle.ytt_base.specs.declared.fault.FaultKind.TheVariants as kind;
 ghost use Rattle.ytt_base.specs.declared.fault.Stop.TheVariants as stop;
 ghost use Rattle.ytt_base.specs.Trees.{Scalar};
 ghost use Rattle.yaml_keys.specs.Seen.{is_seen};
-ghost use Rattle.star_ops.specs.Meets.{Tells};
+ghost use Rattle.plain_ops.specs.Meets.{Tells};
 ghost use Rattle.node_build.specs.Positions.{AreKnown, fault_with, in_scalar_key, is_known, position_of};
 ghost use Rattle.node_build.specs.View.{built_notes_of, child_of, children_of};
 ghost use Rattle.template_meaning.specs.Adding.{add_child, key_shown, keys_equal, overrides};

@@ -2,7 +2,7 @@
 
 use crate::node::Stack;
 use crate::stack::{at_start, documents_in, fill, step};
-use star_ops::Value;
+use plain_ops::Value;
 use star_tree::code::NodeOp;
 use std::alloc::Global;
 use ytt_base::fault::Stop;
@@ -18,8 +18,8 @@ pub struct Builder {
 impl Builder {
     ghost use Rattle.std.specs.Prelude.{◌≡◌, ◌≤◌, ◌∷◌, [], ℕ, IfOk};
     ghost use Rattle.ytt_base.specs.View.{trees_of};
-    ghost use Rattle.star_ops.specs.Meets.{Spends};
-    ghost use Rattle.star_ops.specs.View.{value_of};
+    ghost use Rattle.plain_ops.specs.Meets.{Spends};
+    ghost use Rattle.plain_ops.specs.View.{value_of};
     ghost use Rattle.node_build.specs.Parts.{taking, written_part};
     ghost use Rattle.node_build.specs.View.{has_two, nodes_of};
     ghost use Rattle.star_spec.specs.Flow.{on};

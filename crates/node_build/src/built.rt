@@ -1,7 +1,7 @@
 // What items are built into.
 
+use plain_ops::Values;
 use sqlite_items::Items;
-use star_ops::Values;
 use ytt_base::fault::Place;
 use ytt_base::text::Text;
 use ytt_base::tree::{Key, Tree};

@@ -4,7 +4,7 @@ ghost use Rattle.ytt_base.specs.Trees.{is_null};
 ghost use Rattle.ytt_base.specs.View.{pairs_of, tree_of, trees_of};
 ghost use Rattle.node_build.specs.View.{body_of, children_of};
 ghost use Rattle.template_meaning.specs.Meaning.{documents};
-ghost use Rattle.template_meaning.specs.Take.{body_tree, children_pairs, children_trees};
+ghost use Rattle.value_spec.specs.Built.{body_tree, children_pairs, children_trees};
 
 use crate::built::{Built, BuiltValue};
 use crate::list::push;

@@ -2,13 +2,13 @@
 ghost use Rattle.std.specs.Prelude.{◌≡◌, ◌+◌, ◌∷◌, [], ℕ, List};
 ghost use Rattle.ytt_base.specs.declared.fault.Place.{Place};
 ghost use Rattle.ytt_base.specs.View.{tree_of};
-ghost use Rattle.star_ops.specs.Meets.{Tells};
+ghost use Rattle.plain_ops.specs.Meets.{Tells};
 ghost use Rattle.node_build.specs.Parts.{written_part};
 ghost use Rattle.node_build.specs.Positions.{in_scalar_key};
 ghost use Rattle.node_build.specs.View.{body_of, built_notes_of, child_of, children_of, node_at};
 ghost use Rattle.star_spec.specs.Flow.{on};
 ghost use Rattle.code_spec.specs.Program.{node_end};
-ghost use Rattle.star_spec.specs.Values.{Children, one, taken};
+ghost use Rattle.value_spec.specs.Values.{Children, one, taken};
 ghost use Rattle.star_tree.specs.View.{holds_of};
 ghost use Rattle.template_meaning.specs.Adding.{add_child, add_taken};
 ghost use Rattle.template_meaning.specs.Run.{Node, closed_with};

@@ -3,19 +3,19 @@ ghost use Rattle.std.specs.Prelude.{◌≡◌, ◌≤◌, ◌∷◌, IfOk, ℕ, 
 ghost use Rattle.ytt_base.specs.declared.fault.Place.{Place};
 ghost use Rattle.ytt_base.specs.Trees as trees;
 ghost use Rattle.ytt_base.specs.View.{key_of, tree_of};
-ghost use Rattle.star_ops.specs.Meets.{Spends, Tells};
-ghost use Rattle.star_ops.specs.View.{value_of};
+ghost use Rattle.plain_ops.specs.Meets.{Spends, Tells};
+ghost use Rattle.plain_ops.specs.View.{value_of};
 ghost use Rattle.node_build.specs.Parts.{taking, written_part};
 ghost use Rattle.node_build.specs.View.{node_at};
 ghost use Rattle.star_spec.specs.Flow.{on};
 ghost use Rattle.code_spec.specs.Program.{ItemKind, node_key, node_value};
-ghost use Rattle.star_spec.specs.Values.{one, taken};
+ghost use Rattle.value_spec.specs.Values.{one, taken};
 ghost use Rattle.template_meaning.specs.Run.{Node};
 ghost use Rattle.template_meaning.specs.Take.{take_over};
 
 use crate::node::OpenNode;
 use crate::take::taken_tree;
-use star_ops::Value;
+use plain_ops::Value;
 use std::alloc::Global;
 use ytt_base::fault::{Place, Stop};
 use ytt_base::text::Memory;

@@ -3,8 +3,8 @@ ghost use Rattle.std.specs.Prelude.{◌≡◌, ◌≤◌};
 ghost use Rattle.ytt_base.specs.declared.fault.FaultKind.TheVariants as kind;
 ghost use Rattle.ytt_base.specs.declared.fault.Stop.TheVariants as stop;
 ghost use Rattle.ytt_base.specs.Outcomes.{fault_at, fault_of};
-ghost use Rattle.star_spec.specs.Outcomes.{take_steps};
-ghost use Rattle.star_ops.specs.Meets.{Spends, as_is};
+ghost use Rattle.value_spec.specs.Outcomes.{take_steps};
+ghost use Rattle.plain_ops.specs.Meets.{Spends, as_is};
 
 use std::alloc::Global;
 use ytt_base::fault::{Fault, FaultKind, Place, Stop};

@@ -1,16 +1,16 @@
 // Values that are taken over as trees.
 ghost use Rattle.std.specs.Prelude.{◌≡◌, ◌≤◌};
 ghost use Rattle.ytt_base.specs.View.{tree_of, trees_of};
-ghost use Rattle.star_ops.specs.Meets.{Spends};
-ghost use Rattle.star_ops.specs.View.{value_of, values_of};
-ghost use Rattle.star_spec.specs.Outcomes.{paid};
+ghost use Rattle.plain_ops.specs.Meets.{Spends};
+ghost use Rattle.plain_ops.specs.View.{value_of, values_of};
+ghost use Rattle.value_spec.specs.Outcomes.{paid};
 ghost use Rattle.node_build.specs.Taking.{list_taken, member_taken, members_taken, text_taken};
 ghost use Rattle.template_meaning.specs.Take.{tree_of_value};
 
 use crate::list::push;
 use crate::steps::{pay, refusal};
+use plain_ops::{Value, Values};
 use sqlite_items::Items;
-use star_ops::{Value, Values};
 use std::alloc::Global;
 use std::rc::Rc;
 use ytt_base::fault::{FaultKind, Place, Stop};

@@ -1,7 +1,7 @@
 -- Boxes that get values.
 use Rattle.std.proofs.Common.{◌≡◌, ◌<◌, ◌≤◌, ℕ, zero, suc, List, [], ◌∷◌, length, Option, Some, None, slice_get, slice_set, refl, ap, ◌∙◌, sym, arith}
-use Rattle.star_spec.specs.Store.{change, changed, with_contents}
-use Rattle.star_spec.specs.Values.{Object, Store, of_box}
+use Rattle.value_spec.specs.Store.{change, changed, with_contents}
+use Rattle.value_spec.specs.Values.{Object, Store, of_box}
 use Rattle.star_eval.specs.declared.session.Slot.{Slot}
 use Rattle.star_eval.specs.View.{box_object, held_of, store_of}
 

@@ -5,10 +5,10 @@ use Rattle.code_spec.specs.Code as plain
 use Rattle.code_spec.specs.Code.{Name}
 use Rattle.star_spec.specs.Eval.{eval, eval_all, truth_of}
 use Rattle.star_spec.specs.Language.{Call}
-use Rattle.star_spec.specs.Operators.{unary_row, binary_row}
-use Rattle.star_spec.specs.Outcomes.{paid, give, ◌>>=◌}
+use Rattle.operator_spec.specs.Operators.{unary_row, binary_row}
+use Rattle.value_spec.specs.Outcomes.{paid, give, ◌>>=◌}
 use Rattle.code_spec.specs.Unbuilt.{unbuilt_expr, unbuilt_exprs}
-use Rattle.star_spec.specs.Values.{tuple_value, values_from, Env}
+use Rattle.value_spec.specs.Values.{tuple_value, values_from, Env}
 use Rattle.code_spec.proofs.UnbuiltBlocks.{none_in_both}
 use Rattle.star_eval.specs.SoFar.{value_so_far, values_so_far}
 

@@ -1,6 +1,6 @@
 -- Computations behind one another.
 use Rattle.std.proofs.Common.{◌≡◌, refl}
-use Rattle.star_spec.specs.Outcomes.{Ending, Computation, done, bad, then_do}
+use Rattle.value_spec.specs.Outcomes.{Ending, Computation, done, bad, then_do}
 
 -- one computation behind two others
 pub in_a_row : {H A B C : Type 0} (r : Ending H A) (f : A → Computation H B) (g : B → Computation H C) → then_do (then_do r f) g ≡ then_do r (λ a s. then_do (f a s) g)

@@ -12,14 +12,14 @@ use Rattle.code_spec.specs.Code as plain
 use Rattle.code_spec.specs.Code.{Name, Statement}
 use Rattle.star_spec.specs.Eval.{starlark}
 use Rattle.star_spec.specs.Flow.{Flow}
-use Rattle.star_spec.specs.Outcomes.{State, Ending, bad, give, then_do}
+use Rattle.value_spec.specs.Outcomes.{State, Ending, bad, give, then_do}
 use Rattle.code_spec.specs.Program.{Instruction}
 use Rattle.code_spec.specs.Scopes.{ops_names}
 use Rattle.code_spec.specs.Unbuilt.{unbuilt_op, unbuilt_ops}
-use Rattle.star_spec.specs.Store.{object}
-use Rattle.star_spec.specs.Values.{Env, of_box}
+use Rattle.value_spec.specs.Store.{object}
+use Rattle.value_spec.specs.Values.{Env, of_box}
 use Rattle.code_spec.proofs.UnbuiltBlocks.{none_in_both}
-use Rattle.star_ops.specs.Meets.{in_store}
+use Rattle.plain_ops.specs.Meets.{in_store}
 use Rattle.star_resolve.specs.Frames.{boxed, unset_boxes, with_unset}
 use Rattle.star_resolve.specs.Variables.{each_once}
 use Rattle.star_resolve.proofs.Frames.{new_frames}

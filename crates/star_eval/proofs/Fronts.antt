@@ -6,11 +6,11 @@ use Rattle.ytt_base.specs.declared.fault.Stop.{Stop}
 use Rattle.ytt_base.specs.declared.fault.Stop.TheVariants as stop
 use Rattle.code_spec.specs.Blocks.{Ops, an_op, op_part}
 use Rattle.star_spec.specs.Flow.{Flow, on, go_on}
-use Rattle.star_spec.specs.Outcomes.{State, Ending, done, bad, then_do}
+use Rattle.value_spec.specs.Outcomes.{State, Ending, done, bad, then_do}
 use Rattle.code_spec.specs.Program.{NodePart, node_start, node_note, node_key, node_key_from, node_value, node_value_from, node_end}
-use Rattle.star_spec.specs.Values.{Env}
+use Rattle.value_spec.specs.Values.{Env}
 use Rattle.star_blocks.specs.declared.block.Op.{Op}
-use Rattle.star_ops.specs.Meets.{Meets}
+use Rattle.plain_ops.specs.Meets.{Meets}
 use Rattle.node_build.specs.Parts.{written_part}
 use Rattle.star_eval.specs.Meets.{Here}
 use Rattle.star_eval.specs.PartsSoFar.{Nodes, is_written, part_done, parts_so_far}

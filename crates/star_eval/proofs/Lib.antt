@@ -9,3 +9,4 @@ pub mod Rows
 pub mod Open
 pub mod Fronts
 pub mod FileRuns
+pub mod Augments

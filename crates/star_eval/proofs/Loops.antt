@@ -3,11 +3,11 @@ use Rattle.std.proofs.Common.{◌≡◌, ◌+◌, ℕ, zero, suc, List, [], ◌�
 use Rattle.ytt_base.specs.declared.fault.Place.{Place}
 use Rattle.code_spec.specs.Code as plain
 use Rattle.star_spec.specs.Flow.{Part, on, turns}
-use Rattle.star_spec.specs.Outcomes.{State, Ending, done, bad, finally, on_store, ◌>>=◌}
-use Rattle.star_spec.specs.Store.{end_loop}
-use Rattle.star_spec.specs.Values.{Value, tuple_value, values_in, values_from, Env}
-use Rattle.star_ops.specs.declared.value.Value.{Value as Held}
-use Rattle.star_ops.specs.View.{value_of, values_of}
+use Rattle.value_spec.specs.Outcomes.{State, Ending, done, bad, finally, on_store, ◌>>=◌}
+use Rattle.value_spec.specs.Store.{end_loop}
+use Rattle.value_spec.specs.Values.{Value, tuple_value, values_in, values_from, Env}
+use Rattle.plain_ops.specs.declared.value.Value.{Value as Held}
+use Rattle.plain_ops.specs.View.{value_of, values_of}
 use Rattle.star_eval.specs.PartsSoFar.{Nodes, assigned, looped}
 use Rattle.star_eval.specs.Meets.{Here}
 

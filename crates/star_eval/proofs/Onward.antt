@@ -2,8 +2,8 @@
 use Rattle.std.proofs.Common.{◌≡◌, ◌≤◌, ◌+◌, ◌++◌, ℕ, List, [], ◌∷◌, length, reverse, Result, Ok, Err, IfOk, ap, ◌∙◌, arith}
 use Rattle.std.proofs.lemmas.List.{length_push, reverse-append}
 use Rattle.star_spec.specs.Flow.{Flow}
-use Rattle.star_spec.specs.Outcomes.{Ending, then_do}
-use Rattle.star_spec.specs.Values.{Value}
+use Rattle.value_spec.specs.Outcomes.{Ending, then_do}
+use Rattle.value_spec.specs.Values.{Value}
 use Rattle.star_eval.specs.declared.frame.Control.{Control}
 use Rattle.star_eval.specs.declared.frame.Machine.{Machine}
 use Rattle.star_eval.specs.declared.frame.Frame.{Frame}

@@ -1,6 +1,6 @@
 -- Nodes that are open.
 use Rattle.std.proofs.Common.{◌≡◌, true, [], ◌∷◌, refl}
-use Rattle.star_spec.specs.Outcomes.{Computation}
+use Rattle.value_spec.specs.Outcomes.{Computation}
 use Rattle.node_build.specs.View.{has_two}
 use Rattle.star_eval.specs.PartsSoFar.{Nodes, with_two}
 

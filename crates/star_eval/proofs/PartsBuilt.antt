@@ -5,14 +5,15 @@ use Rattle.ytt_base.specs.declared.fault.Place.{Place}
 use Rattle.code_spec.specs.Code as plain
 use Rattle.code_spec.specs.Code.{Name}
 use Rattle.code_spec.specs.Blocks.{Op, op_part, op_statement, op_if, op_for, op_def, Ops, no_ops, an_op, Arms, no_arm, else_arm, arm}
-use Rattle.star_spec.specs.Eval.{eval, assign_to, assign_each, augment_row, augment_to, count_exprs, members_of, starlark, truth_of}
+use Rattle.operator_spec.specs.Operators.{augment_row}
+use Rattle.star_spec.specs.Eval.{eval, assign_to, assign_each, augment_to, count_exprs, members_of, starlark, truth_of}
 use Rattle.star_spec.specs.Flow.{Flow, on, Part, in_turn, over_members, plain as as_part, worded}
 use Rattle.star_spec.specs.Language.{Call, Word, breaks, continues, returns, execute}
 use Rattle.star_spec.specs.Names.{box_of, read_name, write_name}
-use Rattle.star_spec.specs.Outcomes.{Computation, give, need, paid, take_steps, ◌>>=◌}
+use Rattle.value_spec.specs.Outcomes.{Computation, give, need, paid, take_steps, ◌>>=◌}
 use Rattle.code_spec.specs.Program.{NodePart, node_start, node_note, node_key, node_key_from, node_value, node_value_from, node_end}
 use Rattle.code_spec.specs.Unbuilt.{unbuilt_expr, unbuilt_target, unbuilt_targets, unbuilt_statement, unbuilt_part, unbuilt_op, unbuilt_ops, unbuilt_arms}
-use Rattle.star_spec.specs.Values.{Value, Env}
+use Rattle.value_spec.specs.Values.{Value, Env}
 use Rattle.code_spec.proofs.UnbuiltBlocks.{none_in_both}
 use Rattle.template_meaning.specs.Run.{node_part, run, runs, run_arms}
 use Rattle.node_build.specs.Parts.{taking}

@@ -4,12 +4,12 @@ use Rattle.ytt_base.specs.declared.fault.FaultKind.TheVariants as kind
 use Rattle.ytt_base.specs.declared.fault.Place.{Place}
 use Rattle.ytt_base.specs.Outcomes.{fault_at}
 use Rattle.star_spec.specs.Eval.{count_exprs}
-use Rattle.star_spec.specs.Outcomes.{State, Ending, Computation, bad, need, give, then_do, ◌>>=◌}
-use Rattle.star_spec.specs.Values.{Value, tuple_value, values_in, values_from, Env}
+use Rattle.value_spec.specs.Outcomes.{State, Ending, Computation, bad, need, give, then_do, ◌>>=◌}
+use Rattle.value_spec.specs.Values.{Value, tuple_value, values_in, values_from, Env}
 use Rattle.star_tree.specs.declared.code.Expr.{Expr}
 use Rattle.star_tree.specs.Whole.{expr_of, exprs_of}
-use Rattle.star_ops.specs.declared.value.Value.{Value as Held}
-use Rattle.star_ops.specs.View.{values_of}
+use Rattle.plain_ops.specs.declared.value.Value.{Value as Held}
+use Rattle.plain_ops.specs.View.{values_of}
 use Rattle.star_eval.specs.declared.assign.Row.{Row}
 use Rattle.star_eval.specs.Meets.{Here}
 use Rattle.star_eval.specs.PartsSoFar.{assigned, assigned_each}
@@ -73,5 +73,5 @@ row_on p env file es rest t vs v more rows s e f =
 
 -- the end of all rows
 pub alone : (r : Ending Here Here) → then_do r (λ u. give tt) ≡ r
-alone (Rattle.star_spec.specs.Outcomes.done u s) = refl
+alone (Rattle.value_spec.specs.Outcomes.done u s) = refl
 alone (bad f s) = refl

@@ -1,8 +1,8 @@
 -- A fault in the place of a value goes on alike, whichever nodes are open.
 use Rattle.std.proofs.Common.{◌≡◌, ℕ, List, [], ◌∷◌, refl}
 use Rattle.ytt_base.specs.declared.fault.Fault.{Fault}
-use Rattle.star_spec.specs.Outcomes.{State, bad}
-use Rattle.star_spec.specs.Values.{Env}
+use Rattle.value_spec.specs.Outcomes.{State, bad}
+use Rattle.value_spec.specs.Values.{Env}
 use Rattle.star_eval.specs.declared.frame.Frame.{Frame}
 use Rattle.star_eval.specs.declared.frame.Frame.TheVariants as frame
 use Rattle.star_eval.specs.Frames.{unwind_value}

@@ -7,10 +7,10 @@ use Rattle.ytt_base.specs.View.{trees_of}
 use Rattle.star_spec.specs.Calls.{Host}
 use Rattle.code_spec.specs.Code.{Name}
 use Rattle.star_spec.specs.Eval.{starlark}
-use Rattle.star_spec.specs.Outcomes.{Ending, done, bad}
+use Rattle.value_spec.specs.Outcomes.{Ending, done, bad}
 use Rattle.code_spec.specs.Program.{Instruction}
 use Rattle.code_spec.specs.Unbuilt.{unbuilt_code}
-use Rattle.star_ops.specs.Meets.{in_store}
+use Rattle.plain_ops.specs.Meets.{in_store}
 use Rattle.template_meaning.specs.Calls.{bottom_children}
 use Rattle.template_meaning.specs.Files.{FileResult, Loader}
 use Rattle.template_meaning.specs.Meaning.{RunFile, documents}

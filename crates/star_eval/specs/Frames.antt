@@ -2,19 +2,20 @@
 use Rattle.std.specs.Prelude.{◌≡◌, ◌<◌, ◌+◌, ◌*◌, ℕ, Bool, true, not, List, [], ◌∷◌, ◌++◌, drop, reverse, length, Result, Ok, Err, IfOk, if◌then◌else◌}
 use Rattle.ytt_base.specs.declared.fault.Fault.{Fault}
 use Rattle.ytt_base.specs.declared.fault.Place.{Place}
-use Rattle.star_spec.specs.Values as plain
-use Rattle.star_spec.specs.Values.{tuple_value, values_from, Env}
-use Rattle.star_spec.specs.Outcomes.{State, Ending, Computation, done, bad, then_do, give, ill_formed, ◌>>=◌}
-use Rattle.star_spec.specs.Operators.{unary_row, binary_row}
-use Rattle.star_spec.specs.Members.{is_empty}
+use Rattle.value_spec.specs.Values as plain
+use Rattle.value_spec.specs.Values.{tuple_value, values_from, Env}
+use Rattle.value_spec.specs.Outcomes.{State, Ending, Computation, done, bad, then_do, give, ill_formed, ◌>>=◌}
+use Rattle.operator_spec.specs.Operators.{unary_row, binary_row}
+use Rattle.value_spec.specs.Members.{is_empty}
 use Rattle.star_spec.specs.Names.{box_of, write_name}
-use Rattle.star_spec.specs.Eval.{augment_row, truth_of}
+use Rattle.operator_spec.specs.Operators.{augment_row}
+use Rattle.star_spec.specs.Eval.{truth_of}
 use Rattle.star_spec.specs.Flow.{Flow, on, out, Part, go_on, next_turn, turns}
 use Rattle.star_spec.specs.Language.{breaks, continues, returns}
 use Rattle.star_tree.specs.Whole.{expr_of, exprs_of, binary_operator_of, unary_operator_of}
 use Rattle.star_tree.specs.declared.code.Expr as tree
-use Rattle.star_ops.specs.declared.value.Value.{Value}
-use Rattle.star_ops.specs.View.{value_of, values_of}
+use Rattle.plain_ops.specs.declared.value.Value.{Value}
+use Rattle.plain_ops.specs.View.{value_of, values_of}
 use Rattle.star_blocks.specs.declared.block.Op.{Op}
 use Rattle.star_blocks.specs.Nested.{arms_of, ops_of}
 use Rattle.node_build.specs.Parts.{taking}

@@ -1,8 +1,8 @@
 -- The state that a run is in, and what a call does to it.
 use Rattle.std.specs.Prelude.{Result}
 use Rattle.ytt_base.specs.declared.fault.Stop.{Stop}
-use Rattle.star_spec.specs.Outcomes.{State, Computation}
-use Rattle.star_ops.specs.Meets.{Meets}
+use Rattle.value_spec.specs.Outcomes.{State, Computation}
+use Rattle.plain_ops.specs.Meets.{Meets}
 use Rattle.star_eval.specs.declared.session.Session.{Session}
 use Rattle.star_eval.specs.View.{store_of}
 

@@ -5,10 +5,11 @@ use Rattle.ytt_base.specs.declared.fault.FaultKind.TheVariants as kind
 use Rattle.ytt_base.specs.declared.fault.Place.{Place}
 use Rattle.code_spec.specs.Code as plain
 use Rattle.code_spec.specs.Code.{Expr, Exprs, no_exprs, an_expr, name, index, BinaryOperator, Statement, evaluate, assign, augment, load, return, break, continue, pass}
-use Rattle.star_spec.specs.Values.{Value, Env}
-use Rattle.star_spec.specs.Outcomes.{Computation, paid, give, need, not_built, ill_formed, ◌>>=◌}
+use Rattle.value_spec.specs.Values.{Value, Env}
+use Rattle.value_spec.specs.Outcomes.{Computation, paid, give, need, not_built, ill_formed, ◌>>=◌}
 use Rattle.star_spec.specs.Names.{box_of, read_name, write_name}
-use Rattle.star_spec.specs.Eval.{augment_row, count_exprs, members_of, truth_of}
+use Rattle.operator_spec.specs.Operators.{augment_row}
+use Rattle.star_spec.specs.Eval.{count_exprs, members_of, truth_of}
 use Rattle.star_spec.specs.Language.{breaks, continues, returns}
 use Rattle.star_spec.specs.Flow.{on, out, Part, in_turn, over_members}
 use Rattle.code_spec.specs.Program.{NodePart, node_start, node_note, node_key, node_key_from, node_value, node_value_from, node_end}

@@ -3,10 +3,10 @@
 use Rattle.std.specs.Prelude.{List, [], ◌∷◌, Option, Some, None, if◌then◌else◌}
 use Rattle.ytt_base.specs.declared.fault.Place.{Place}
 use Rattle.code_spec.specs.Code.{Expr, int, text, name, list, tuple, dict, unary, binary, conjunction, disjunction, conditional, call, named, starred, double_starred, index, slice, attribute, lambda, list_comprehension, dict_comprehension, text_template, Exprs, no_exprs, an_expr}
-use Rattle.star_spec.specs.Values.{Value, int_value, text_value, tuple_value, values_from, Env}
-use Rattle.star_spec.specs.Outcomes.{Computation, paid, give, not_built, ill_formed, ◌>>=◌}
+use Rattle.value_spec.specs.Values.{Value, int_value, text_value, tuple_value, values_from, Env}
+use Rattle.value_spec.specs.Outcomes.{Computation, paid, give, not_built, ill_formed, ◌>>=◌}
 use Rattle.star_spec.specs.Names.{box_of, read_name}
-use Rattle.star_spec.specs.Operators.{unary_row, binary_row}
+use Rattle.operator_spec.specs.Operators.{unary_row, binary_row}
 use Rattle.star_spec.specs.Eval.{truth_of}
 
 -- ---- expressions

@@ -6,11 +6,11 @@ use Rattle.ytt_base.specs.declared.fault.Stop.{Stop}
 use Rattle.ytt_base.specs.declared.fault.Stop.TheVariants as stop
 use Rattle.code_spec.specs.Code as plain
 use Rattle.code_spec.specs.Code.{Exprs, no_exprs, an_expr}
-use Rattle.star_spec.specs.Outcomes.{State, Ending, Computation, bad, give, need, then_do, ◌>>=◌}
+use Rattle.value_spec.specs.Outcomes.{State, Ending, Computation, bad, give, need, then_do, ◌>>=◌}
 use Rattle.star_spec.specs.Eval.{count_exprs, members_of}
-use Rattle.star_spec.specs.Values.{Value, Env}
+use Rattle.value_spec.specs.Values.{Value, Env}
 use Rattle.star_tree.specs.Whole.{exprs_of}
-use Rattle.star_ops.specs.View.{values_of}
+use Rattle.plain_ops.specs.View.{values_of}
 use Rattle.star_eval.specs.declared.assign.Row.{Row}
 use Rattle.star_eval.specs.Meets.{Here}
 use Rattle.star_eval.specs.PartsSoFar.{assigned_each}

@@ -2,11 +2,11 @@
 use Rattle.std.specs.Prelude.{List, [], Option, Some, None, map as each}
 use Rattle.code_spec.specs.Code.{Name}
 use Rattle.star_resolve.specs.Frames.{boxed}
-use Rattle.star_spec.specs.Values as plain
-use Rattle.star_spec.specs.Values.{Env, of_box, Object, Store}
-use Rattle.star_spec.specs.Store.{object}
-use Rattle.star_ops.specs.declared.value.Value.{Value}
-use Rattle.star_ops.specs.View.{value_of}
+use Rattle.value_spec.specs.Values as plain
+use Rattle.value_spec.specs.Values.{Env, of_box, Object, Store}
+use Rattle.value_spec.specs.Store.{object}
+use Rattle.plain_ops.specs.declared.value.Value.{Value}
+use Rattle.plain_ops.specs.View.{value_of}
 use Rattle.star_eval.specs.declared.session.Slot.{Slot}
 
 -- the scope of a file, whose names get the first boxes, in their order

@@ -5,8 +5,8 @@ use Rattle.ytt_base.specs.declared.fault.Stop.{Stop}
 use Rattle.ytt_base.specs.declared.fault.Stop.TheVariants as stop
 use Rattle.code_spec.specs.Blocks.{Ops, no_ops, an_op, op_part, op_statement, op_if, op_for, op_def}
 use Rattle.star_spec.specs.Flow.{Flow}
-use Rattle.star_spec.specs.Outcomes.{State, Ending, bad}
-use Rattle.star_spec.specs.Values.{Env}
+use Rattle.value_spec.specs.Outcomes.{State, Ending, bad}
+use Rattle.value_spec.specs.Values.{Env}
 use Rattle.star_tree.specs.Whole.{part_of}
 use Rattle.star_tree.specs.declared.code.NodeOp.{NodeOp}
 use Rattle.star_blocks.specs.declared.block.Op.{Op}

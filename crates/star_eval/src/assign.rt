@@ -3,13 +3,13 @@ ghost use Rattle.std.specs.Prelude.{◌≡◌, ◌≤◌, ◌<◌, ◌+◌, ◌�
 ghost use Rattle.ytt_base.specs.declared.fault.FaultKind.TheVariants as kind;
 ghost use Rattle.ytt_base.specs.declared.fault.Stop.TheVariants as stop;
 ghost use Rattle.ytt_base.specs.Outcomes.{fault_of};
-ghost use Rattle.star_spec.specs.Eval.{augment_row};
+ghost use Rattle.operator_spec.specs.Operators.{augment_row};
 ghost use Rattle.star_spec.specs.Flow.{on};
 ghost use Rattle.star_spec.specs.Names.{box_of, write_name};
-ghost use Rattle.star_spec.specs.Outcomes.{give, then_do};
-ghost use Rattle.star_spec.specs.Values.{Env};
+ghost use Rattle.value_spec.specs.Outcomes.{give, then_do};
+ghost use Rattle.value_spec.specs.Values.{Env};
 ghost use Rattle.star_tree.specs.Whole.{binary_operator_of, expr_of, exprs_of};
-ghost use Rattle.star_ops.specs.View.{value_of};
+ghost use Rattle.plain_ops.specs.View.{value_of};
 ghost use Rattle.star_eval.specs.Frames.{GoesToFlow, env_in, nodes_in};
 ghost use Rattle.star_eval.specs.Meets.{Does, state_of};
 ghost use Rattle.star_eval.specs.PartsSoFar.{assigned, concluded};
@@ -21,8 +21,8 @@ use crate::names::write;
 use crate::operate::operate;
 use crate::refusals::refusal;
 use crate::session::Session;
+use plain_ops::Value;
 use sqlite_items::Items;
-use star_ops::Value;
 use star_resolve::Scope;
 use star_tree::code::{BinOp, Expr};
 use std::alloc::Global;
@@ -239,13 +239,7 @@ fn augment(
     ensures meaning { Does value_of result session.new session.old (augment_row place (binary_operator_of op) (value_of old.now) (value_of value.now)) }
     ensures spent { session.new.steps ≤ session.old.steps }
 {
-    match old {
-        Value::None => operate(alloc, place, op, old, value, session),
-        Value::Bool(_) => operate(alloc, place, op, old, value, session),
-        Value::Int(_) => operate(alloc, place, op, old, value, session),
-        Value::Text(_) => operate(alloc, place, op, old, value, session),
-        Value::Tuple(_) => operate(alloc, place, op, old, value, session),
-    }
+    operate(alloc, place, op, old, value, session)
 }
 
 /// A name, at a place, gets a value, and the statement ends.

@@ -2,7 +2,7 @@
 ghost use Rattle.std.specs.Prelude.{◌≡◌, ◌≤◌, IfOk, List, ℕ, false, reverse};
 ghost use Rattle.star_blocks.specs.Nested.{ops_of};
 ghost use Rattle.code_spec.specs.Blocks.{an_op, op_part};
-ghost use Rattle.star_spec.specs.Values.{Env};
+ghost use Rattle.value_spec.specs.Values.{Env};
 ghost use Rattle.star_tree.specs.Whole.{part_of};
 ghost use Rattle.node_build.specs.View.{nodes_of};
 ghost use Rattle.star_eval.specs.Frames.{GoesToFlowBy, env_in, nodes_in};

@@ -2,9 +2,9 @@
 
 use crate::session::Session;
 use node_build::Builder;
+use plain_ops::Value;
 use sqlite_items::Items;
 use star_blocks::{Arm, Op};
-use star_ops::Value;
 use star_resolve::Scope;
 use star_tree::code::{BinOp, Expr, UnOp};
 use std::rc::Rc;

@@ -1,8 +1,8 @@
 // What goes on from a value.
 ghost use Rattle.std.specs.Prelude.{◌≡◌, ◌∷◌, [], reverse, IfOk, List};
-ghost use Rattle.star_spec.specs.Operators.{binary_row, unary_row};
+ghost use Rattle.operator_spec.specs.Operators.{binary_row, unary_row};
 ghost use Rattle.star_tree.specs.Whole.{binary_operator_of, unary_operator_of};
-ghost use Rattle.star_ops.specs.View.{value_of};
+ghost use Rattle.plain_ops.specs.View.{value_of};
 ghost use Rattle.node_build.specs.Parts.{taking};
 ghost use Rattle.star_eval.specs.declared.frame.Control.TheVariants as control;
 ghost use Rattle.star_eval.specs.Frames.{Goes, GoesToFlow, GoesToValue, around_flow, around_value, budget, env_in, inside, nodes_in, statement_goes, value_goes};
@@ -15,7 +15,7 @@ use crate::machine::{ill_flow, push};
 use crate::operate::{operate, operate_on};
 use crate::run::choose;
 use crate::walk::walk;
-use star_ops::{Value, truth};
+use plain_ops::{Value, truth};
 use star_tree::code::{BinOp, UnOp};
 use std::alloc::Global;
 use ytt_base::fault::{Place, Stop};

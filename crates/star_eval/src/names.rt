@@ -2,17 +2,17 @@
 ghost use Rattle.std.specs.Prelude.{◌≡◌, Some};
 ghost use Rattle.ytt_base.specs.declared.fault.Stop.TheVariants as stop;
 ghost use Rattle.star_spec.specs.Names.{constant, read_name, unbound, write_name};
-ghost use Rattle.star_spec.specs.Outcomes.{fail_with};
-ghost use Rattle.star_spec.specs.Store.{change, with_contents};
-ghost use Rattle.star_spec.specs.Values.{of_box};
-ghost use Rattle.star_ops.specs.Meets.{Meets, Tells};
-ghost use Rattle.star_ops.specs.View.{value_of};
+ghost use Rattle.value_spec.specs.Outcomes.{fail_with};
+ghost use Rattle.value_spec.specs.Store.{change, with_contents};
+ghost use Rattle.value_spec.specs.Values.{of_box};
+ghost use Rattle.plain_ops.specs.Meets.{Meets, Tells};
+ghost use Rattle.plain_ops.specs.View.{value_of};
 ghost use Rattle.star_eval.specs.Meets.{state_of};
 ghost use Rattle.star_eval.specs.View.{store_of};
 
 use crate::refusals::refusal;
 use crate::session::{Session, Slot};
-use star_ops::Value;
+use plain_ops::Value;
 use star_tree::names::is_own_function;
 use std::alloc::Global;
 use ytt_base::fault::{Fault, FaultKind, Place, Stop};

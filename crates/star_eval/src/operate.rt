@@ -1,12 +1,12 @@
 // Operators, whose steps are the session's.
 ghost use Rattle.std.specs.Prelude.{◌≡◌, ◌≤◌};
-ghost use Rattle.star_spec.specs.Operators.{binary_row, unary_row};
+ghost use Rattle.operator_spec.specs.Operators.{binary_row, unary_row};
 ghost use Rattle.star_tree.specs.Whole.{binary_operator_of, unary_operator_of};
-ghost use Rattle.star_ops.specs.View.{value_of};
+ghost use Rattle.plain_ops.specs.View.{value_of};
 ghost use Rattle.star_eval.specs.Meets.{Does};
 
 use crate::session::Session;
-use star_ops::{Value, binary, unary};
+use plain_ops::{Value, binary, unary};
 use star_tree::code::{BinOp, UnOp};
 use std::alloc::Global;
 use ytt_base::fault::{Place, Stop};

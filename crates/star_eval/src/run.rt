@@ -2,7 +2,7 @@
 ghost use Rattle.std.specs.Prelude.{◌≡◌, Some, reverse, IfOk, List, ℕ, false};
 ghost use Rattle.ytt_base.specs.declared.fault.Place.{Place};
 ghost use Rattle.code_spec.specs.Code as plain;
-ghost use Rattle.star_spec.specs.Outcomes.{then_do};
+ghost use Rattle.value_spec.specs.Outcomes.{then_do};
 ghost use Rattle.star_tree.specs.Whole.{binary_operator_of, expr_of};
 ghost use Rattle.star_eval.specs.declared.frame.Control.TheVariants as control;
 ghost use Rattle.star_eval.specs.Frames.{GoesToFlowBy, Goes, GoesToFlow, around_flow, budget, env_in, means, nodes_in, statement_goes, work};

@@ -1,7 +1,7 @@
 // What goes on through a run.
 
+use plain_ops::Value;
 use sqlite_items::Items;
-use star_ops::Value;
 
 /// A box, which has a value once one was assigned.
 #[derive(Drop)]

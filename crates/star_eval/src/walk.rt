@@ -1,9 +1,9 @@
 // Loops.
 ghost use Rattle.std.specs.Prelude.{◌≡◌, ◌∷◌, drop, reverse, IfOk, List};
 ghost use Rattle.star_spec.specs.Flow.{next_turn, turns};
-ghost use Rattle.star_spec.specs.Outcomes.{then_do};
+ghost use Rattle.value_spec.specs.Outcomes.{then_do};
 ghost use Rattle.star_tree.specs.Whole.{expr_of};
-ghost use Rattle.star_ops.specs.View.{value_of, values_of};
+ghost use Rattle.plain_ops.specs.View.{value_of, values_of};
 ghost use Rattle.star_eval.specs.Frames.{GoesToFlow, GoesToFlowBy, env_in, nodes_in, turn_of, turns_from};
 ghost use Rattle.star_eval.specs.Meets.{state_of};
 ghost use Rattle.star_blocks.specs.Nested.{ops_of};
@@ -12,9 +12,9 @@ ghost use Rattle.star_eval.specs.PartsSoFar.{looped, parts_so_far};
 use crate::assign::assign;
 use crate::frame::{Control, Flow, Frame, InBlock, Machine};
 use crate::machine::{left, push};
+use plain_ops::Value;
 use sqlite_items::Items;
 use star_blocks::Op;
-use star_ops::Value;
 use star_tree::code::Expr;
 use std::alloc::Global;
 use std::rc::Rc;

@@ -9,10 +9,10 @@ use Rattle.star_spec.specs.Binding.{Given, given, rest_given, all_bound, bound, 
 use Rattle.code_spec.specs.Code.{Name, Parameters, no_parameters, required, defaulted, bare_star, starred_parameter, double_starred_parameter}
 use Rattle.code_spec.specs.Options.{further, or_else}
 use Rattle.star_spec.specs.Names.{box_of, with_box, with_boxes}
-use Rattle.star_spec.specs.Outcomes.{State, Ending, done, bad, then_do, give, on_store, or_fail}
+use Rattle.value_spec.specs.Outcomes.{State, Ending, done, bad, then_do, give, on_store, or_fail}
 use Rattle.code_spec.specs.Scopes.{Around, home_by, binds, outward}
-use Rattle.star_spec.specs.Store.{with_object}
-use Rattle.star_spec.specs.Values.{Value, tuple_value, Values, no_values, a_value, Fields, no_fields, a_field, Arguments, arguments, Env, of_box}
+use Rattle.value_spec.specs.Store.{with_object}
+use Rattle.value_spec.specs.Values.{Value, tuple_value, Values, no_values, a_value, Fields, no_fields, a_field, Arguments, arguments, Env, of_box}
 use Rattle.star_resolve.specs.Environments.{BoxesOf, CallScopes, NamesHaveTheirBoxes, NewScopes, Parts, box_at_home, has_box, joined}
 
 -- ---- look-ups

@@ -8,10 +8,10 @@ use Rattle.star_spec.specs.Binding.{Given, given, rest_given, boxes_of, value_gi
 use Rattle.code_spec.specs.Code.{Name}
 use Rattle.code_spec.specs.Options.{further, or_else}
 use Rattle.star_spec.specs.Names.{box_of, with_box, with_boxes}
-use Rattle.star_spec.specs.Outcomes.{State, Ending, done, bad, then_do, give, on_store}
+use Rattle.value_spec.specs.Outcomes.{State, Ending, done, bad, then_do, give, on_store}
 use Rattle.code_spec.specs.Scopes.{Around, Use, Home, local, global, builtin, unknown, binds, home_by, home_of, outward}
-use Rattle.star_spec.specs.Store.{object, with_object}
-use Rattle.star_spec.specs.Values.{Env, of_box}
+use Rattle.value_spec.specs.Store.{object, with_object}
+use Rattle.value_spec.specs.Values.{Env, of_box}
 use Rattle.star_resolve.specs.Environments.{Parts, box_at_home, has_box, joined, part_at}
 use Rattle.star_resolve.specs.declared.levels.Variable.{Variable}
 use Rattle.star_resolve.specs.declared.levels.Variable.TheVariants as variable

@@ -5,9 +5,9 @@ use Rattle.code_spec.specs.Allowed.{AllowedParameters, all_left, parameter_names
 use Rattle.star_spec.specs.Binding.{scope_of_call}
 use Rattle.code_spec.specs.Code.{Name, Parameters}
 use Rattle.star_spec.specs.Names.{box_of, with_boxes}
-use Rattle.star_spec.specs.Outcomes.{State, done}
+use Rattle.value_spec.specs.Outcomes.{State, done}
 use Rattle.code_spec.specs.Scopes.{Around, Use, Home, local, global, builtin, unknown, home_of, binds}
-use Rattle.star_spec.specs.Values.{Value, Arguments, Env}
+use Rattle.value_spec.specs.Values.{Value, Arguments, Env}
 
 -- the boxes are those of these names, and of no others
 abbrev pub BoxesOf : List Name → Env → Type 0

@@ -6,10 +6,10 @@ use Rattle.code_spec.specs.Allowed.{AllowedParameters, all_left, are_distinct, p
 use Rattle.star_spec.specs.Binding.{Given, all_bound, boxes_of}
 use Rattle.code_spec.specs.Code.{Name, Parameters}
 use Rattle.star_spec.specs.Names.{box_of, with_boxes}
-use Rattle.star_spec.specs.Outcomes.{State, done, on_store}
+use Rattle.value_spec.specs.Outcomes.{State, done, on_store}
 use Rattle.code_spec.specs.Scopes.{Around, Use, home_of}
-use Rattle.star_spec.specs.Store.{object}
-use Rattle.star_spec.specs.Values.{Value, Arguments, Env, Store, of_box}
+use Rattle.value_spec.specs.Store.{object}
+use Rattle.value_spec.specs.Values.{Value, Arguments, Env, Store, of_box}
 use Rattle.star_resolve.specs.declared.levels.Variable.{Variable}
 use Rattle.star_resolve.specs.declared.levels.Variable.TheVariants as variable
 use Rattle.star_resolve.specs.Environments.{BoxesOf, has_box, joined}

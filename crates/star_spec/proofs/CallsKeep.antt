@@ -10,10 +10,11 @@ use Rattle.star_spec.specs.Eval.{starlark}
 use Rattle.star_spec.specs.Held.{HeldValue, HeldValues, HeldFields, HeldExpr, HeldExprs, HeldParameters, HeldStatement, HeldList, has_equal_key, HeldPairs, HeldArguments}
 use Rattle.star_spec.specs.Language.{Call, Keyed, without_keys, asks_keys, Language, Word, breaks, continues, returns, execute, define}
 use Rattle.star_spec.specs.Names.{box_of}
-use Rattle.star_spec.specs.Outcomes.{Ending, done, bad, then_do, Computation}
-use Rattle.star_spec.specs.Store.{object_at, function_at}
-use Rattle.star_spec.specs.Values.{Value, text_value, tuple_value, dict_value, function_value, builtin_value, method_value, native_value, Values, no_values, a_value, Fields, no_fields, a_field, Arguments, arguments, one_value, Env, Function, of_dict, of_box, of_function}
-use Rattle.star_spec.proofs.EvalKeeps.{CallKeeps, eval_keeps, arguments_keep, assign_keeps, augment_keeps, defaults_keep, members_keep, truth_keeps, write_keeps, boxes_keep}
+use Rattle.value_spec.specs.Outcomes.{Ending, done, bad, then_do, Computation}
+use Rattle.value_spec.specs.Store.{object_at, function_at}
+use Rattle.value_spec.specs.Values.{Value, text_value, tuple_value, dict_value, function_value, native_value, builtin, method, host_native, Values, no_values, a_value, Fields, no_fields, a_field, Arguments, arguments, one_value, Env, Function, of_dict, of_box, of_function}
+use Rattle.star_spec.proofs.EvalKeeps.{CallKeeps, eval_keeps, arguments_keep, assign_keeps, augment_keeps, defaults_keep, truth_keeps, write_keeps, boxes_keep}
+use Rattle.star_spec.proofs.MembersHeld.{members_keep}
 use Rattle.star_spec.proofs.Keeping.{Kept, Keeps, Anything, keeps_then, keeps_give, keeps_fail, keeps_or_fail, keeps_ill_formed, keeps_or_ill_formed, keeps_paid, keeps_reads, keeps_new_object, object_held, HeldFunction, function_held}
 
 -- ---- a language
@@ -239,9 +240,9 @@ module _ {H : Type 0} (language : Language H) (keeps : LanguageKeeps language) w
       → ((p : Place) (f : Value) (vs : Arguments) (k : Keyed) → HeldValue f → HeldArguments vs → HeldKeyed k → Keeps HeldValue (keyed p f vs k))
       → (p : Place) (f : Value) (vs : Arguments) → HeldValue f → HeldArguments vs → Keeps HeldValue (call_by_kind language function native keyed p f vs)
   kind_keeps function native keyed fs ns ks p (function_value r) vs h k = fs.by p (function_value r) vs h k
-  kind_keeps function native keyed fs ns ks p (builtin_value x) vs h k = keeps_then (keeps.own p (builtin_value x) vs h k) (λ g i. ks p (builtin_value x) vs g h k i)
-  kind_keeps function native keyed fs ns ks p (method_value x v) vs h k = keeps_then (keeps.own p (method_value x v) vs h k) (λ g i. ks p (method_value x v) vs g h k i)
-  kind_keeps function native keyed fs ns ks p (native_value x held) vs h k = ns p x held vs h k
+  kind_keeps function native keyed fs ns ks p (native_value (builtin x)) vs h k = keeps_then (keeps.own p (native_value (builtin x)) vs h k) (λ g i. ks p (native_value (builtin x)) vs g h k i)
+  kind_keeps function native keyed fs ns ks p (native_value (method x v)) vs h k = keeps_then (keeps.own p (native_value (method x v)) vs h k) (λ g i. ks p (native_value (method x v)) vs g h k i)
+  kind_keeps function native keyed fs ns ks p (native_value (host_native x held)) vs h k = ns p x held vs h k
   kind_keeps function native keyed fs ns ks p _ vs h k = keeps_fail kind.ValueKind p []
 
   no_keys_keep : (p : Place) (f : Value) (vs : Arguments) (k : Keyed) → HeldKeyed k → Keeps {H = H} HeldValue (no_keys p f vs k)

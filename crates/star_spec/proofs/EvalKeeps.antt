@@ -1,5 +1,5 @@
 -- Expressions, arguments and targets keep what the program holds, where their literals are such and calls keep it.
-use Rattle.std.proofs.Common.{◌≡◌, ℤ, Bool, true, false, ◌||◌, if◌then◌else◌, is_some, List, [], ◌∷◌, ◌++◌, map, slice_get, slice_set, ℕ, zero, suc, Option, Some, None, IsUtf8, bytes_eq, refl, ap, ◌∙◌, codes}
+use Rattle.std.proofs.Common.{◌≡◌, Bool, true, false, if◌then◌else◌, is_some, List, [], ◌∷◌, ◌++◌, ℕ, Option, Some, None, IsUtf8, bytes_eq, codes}
 use Rattle.std.proofs.lemmas.Str.{IsUtf8-nil, IsUtf8-append}
 use Rattle.ytt_base.specs.declared.fault.FaultKind.{FaultKind}
 use Rattle.ytt_base.specs.declared.fault.FaultKind.TheVariants as kind
@@ -7,20 +7,20 @@ use Rattle.ytt_base.specs.declared.fault.Place.{Place}
 use Rattle.ytt_base.specs.Trees.{max_depth}
 use Rattle.code_spec.specs.Code as code
 use Rattle.code_spec.specs.Code.{Name, BinaryOperator, addition, Expr, Exprs, no_exprs, an_expr, OptionalExpr, absent, present, Entries, no_entries, an_entry, Clauses, no_clauses, for_clause, if_clause, Pieces, no_pieces, text_piece, expr_piece, Parameters, no_parameters, required, defaulted, bare_star, starred_parameter, double_starred_parameter}
-use Rattle.star_spec.specs.Eval.{truth_of, members_of, new_list, new_dict, need_key, display_pair, turn_pair, and_values, and_fields, with_values, with_fields, field_in_front, as_fields, spread_fields, built_so_far, augment_row, eval, eval_all, eval_arguments, eval_optional, eval_entries, eval_pieces, comprehend, clauses_in_turn, default_values, assign_to, assign_each, augment_to}
+use Rattle.star_spec.specs.Eval.{truth_of, members_of, need_key, display_pair, turn_pair, and_values, and_fields, with_values, with_fields, field_in_front, as_fields, spread_fields, built_so_far, eval, eval_all, eval_arguments, eval_optional, eval_entries, eval_pieces, comprehend, clauses_in_turn, default_values, assign_to, assign_each, augment_to}
 use Rattle.star_spec.specs.Flow.{Flow, on, out, Part, next_turn, turns, walk, over_members}
-use Rattle.star_spec.specs.Held.{HeldValue, HeldValues, HeldFields, HeldNumbers, HeldExpr, HeldExprs, HeldOptional, HeldEntries, HeldClauses, HeldPieces, HeldParameters, HeldList, has_equal_key, HeldPairs, HeldIfAny, HeldStore, HeldArguments}
-use Rattle.star_spec.specs.Keys.{same_key, key_offence, key_cost, place_of_key}
-use Rattle.code_spec.specs.Options.{further}
+use Rattle.star_spec.specs.Held.{HeldValue, HeldValues, HeldFields, HeldExpr, HeldExprs, HeldOptional, HeldEntries, HeldClauses, HeldPieces, HeldParameters, HeldList, HeldPairs, HeldIfAny, HeldArguments}
+use Rattle.value_spec.specs.Keys.{key_offence, key_cost, place_of_key}
 use Rattle.star_spec.specs.Language.{Call, breaks, continues, returns}
-use Rattle.star_spec.specs.Members.{keys_in, members_in, walked_in, truth_in}
+use Rattle.value_spec.specs.Members.{walked_in, truth_in}
 use Rattle.star_spec.specs.Names.{constant, box_of, with_box, with_boxes, value_or_unset, unbound, read_name, fill_box, write_name}
 use Rattle.code_spec.specs.Names.{own_functions, is_among, target_names, clauses_names}
-use Rattle.star_spec.specs.Outcomes.{Computation, ◌>>=◌}
-use Rattle.star_spec.specs.Store.{object_at, pairs_at, with_value, with_pair, put_pair, with_contents, end_loop, box_at}
-use Rattle.star_spec.specs.Values.{Value, none_value, bool_value, int_value, text_value, tuple_value, range_value, list_value, dict_value, function_value, Values, no_values, a_value, values_in, values_from, Fields, no_fields, a_field, Arguments, arguments, Env, of_list, of_dict, of_box, of_function, Store}
-use Rattle.star_spec.proofs.Keeping.{Keeps, Anything, keeps_then, keeps_give, keeps_fail, keeps_or_fail, keeps_ill_formed, keeps_need, keeps_steps, keeps_paid, keeps_if, keeps_reads, keeps_new_object, object_held, list_held, pairs_held, box_held, change_held, loops_held, kept_finally}
-use Rattle.star_spec.proofs.RowsHeld.{unary_held, binary_held}
+use Rattle.value_spec.specs.Outcomes.{Computation, ◌>>=◌}
+use Rattle.value_spec.specs.Store.{object_at, put_pair, with_contents, end_loop, box_at}
+use Rattle.value_spec.specs.Values.{Value, none_value, bool_value, int_value, text_value, tuple_value, dict_value, function_value, Values, no_values, values_from, Fields, no_fields, a_field, Arguments, arguments, Env, of_box, of_function}
+use Rattle.star_spec.proofs.Keeping.{Keeps, Anything, keeps_then, keeps_give, keeps_fail, keeps_or_fail, keeps_ill_formed, keeps_need, keeps_steps, keeps_paid, keeps_if, keeps_reads, keeps_new_object, object_held, box_held, change_held, loops_held, kept_finally}
+use Rattle.star_spec.proofs.MembersHeld.{from_values, more_held, members_keep, pairs_keep, put_pair_held, new_list_keeps, new_dict_keeps}
+use Rattle.star_spec.proofs.RowsHeld.{unary_held, binary_held, augmented_held}
 
 -- a call of a value gives what the program holds
 pub record CallKeeps {H : Type 0} (call : Call H) : Type 0 where
@@ -30,15 +30,7 @@ abbrev pub HeldAny : Option Value → Type 0
 HeldAny None = Unit {0}
 HeldAny (Some v) = HeldValue v
 
--- ---- lists of values
-
-pub in_values : (vs : Values) → HeldValues vs → HeldList (values_in vs)
-in_values no_values h = tt
-in_values (a_value v vs) h = (h.0, in_values vs h.1)
-
-pub from_values : (vs : List Value) → HeldList vs → HeldValues (values_from vs)
-from_values [] h = tt
-from_values (v ∷ vs) h = (h.0, from_values vs h.1)
+-- ---- members and arguments
 
 and_values_held : (vs : List Value) (rest : Values) → HeldList vs → HeldValues rest → HeldValues (and_values vs rest)
 and_values_held [] rest h k = k
@@ -54,85 +46,10 @@ with_values_held vs (arguments rest fs) h k = (and_values_held vs rest h k.0, k.
 with_fields_held : (fs : Fields) (rest : Arguments) → HeldFields fs → HeldArguments rest → HeldArguments (with_fields fs rest)
 with_fields_held fs (arguments vs rest) h k = (k.0, and_fields_held fs rest h k.1)
 
-pub more_held : (vs ws : List Value) → HeldList vs → HeldList ws → HeldList (vs ++ ws)
-more_held [] ws h k = k
-more_held (v ∷ vs) ws h k = (h.0, more_held vs ws h.1 k)
-
-numbers_held : (zs : List ℤ) → HeldNumbers zs → HeldList (map int_value zs)
-numbers_held [] h = tt
-numbers_held (z ∷ zs) h = (h.0, numbers_held zs h.1)
-
-keys_held : (ps : List (Value × Value)) → HeldPairs ps → HeldList (keys_in ps)
-keys_held [] h = tt
-keys_held (p ∷ ps) h = (h.0, keys_held ps h.3)
-
-abbrev HeldMembers : Option (List Value) → Type 0
-HeldMembers None = Unit {0}
-HeldMembers (Some vs) = HeldList vs
-
-members_held : (store : Store) (v : Value) → HeldStore store → HeldValue v → HeldMembers (members_in store v)
-members_held store (tuple_value vs) h k = in_values vs k
-members_held store (list_value r) h k = list_held (object_at r store) (object_held store r h)
-members_held store (dict_value r) h k = keys_held (pairs_at r store) (pairs_held (object_at r store) (object_held store r h))
-members_held store (range_value a b d) h k = numbers_held _ k
-members_held store _ h k = tt
-
-members_found : (o : Option (List Value)) (vs : List Value) → HeldMembers o → o ≡ Some vs → HeldList vs
-members_found None vs h e = cc
-members_found (Some ws) vs h e = let same : ws ≡ vs = cc in rw (← same) h
-
-pub members_keep : {H : Type 0} (p : Place) (v : Value) → HeldValue v → Keeps {H = H} HeldList (members_of p v)
-members_keep p v h = keeps_then (keeps_reads {P = HeldMembers} (λ store. members_in store v) (λ store k. members_held store v k h)) (λ o k. keeps_or_fail kind.ValueKind p o (λ vs e. members_found o vs k e))
-
 pub truth_keeps : {H : Type 0} (v : Value) → Keeps {H = H} Anything (truth_of v)
 truth_keeps v = keeps_reads (λ store. truth_in store v) (λ store h. tt)
 
 -- ---- dicts
-
--- the pairs with one more, none of whose keys stands twice
-abbrev Avoids : Value → List (Value × Value) → Type 0
-Avoids k ps = has_equal_key k ps ≡ false
-
-appended_avoids : (x k v : Value) (ps : List (Value × Value)) → has_equal_key x ps ≡ false → same_key x k ≡ false → has_equal_key x (ps ++ (k, v) ∷ []) ≡ false
-appended_avoids x k v [] h e = ap (λ b. b || false) e
-appended_avoids x k v (p ∷ ps) h e = no_either (same_key x p.0) (has_equal_key x ps) (has_equal_key x (ps ++ (k, v) ∷ [])) h (λ g. appended_avoids x k v ps g e)
-  where
-    no_either : (a b c : Bool) → (a || b) ≡ false → (b ≡ false → c ≡ false) → (a || c) ≡ false
-    no_either true b c h k = cc
-    no_either false b c h k = k h
-
-not_there : (k : Value) (p : Value × Value) (ps : List (Value × Value)) → (if same_key p.0 k then Some 0 else further (place_of_key k ps)) ≡ None → (same_key p.0 k ≡ false) × (place_of_key k ps ≡ None)
-not_there k p ps h = by_test (same_key p.0 k) (place_of_key k ps) h
-  where
-    by_test : (b : Bool) (o : Option ℕ) → (if b then Some 0 else further o) ≡ None → (b ≡ false) × (o ≡ None)
-    by_test true o h = cc
-    by_test false None h = (refl, refl)
-    by_test false (Some n) h = cc
-
-appended_held : (k v : Value) (ps : List (Value × Value)) → place_of_key k ps ≡ None → HeldValue k → HeldValue v → HeldPairs ps → HeldPairs (ps ++ (k, v) ∷ [])
-appended_held k v [] e key value h = (key, value, refl, tt)
-appended_held k v (p ∷ ps) e key value h = let none = not_there k p ps e in (h.0, h.1, appended_avoids p.0 k v ps h.2 none.0, appended_held k v ps none.1 key value h.3)
-
-replaced_avoids : (x v : Value) (ps : List (Value × Value)) (i : ℕ) (p : Value × Value) → slice_get ps i ≡ Some p → has_equal_key x (slice_set ps i (p.0, v)) ≡ has_equal_key x ps
-replaced_avoids x v [] i p e = cc
-replaced_avoids x v (q ∷ qs) zero p e = let same : q ≡ p = cc in rw same refl
-replaced_avoids x v (q ∷ qs) (suc i) p e = ap (λ b. same_key x q.0 || b) (replaced_avoids x v qs i p e)
-
-replaced_held : (v : Value) (ps : List (Value × Value)) (i : ℕ) (p : Value × Value) → slice_get ps i ≡ Some p → HeldValue v → HeldPairs ps → HeldPairs (slice_set ps i (p.0, v))
-replaced_held v [] i p e k h = tt
-replaced_held v (q ∷ qs) zero p e k h = let same : q ≡ p = cc in rw (← same) (h.0, k, h.2, h.3)
-replaced_held v (q ∷ qs) (suc i) p e k h = (h.0, h.1, replaced_avoids q.0 v qs i p e ∙ h.2, replaced_held v qs i p e k h.3)
-
-with_value_held : (v : Value) (ps : List (Value × Value)) (i : ℕ) (o : Option (Value × Value)) → slice_get ps i ≡ o → HeldValue v → HeldPairs ps → HeldPairs (with_value v ps i o)
-with_value_held v ps i None e k h = h
-with_value_held v ps i (Some p) e k h = replaced_held v ps i p e k h
-
-with_pair_held : (k v : Value) (ps : List (Value × Value)) (o : Option ℕ) → place_of_key k ps ≡ o → HeldValue k → HeldValue v → HeldPairs ps → HeldPairs (with_pair k v ps o)
-with_pair_held k v ps None e key value h = appended_held k v ps e key value h
-with_pair_held k v ps (Some i) e key value h = with_value_held v ps i (slice_get ps i) refl value h
-
-pub put_pair_held : (k v : Value) (ps : List (Value × Value)) → HeldValue k → HeldValue v → HeldPairs ps → HeldPairs (put_pair k v ps)
-put_pair_held k v ps key value h = with_pair_held k v ps (place_of_key k ps) refl key value h
 
 key_keeps : {H : Type 0} (p : Place) (o : Option FaultKind) → Keeps {H = H} Anything (need_key p o)
 key_keeps p None = keeps_give tt tt
@@ -162,14 +79,8 @@ fields_found None fs h e = cc
 fields_found (Some gs) fs h e = let same : gs ≡ fs = cc in rw (← same) h
 
 spread_keeps : {H : Type 0} (p : Place) (v : Value) → Keeps {H = H} HeldFields (spread_fields p v)
-spread_keeps p (dict_value r) = keeps_then (keeps_reads {P = HeldPairs} (pairs_at r) (λ store h. pairs_held (object_at r store) (object_held store r h))) (λ ps h. keeps_or_fail kind.ValueKind p (as_fields ps) (λ fs e. fields_found (as_fields ps) fs (fields_held ps h) e))
+spread_keeps p (dict_value r) = keeps_then (pairs_keep r) (λ ps h. keeps_or_fail kind.ValueKind p (as_fields ps) (λ fs e. fields_found (as_fields ps) fs (fields_held ps h) e))
 spread_keeps p _ = keeps_fail kind.ValueKind p []
-
-pub new_list_keeps : {H : Type 0} (vs : List Value) → HeldList vs → Keeps {H = H} HeldValue (new_list vs)
-new_list_keeps vs h = keeps_then (keeps_new_object (of_list vs) h) (λ r u. keeps_give (list_value r) tt)
-
-pub new_dict_keeps : {H : Type 0} (ps : List (Value × Value)) → HeldPairs ps → Keeps {H = H} HeldValue (new_dict ps)
-new_dict_keeps ps h = keeps_then (keeps_new_object (of_dict ps) h) (λ r u. keeps_give (dict_value r) tt)
 
 -- ---- names
 
@@ -343,11 +254,7 @@ module _ {H : Type 0} (call : Call H) (calls : CallKeeps call) where
     each_keeps p (an_expr e es) [] env h k = keeps_give tt tt
     each_keeps p (an_expr e es) (v ∷ vs) env h k = keeps_then (assign_keeps p e v env h.0 k.0) (λ u t. each_keeps p es vs env h.1 k.1)
 
-  changed_keeps : (q : Place) (o : BinaryOperator) (a b : Value) → HeldValue a → HeldValue b → Keeps {H = H} HeldValue (augment_row q o a b)
-  changed_keeps q addition (list_value r) b h k = keeps_fail kind.NotBuilt q []
-  changed_keeps q o a b h k = binary_held q o a b h k
-
   pub augment_keeps : (p : Place) (o : BinaryOperator) (q : Place) (x e : Expr) (env : Env) → HeldExpr x → HeldExpr e → Keeps Anything (augment_to call p o q x e env)
-  augment_keeps p o q (code.name r x) e env h k = keeps_then (read_keeps r x (box_of x env)) (λ old g. keeps_then (eval_keeps e env k) (λ v i. keeps_then (changed_keeps q o old v g i) (λ w j. write_keeps r x w (box_of x env) j)))
-  augment_keeps p o q (code.index r a i) e env h k = keeps_then (eval_keeps a env h.0) (λ x g. keeps_then (eval_keeps i env h.1) (λ y j. keeps_then {P = HeldValue} (keeps_fail kind.NotBuilt r []) (λ old u. keeps_then (eval_keeps e env k) (λ v t. keeps_then (changed_keeps q o old v u t) (λ w d. keeps_fail kind.NotBuilt r [])))))
+  augment_keeps p o q (code.name r x) e env h k = keeps_then (read_keeps r x (box_of x env)) (λ old g. keeps_then (eval_keeps e env k) (λ v i. keeps_then (augmented_held q o old v g i) (λ w j. write_keeps r x w (box_of x env) j)))
+  augment_keeps p o q (code.index r a i) e env h k = keeps_then (eval_keeps a env h.0) (λ x g. keeps_then (eval_keeps i env h.1) (λ y j. keeps_then {P = HeldValue} (keeps_fail kind.NotBuilt r []) (λ old u. keeps_then (eval_keeps e env k) (λ v t. keeps_then (augmented_held q o old v u t) (λ w d. keeps_fail kind.NotBuilt r [])))))
   augment_keeps p o q _ e env h k = keeps_ill_formed

@@ -1,12 +1,14 @@
 -- Computations that keep what the program holds: where the store holds such values, what one gives is such, and so is
 -- the store that it leaves, whichever way it ends.
-use Rattle.std.proofs.Common.{◌≡◌, ℕ, zero, suc, nat_le, Bool, true, false, if◌then◌else◌, List, [], ◌∷◌, ◌++◌, take, drop, map, slice_set, Option, Some, None, refl}
+use Rattle.std.proofs.Common.{◌≡◌, ℕ, zero, suc, nat_le, ◌==◌, Bool, true, false, if◌then◌else◌, List, [], ◌∷◌, ◌++◌, take, drop, map, slice_set, Option, Some, None, refl}
 use Rattle.ytt_base.specs.declared.fault.FaultKind.{FaultKind}
+use Rattle.ytt_base.specs.declared.fault.FaultKind.TheVariants as kind
 use Rattle.ytt_base.specs.declared.fault.Place.{Place}
 use Rattle.star_spec.specs.Held.{HeldList, HeldPairs, HeldIfAny, HeldContents, HeldStore}
-use Rattle.star_spec.specs.Outcomes.{State, Ending, done, bad, then_do, Computation, ◌>>=◌, give, fail_with, or_fail, need, or_ill_formed, ill_formed, take_if, take_steps, paid_by, on_store, reads, new_object, finally}
-use Rattle.star_spec.specs.Store.{list_of_contents, pairs_of_contents, object_at, list_in, pairs_in, box_in, function_in, object, changed, change, as_frozen, freeze_since, walked, change_loops}
-use Rattle.star_spec.specs.Values.{Function, Contents, of_list, of_dict, of_box, of_function, Object, Store}
+use Rattle.value_spec.specs.Outcomes.{State, Ending, done, bad, then_do, Computation, ◌>>=◌, give, fail_with, or_fail, need, or_ill_formed, ill_formed, take_if, take_steps, paid_by, on_store, reads, new_object, finally, after_act, acting}
+use Rattle.value_spec.specs.Built.{below}
+use Rattle.value_spec.specs.Store.{list_of_contents, pairs_of_contents, object_at, list_in, pairs_in, box_in, function_in, object, changed, change, Answer, did, refused, Act, frozen, iterating, unlocked, put_back, on_found, at_object, may_change_object, may_change, as_frozen, freeze_since, walked, change_loops}
+use Rattle.value_spec.specs.Values.{Function, Contents, of_list, of_dict, of_box, of_function, Object, Store}
 
 abbrev pub Kept : {H A : Type 0} → (A → Type 0) → Ending H A → Type 0
 Kept P (done a s) = P a × HeldStore s.store
@@ -61,6 +63,10 @@ keeps_paid n p h = keeps_then (keeps_steps n p) (λ u g. h)
 pub keeps_if : {H A : Type 0} {P : A → Type 0} {x y : Computation H A} (b : Bool) → (b ≡ true → Keeps P x) → (b ≡ false → Keeps P y) → Keeps P (if b then x else y)
 keeps_if true h k = h refl
 keeps_if false h k = k refl
+
+pub keeps_below : {H A : Type 0} {P : A → Type 0} (p : Place) (n : ℕ) (f : ℕ → Computation H A) → ((m : ℕ) → n ≡ suc m → Keeps P (f m)) → Keeps P (below p n f)
+keeps_below p zero f h = keeps_fail kind.TooDeep p []
+keeps_below p (suc n) f h = h n refl
 
 -- what holds where more does
 kept_weaker : {H A : Type 0} (P Q : A → Type 0) (e : Ending H A) → ((a : A) → P a → Q a) → Kept P e → Kept Q e
@@ -154,6 +160,48 @@ change_held f r store k h = changed_held f store r (object_at r store) k (object
 pub loops_held : (f : ℕ → ℕ) (walk : Option ℕ) (store : Store) → HeldStore store → HeldStore (change_loops f walk store)
 loops_held f None store h = h
 loops_held f (Some r) store h = change_held (walked f) r store (λ x k. k) h
+
+-- what an act leaves, if it is done
+abbrev pub IfDid : {S A : Type 0} → (S → Type 0) → Answer S A → Type 0
+IfDid P (did a s) = P s
+IfDid P (refused why) = Unit {0}
+
+pub keeps_acting : {H A : Type 0} (p : Place) (act : Act Store A) → ((store : Store) → HeldStore store → IfDid HeldStore (act store)) → Keeps {H = H} Anything (acting p act)
+keeps_acting {H = H} {A = A} p act k = record { by = λ s held. kept_act (act s.store) s (k s.store held) held }
+  where
+    kept_act : (answer : Answer Store A) (s : State H) → IfDid HeldStore answer → HeldStore s.store → Kept Anything (after_act p answer s)
+    kept_act (did a store) s h held = (tt, h)
+    kept_act (refused why) s h held = held
+
+pub did_unlocked : {S A : Type 0} (P : S → Type 0) (o : Object) (answer : Answer S A) → IfDid P answer → IfDid P (unlocked o answer)
+did_unlocked {S = S} {A = A} P o answer h = by_tests o.frozen (o.loops == 0)
+  where
+    by_tests : (a b : Bool) → IfDid P (if a then refused frozen else if b then answer else refused iterating)
+    by_tests true b = tt
+    by_tests false true = h
+    by_tests false false = tt
+
+-- an object as an act on it leaves it
+abbrev pub ObjectHeld : Object → Type 0
+ObjectHeld o = HeldContents o.contents
+
+put_back_held : {A : Type 0} (r : ℕ) (store : Store) (answer : Answer Object A) → HeldStore store → IfDid ObjectHeld answer → IfDid HeldStore (put_back r store answer)
+put_back_held r store (did a o) h k = set_held store r o h k
+put_back_held r store (refused why) h k = tt
+
+found_held : {A : Type 0} (r : ℕ) (store : Store) (act : Act Object A) (o : Option Object) → HeldStore store → HeldIfThere o → ((x : Object) → HeldContents x.contents → IfDid ObjectHeld (act x)) → IfDid HeldStore (on_found r store act o)
+found_held r store act None h g k = tt
+found_held r store act (Some o) h g k = put_back_held r store (act o) h (k o g)
+
+pub keeps_at_object : {H A : Type 0} (p : Place) (r : ℕ) (act : Act Object A) → ((x : Object) → HeldContents x.contents → IfDid ObjectHeld (act x)) → Keeps {H = H} Anything (acting p (at_object r act))
+keeps_at_object p r act k = keeps_acting p (at_object r act) (λ store h. found_held r store act (object_at r store) h (object_held store r h) k)
+
+pub may_change_keeps : {H : Type 0} (p : Place) (r : ℕ) → Keeps {H = H} Anything (acting p (may_change r))
+may_change_keeps p r = keeps_acting p (may_change r) (λ store h. may_held store (object_at r store) h)
+  where
+    may_held : (store : Store) (o : Option Object) → HeldStore store → IfDid HeldStore (may_change_object store o)
+    may_held store None h = tt
+    may_held store (Some o) h = did_unlocked HeldStore o (did tt store) h
 
 first_held : (n : ℕ) (store : Store) → HeldStore store → HeldStore (take n store)
 first_held zero store h = tt

@@ -1,7 +1,5 @@
 pub mod CallsKeep
-pub mod Computations
 pub mod EvalKeeps
 pub mod Keeping
-pub mod Keys
-pub mod OperatorExamples
+pub mod MembersHeld
 pub mod RowsHeld

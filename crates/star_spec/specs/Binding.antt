@@ -3,8 +3,8 @@ use Rattle.std.specs.Prelude.{Bool, false, ◌||◌, List, [], ◌∷◌, ◌++�
 use Rattle.ytt_base.specs.declared.fault.FaultKind.TheVariants as kind
 use Rattle.ytt_base.specs.declared.fault.Place.{Place}
 use Rattle.code_spec.specs.Code.{Name, Parameters, no_parameters, required, defaulted, bare_star, starred_parameter, double_starred_parameter}
-use Rattle.star_spec.specs.Values.{Value, text_value, tuple_value, dict_value, Values, no_values, a_value, Fields, no_fields, a_field, Arguments, arguments, Env, of_dict, of_box}
-use Rattle.star_spec.specs.Outcomes.{Computation, give, or_fail, new_object, ◌>>=◌}
+use Rattle.value_spec.specs.Values.{Value, text_value, tuple_value, dict_value, Values, no_values, a_value, Fields, no_fields, a_field, Arguments, arguments, Env, of_dict, of_box}
+use Rattle.value_spec.specs.Outcomes.{Computation, give, or_fail, new_object, ◌>>=◌}
 use Rattle.star_spec.specs.Names.{with_boxes}
 
 -- ---- arguments by name

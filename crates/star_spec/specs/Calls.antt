@@ -7,10 +7,10 @@ use Rattle.ytt_base.specs.declared.fault.FaultKind.TheVariants as kind
 use Rattle.ytt_base.specs.declared.fault.Place.{Place}
 use Rattle.code_spec.specs.Code.{Name, Expr, Parameters}
 use Rattle.code_spec.specs.Program.{ItemKind}
-use Rattle.star_spec.specs.Values.{Value, function_value, builtin_value, method_value, native_value, Values, Arguments, one_value, Env, Function}
-use Rattle.star_spec.specs.Outcomes.{Ending, done, bad, then_do, Computation, paid, give, fail, or_fail, ill_formed, or_ill_formed, reads, ◌>>=◌}
+use Rattle.value_spec.specs.Values.{Value, function_value, native_value, builtin, method, host_native, Values, Arguments, one_value, Env, Function}
+use Rattle.value_spec.specs.Outcomes.{Ending, done, bad, then_do, Computation, paid, give, fail, or_fail, ill_formed, or_ill_formed, reads, ◌>>=◌}
 use Rattle.star_spec.specs.Language.{Call, Keyed, without_keys, asks_keys, Language}
-use Rattle.star_spec.specs.Store.{function_at}
+use Rattle.value_spec.specs.Store.{function_at}
 
 -- ---- code
 
@@ -76,9 +76,9 @@ native_call host call left p x held vs = host.ask p x held vs >>= after_reply ho
 abbrev pub call_by_kind : {H : Type 0} → Language H → (function : Call H) → (native : Place → Name → Values → Arguments → Computation H Value) →
     (keyed : Place → Value → Arguments → Keyed → Computation H Value) → Call H
 call_by_kind language function native keyed p (function_value r) vs = function p (function_value r) vs
-call_by_kind language function native keyed p (builtin_value x) vs = language.own_call p (builtin_value x) vs >>= keyed p (builtin_value x) vs
-call_by_kind language function native keyed p (method_value x v) vs = language.own_call p (method_value x v) vs >>= keyed p (method_value x v) vs
-call_by_kind language function native keyed p (native_value x held) vs = native p x held vs
+call_by_kind language function native keyed p (native_value (builtin x)) vs = language.own_call p (native_value (builtin x)) vs >>= keyed p (native_value (builtin x)) vs
+call_by_kind language function native keyed p (native_value (method x v)) vs = language.own_call p (native_value (method x v)) vs >>= keyed p (native_value (method x v)) vs
+call_by_kind language function native keyed p (native_value (host_native x held)) vs = native p x held vs
 call_by_kind language function native keyed p _ vs = fail kind.ValueKind p
 
 -- a call with one argument by position asks for no keys

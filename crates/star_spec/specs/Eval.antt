@@ -6,14 +6,14 @@ use Rattle.ytt_base.specs.declared.fault.Place.{Place}
 use Rattle.ytt_base.specs.Trees.{max_depth}
 use Rattle.code_spec.specs.Code as code
 use Rattle.code_spec.specs.Code.{Name, BinaryOperator, addition, Expr, Exprs, no_exprs, an_expr, OptionalExpr, absent, present, Entries, no_entries, an_entry, Clauses, no_clauses, for_clause, if_clause, Pieces, no_pieces, text_piece, expr_piece, Parameters, no_parameters, required, defaulted, bare_star, starred_parameter, double_starred_parameter}
-use Rattle.star_spec.specs.Values.{Value, int_value, text_value, tuple_value, list_value, dict_value, Values, no_values, a_value, values_from, Fields, no_fields, a_field, Arguments, arguments, Env, of_list, of_dict, of_function, function_value}
-use Rattle.star_spec.specs.Outcomes.{Computation, paid, take_steps, give, fail, or_fail, need, not_built, ill_formed, reads, new_object, ◌>>=◌}
-use Rattle.star_spec.specs.Keys.{key_offence, key_cost, place_of_key}
-use Rattle.star_spec.specs.Members.{members_in, truth_in}
+use Rattle.value_spec.specs.Values.{Value, int_value, text_value, tuple_value, dict_value, Values, no_values, a_value, values_from, Fields, no_fields, a_field, Arguments, arguments, Env, of_function, function_value}
+use Rattle.value_spec.specs.Outcomes.{Computation, paid, take_steps, give, fail, or_fail, need, not_built, ill_formed, reads, new_object, new_list, new_dict, ◌>>=◌}
+use Rattle.value_spec.specs.Keys.{key_offence, key_cost, place_of_key}
+use Rattle.value_spec.specs.Members.{members_in, truth_in}
 use Rattle.star_spec.specs.Names.{box_of, with_boxes, read_name, write_name}
 use Rattle.code_spec.specs.Names.{target_names, clauses_names}
-use Rattle.star_spec.specs.Operators.{unary_row, binary_row}
-use Rattle.star_spec.specs.Store.{pairs_at, put_pair}
+use Rattle.operator_spec.specs.Operators.{unary_row, binary_row, augment_row}
+use Rattle.value_spec.specs.Store.{pairs_at, put_pair}
 use Rattle.star_spec.specs.Binding.{scope_of_call}
 use Rattle.star_spec.specs.Flow.{Flow, on, out, Part, over_members}
 use Rattle.star_spec.specs.Language.{Call, Language}
@@ -24,12 +24,6 @@ truth_of v = reads (λ store. truth_in store v)
 -- the members of a value, or ValueKind
 abbrev pub members_of : {H : Type 0} → Place → Value → Computation H (List Value)
 members_of p v = reads (λ store. members_in store v) >>= or_fail kind.ValueKind p
-
-abbrev pub new_list : {H : Type 0} → List Value → Computation H Value
-new_list vs = new_object (of_list vs) >>= λ r. give (list_value r)
-
-abbrev pub new_dict : {H : Type 0} → List (Value × Value) → Computation H Value
-new_dict ps = new_object (of_dict ps) >>= λ r. give (dict_value r)
 
 -- ---- rows that aren't built yet
 
@@ -49,11 +43,6 @@ shown_row p v = not_built p
 -- a value at an index of a value
 abbrev pub set_index_row : {H : Type 0} → Place → Value → (at value : Value) → Computation H (Unit {0})
 set_index_row p v i w = not_built p
-
--- what `a += b` and kin give, where a list is changed in place
-abbrev pub augment_row : {H : Type 0} → Place → BinaryOperator → Value → Value → Computation H Value
-augment_row p addition (list_value r) b = not_built p
-augment_row p o a b = binary_row p o a b
 
 -- ---- displays
 

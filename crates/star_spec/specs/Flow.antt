@@ -2,11 +2,11 @@
 use Rattle.std.specs.Prelude.{Bool, List, [], ◌∷◌, Option, Some, None, if◌then◌else◌}
 use Rattle.ytt_base.specs.declared.fault.Place.{Place}
 use Rattle.code_spec.specs.Code.{Expr}
-use Rattle.star_spec.specs.Values.{Value, Env}
-use Rattle.star_spec.specs.Outcomes.{Computation, paid, give, finally, on_store, ◌>>=◌}
-use Rattle.star_spec.specs.Members.{walked_in}
+use Rattle.value_spec.specs.Values.{Value, Env}
+use Rattle.value_spec.specs.Outcomes.{Computation, paid, give, finally, on_store, ◌>>=◌}
+use Rattle.value_spec.specs.Members.{walked_in}
 use Rattle.star_spec.specs.Language.{Call, Language, Word, breaks, continues, returns}
-use Rattle.star_spec.specs.Store.{begin_loop, end_loop}
+use Rattle.value_spec.specs.Store.{begin_loop, end_loop}
 
 -- how a part of a block ends: it goes on to the next one, or leaves the block
 pub data Flow (K : Type 0) : Type 0 where

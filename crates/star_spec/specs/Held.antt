@@ -6,9 +6,9 @@ use Rattle.ytt_base.specs.Trees.{Scalar, IsScalar, has_key, IsTree}
 use Rattle.code_spec.specs.Allowed.{are_distinct}
 use Rattle.code_spec.specs.Code as code
 use Rattle.code_spec.specs.Code.{Name, Expr, Exprs, no_exprs, an_expr, OptionalExpr, absent, present, Entries, no_entries, an_entry, Clauses, no_clauses, for_clause, if_clause, Pieces, no_pieces, text_piece, expr_piece, Parameters, no_parameters, required, defaulted, bare_star, starred_parameter, double_starred_parameter, Statement, evaluate, assign, augment, load, return, break, continue, pass}
-use Rattle.star_spec.specs.Keys.{same_key}
-use Rattle.star_spec.specs.Numbers.{range_count, progression}
-use Rattle.star_spec.specs.Values.{Value, none_value, bool_value, int_value, text_value, tuple_value, range_value, struct_value, fragment_value, list_value, dict_value, function_value, module_value, builtin_value, method_value, native_value, replace_value, Values, no_values, a_value, Fields, no_fields, a_field, Child, child, Children, no_children, a_child, Body, one, map_of, list_of, Arguments, arguments, Contents, of_list, of_dict, of_box, of_function, Store}
+use Rattle.value_spec.specs.Keys.{same_key}
+use Rattle.value_spec.specs.Numbers.{range_count, progression}
+use Rattle.value_spec.specs.Values.{Value, none_value, bool_value, int_value, text_value, tuple_value, range_value, struct_value, fragment_value, list_value, dict_value, function_value, module_value, native_value, builtin, method, host_native, replacement, Values, no_values, a_value, Fields, no_fields, a_field, Child, child, Children, no_children, a_child, Body, one, map_of, list_of, Arguments, arguments, Contents, of_list, of_dict, of_box, of_function, Store}
 
 abbrev pub field_names : Fields → List Name
 field_names no_fields = []
@@ -47,10 +47,10 @@ abbrev mutual
   HeldValue (dict_value r) = Unit {0}
   HeldValue (function_value r) = Unit {0}
   HeldValue (module_value x fs) = HeldFields fs
-  HeldValue (builtin_value x) = Unit {0}
-  HeldValue (method_value x v) = HeldValue v
-  HeldValue (native_value x held) = HeldValues held
-  HeldValue (replace_value v) = HeldValue v
+  HeldValue (native_value (builtin x)) = Unit {0}
+  HeldValue (native_value (method x v)) = HeldValue v
+  HeldValue (native_value (host_native x held)) = HeldValues held
+  HeldValue (native_value (replacement v)) = HeldValue v
 
   pub HeldValues : Values → Type 0
   HeldValues no_values = Unit {0}

@@ -3,8 +3,8 @@
 use Rattle.std.specs.Prelude.{ℕ, Bool, List, Option, Some, None}
 use Rattle.ytt_base.specs.declared.fault.Place.{Place}
 use Rattle.code_spec.specs.Code.{Name, Expr, Exprs, BinaryOperator, Parameters, Statement, evaluate, assign, augment, load, return, break, continue, pass}
-use Rattle.star_spec.specs.Values.{Value, function_value, Arguments, Env, of_function}
-use Rattle.star_spec.specs.Outcomes.{Computation, paid, give, new_object, ◌>>=◌}
+use Rattle.value_spec.specs.Values.{Value, function_value, Arguments, Env, of_function}
+use Rattle.value_spec.specs.Outcomes.{Computation, paid, give, new_object, ◌>>=◌}
 
 -- a call of a value with arguments, at a place
 abbrev pub Call : Type 0 → Type 0

@@ -1,17 +1,8 @@
 pub mod Binding
 pub mod Calls
-pub mod Equality
 pub mod Eval
 pub mod Flow
 pub mod Held
-pub mod Keys
 pub mod Lambdas
 pub mod Language
-pub mod Members
 pub mod Names
-pub mod Numbers
-pub mod Operators
-pub mod Order
-pub mod Outcomes
-pub mod Store
-pub mod Values

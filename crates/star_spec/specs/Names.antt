@@ -3,9 +3,9 @@ use Rattle.std.specs.Prelude.{ℕ, true, false, List, [], ◌∷◌, Option, Som
 use Rattle.ytt_base.specs.declared.fault.FaultKind.TheVariants as kind
 use Rattle.ytt_base.specs.declared.fault.Place.{Place}
 use Rattle.code_spec.specs.Code.{Name}
-use Rattle.star_spec.specs.Values.{Value, none_value, bool_value, Env, of_box}
-use Rattle.star_spec.specs.Outcomes.{done, Computation, give, fail_with, not_built, on_store, reads, new_object, ◌>>=◌}
-use Rattle.star_spec.specs.Store.{box_at, change, with_contents}
+use Rattle.value_spec.specs.Values.{Value, none_value, bool_value, Env, of_box}
+use Rattle.value_spec.specs.Outcomes.{done, Computation, give, fail_with, not_built, on_store, reads, new_object, ◌>>=◌}
+use Rattle.value_spec.specs.Store.{box_at, change, with_contents}
 use Rattle.code_spec.specs.Names.{own_functions, is_among}
 
 -- ---- the names of the language

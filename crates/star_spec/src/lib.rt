@@ -1,3 +1,2 @@
-//! The definitions of what Starlark code means: values, stores and steps, operators, evaluating, and calls. They stand in
-//! `specs/`.
+//! The definitions of what Starlark code means: evaluating, names, blocks, and calls. They stand in `specs/`.
 #![tactic(auto)]

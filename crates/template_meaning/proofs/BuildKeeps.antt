@@ -13,10 +13,10 @@ use Rattle.code_spec.specs.Options.{or_else}
 use Rattle.star_spec.specs.Lambdas.{only_if, Lambda, lambda_in, lambda_among, lambda_in_part, lambda_in_entries, lambda_in_clauses, lambda_in_pieces, lambda_in_parameters, lambda_in_statement, lambda_code}
 use Rattle.star_spec.specs.Language.{Call, Language, Word, breaks, continues, returns, execute, define}
 use Rattle.star_spec.specs.Names.{box_of}
-use Rattle.star_spec.specs.Outcomes.{Computation}
+use Rattle.value_spec.specs.Outcomes.{Computation}
 use Rattle.code_spec.specs.Program.{ItemKind}
-use Rattle.star_spec.specs.Store.{object_at, box_at}
-use Rattle.star_spec.specs.Values.{Value, child, Children, no_children, a_child, no_built, one, map_of, list_of, taken, Env, Store}
+use Rattle.value_spec.specs.Store.{object_at, box_at}
+use Rattle.value_spec.specs.Values.{Value, child, Children, no_children, a_child, no_built, one, map_of, list_of, taken, Env, Store}
 use Rattle.star_spec.proofs.CallsKeep.{LanguageKeeps, WordHeld, execute_keeps, define_keeps, HostKeeps, TableKeeps, apply_keeps}
 use Rattle.star_spec.proofs.EvalKeeps.{CallKeeps, FlowHeld, over_keeps, boxes_keep, fill_keeps}
 use Rattle.star_spec.proofs.Keeping.{Keeps, Anything, keeps_then, keeps_give, keeps_fail, keeps_paid, keeps_or_ill_formed, object_held, box_held, freeze_held}
@@ -25,7 +25,7 @@ use Rattle.template_meaning.specs.Calls.{result_of, level_of, enter_items, key_f
 use Rattle.template_meaning.specs.Files.{Globals, Load, items_loads, Loader, private_among, value_among, value_loaded, names_loaded, unless_private, all_loads, bind_loaded, with_global, globals_in, FileResult, ended, File, nothing_to_load}
 use Rattle.template_meaning.specs.Meaning.{Build, BuildFile, documents}
 use Rattle.template_spec.specs.Names.{items_names}
-use Rattle.template_meaning.specs.Take.{body_tree}
+use Rattle.value_spec.specs.Built.{body_tree}
 use Rattle.template_spec.specs.Template.{Notes, no_notes, note, Key, no_key, written_key, key_from, Item, node, code as code_item, if_block, for_block, def_block, Items, no_items, an_item, Branches, no_branch, else_branch, elif_branch, Content, written_value, value_from, pairs, elements, is_void, fragment_kind}
 use Rattle.template_meaning.proofs.TakeKeeps.{AreLow, low_trees, low_pairs, body_is_tree, HeldTaken, taken_keeps, key_taken_keeps, Good, taken_added}
 

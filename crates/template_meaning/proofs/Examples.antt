@@ -9,7 +9,7 @@ use Rattle.yaml_spec.specs.Scalars.{form}
 use Rattle.yaml_spec.specs.Text.{fits_plain}
 use Rattle.code_spec.specs.Code.{Expr, int, text, name, tuple, unary, binary, negation, addition, multiplication, floor_division, equal, no_exprs, an_expr, assign}
 use Rattle.code_spec.specs.Program.{document_item, pair_item, element_item}
-use Rattle.star_spec.specs.Outcomes.{State, Ending, done, bad}
+use Rattle.value_spec.specs.Outcomes.{State, Ending, done, bad}
 use Rattle.star_spec.specs.Calls.{no_natives}
 use Rattle.star_spec.specs.Eval.{starlark}
 use Rattle.template_spec.specs.Template.{Item, Items, no_items, an_item, node, code, if_block, for_block, no_notes, no_key, written_key, else_branch, elif_branch, Content, written_value, value_from, pairs, elements}

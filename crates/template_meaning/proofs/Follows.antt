@@ -2,11 +2,11 @@
 use Rattle.std.proofs.Common.{◌≡◌, List, [], ◌∷◌, Option, Some, None, Bool, true, false, if◌then◌else◌, refl, ap, ◌∙◌}
 use Rattle.ytt_base.specs.declared.fault.Place.{Place}
 use Rattle.code_spec.specs.Code.{Expr}
-use Rattle.star_spec.specs.Values.{Value, Env}
-use Rattle.star_spec.specs.Outcomes.{State, Ending, done, bad, then_do, Computation, ◌>>=◌, give, take_steps, paid, finally, on_store}
-use Rattle.star_spec.specs.Store.{begin_loop, end_loop}
+use Rattle.value_spec.specs.Values.{Value, Env}
+use Rattle.value_spec.specs.Outcomes.{State, Ending, done, bad, then_do, Computation, ◌>>=◌, give, take_steps, paid, finally, on_store}
+use Rattle.value_spec.specs.Store.{begin_loop, end_loop}
 use Rattle.star_spec.specs.Language.{Call, Language, Word, breaks, continues, returns}
-use Rattle.star_spec.specs.Members.{walked_in}
+use Rattle.value_spec.specs.Members.{walked_in}
 use Rattle.star_spec.specs.Flow.{Flow, on, out, Part, worded, plain, when, next_turn, turns, walk, loop}
 
 abbrev pub flow_map : {K L : Type 0} → (K → L) → Flow K → Flow L

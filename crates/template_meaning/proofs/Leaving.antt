@@ -3,11 +3,11 @@ use Rattle.std.proofs.Common.{ℕ, List, [], ◌∷◌, Option, Some, None, Bool
 use Rattle.ytt_base.specs.declared.fault.Place.{Place}
 use Rattle.code_spec.specs.Code.{Name, Expr, Parameters, Statement, evaluate, assign, augment, load, return, break, continue, pass}
 use Rattle.template_spec.specs.Template.{Item, node, code, if_block, for_block, def_block, Items, no_items, an_item, Branches, no_branch, else_branch, elif_branch}
-use Rattle.star_spec.specs.Values.{Value, Children, Env}
-use Rattle.star_spec.specs.Outcomes.{State, Ending, done, bad, then_do, Computation, ◌>>=◌, give, take_steps, paid, finally, on_store}
-use Rattle.star_spec.specs.Store.{begin_loop, end_loop}
+use Rattle.value_spec.specs.Values.{Value, Children, Env}
+use Rattle.value_spec.specs.Outcomes.{State, Ending, done, bad, then_do, Computation, ◌>>=◌, give, take_steps, paid, finally, on_store}
+use Rattle.value_spec.specs.Store.{begin_loop, end_loop}
 use Rattle.star_spec.specs.Language.{Call, Language, new_function, execute, define, Word, breaks, continues, returns}
-use Rattle.star_spec.specs.Members.{walked_in}
+use Rattle.value_spec.specs.Members.{walked_in}
 use Rattle.star_spec.specs.Flow.{Flow, on, out, Part, go_on, worded, plain, test_of, next_turn, turns, loop}
 use Rattle.template_meaning.specs.Build.{notes_meaning, build, builds, choose, content, key_meaning}
 use Rattle.template_meaning.specs.Adding.{add_taken}

@@ -6,8 +6,8 @@ use Rattle.code_spec.specs.Code.{Name}
 use Rattle.code_spec.specs.Program.{ItemKind, Holds, holds_one, holds_map, holds_list, holds_void, node_end}
 use Rattle.template_spec.specs.Template.{Notes, no_notes, note, Key, no_key, written_key, key_from, Item, node, code, if_block, for_block, def_block, Items, no_items, an_item, Branches, no_branch, else_branch, elif_branch, Content, written_value, value_from, pairs, elements, is_void}
 use Rattle.template_spec.specs.Compiled.{holds_of}
-use Rattle.star_spec.specs.Values.{Value, Arguments, Children, no_children, BuiltNotes, no_built, a_built, one, map_of, list_of, Taken, taken, Env}
-use Rattle.star_spec.specs.Outcomes.{State, Ending, done, bad, then_do, Computation, ◌>>=◌, give}
+use Rattle.value_spec.specs.Values.{Value, Arguments, Children, no_children, BuiltNotes, no_built, a_built, one, map_of, list_of, Taken, taken, Env}
+use Rattle.value_spec.specs.Outcomes.{State, Ending, done, bad, then_do, Computation, ◌>>=◌, give}
 use Rattle.star_spec.specs.Language.{Call, Language, execute, define}
 use Rattle.star_spec.specs.Flow.{Flow, on, out, Part, go_on, plain, test_of}
 use Rattle.template_meaning.specs.Build.{collected, notes_meaning, build, builds, choose, content, key_meaning, built}
@@ -17,7 +17,7 @@ use Rattle.code_spec.specs.Blocks.{op_part, op_if, op_for, Ops, no_ops, an_op, a
 use Rattle.template_meaning.specs.Run.{Node, unset, closed_with, opened, and_note, run, runs, run_arms}
 use Rattle.template_spec.specs.ControlWords.{Around, in_node, within_loop, ItemWordsStand, WordsStand, BranchWordsStand, ContentWordsStand}
 use Rattle.template_spec.proofs.Nested.{notes_ops, key_ops, item_ops, items_ops, arms, content_ops}
-use Rattle.star_spec.proofs.Computations.{then_assoc, then_ext, paid_then, paid_ext}
+use Rattle.value_spec.proofs.Computations.{then_assoc, then_ext, paid_then, paid_ext}
 use Rattle.template_meaning.proofs.Follows.{flow_map, mapped, Follows, paid_follows, plain_follows, when_follows, loop_follows}
 use Rattle.template_meaning.proofs.Leaving.{OnDone, Fits, items_good}
 

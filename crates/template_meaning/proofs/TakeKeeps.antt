@@ -7,16 +7,17 @@ use Rattle.ytt_base.specs.Trees.{Scalar, null, boolean, integer, string, same_bo
 use Rattle.code_spec.specs.Allowed.{has_name, are_distinct}
 use Rattle.code_spec.specs.Code.{Name}
 use Rattle.star_spec.specs.Held.{HeldValue, HeldFields, field_names, HeldKey, HeldChild, HeldChildren, HeldBody, child_keys, keys_distinct, HeldList, has_equal_key, HeldPairs, HeldContents}
-use Rattle.star_spec.specs.Keys as value_keys
-use Rattle.star_spec.specs.Keys.{text_cost}
-use Rattle.star_spec.specs.Outcomes.{Computation, ◌>>=◌, give, fail}
+use Rattle.value_spec.specs.Keys as value_keys
+use Rattle.value_spec.specs.Keys.{text_cost}
+use Rattle.value_spec.specs.Outcomes.{Computation, ◌>>=◌, give, fail}
 use Rattle.code_spec.specs.Program.{ItemKind, document_item, pair_item, element_item}
-use Rattle.star_spec.specs.Store.{object_at}
-use Rattle.star_spec.specs.Values.{Value, none_value, bool_value, int_value, text_value, tuple_value, range_value, struct_value, fragment_value, list_value, dict_value, function_value, module_value, builtin_value, method_value, native_value, replace_value, values_in, Fields, no_fields, a_field, fields_in, Child, child, Children, no_children, a_child, BuiltNotes, Body, one, map_of, list_of, Taken, taken, many, Contents, of_list, of_dict, of_box, of_function, Object}
-use Rattle.star_spec.proofs.EvalKeeps.{in_values}
-use Rattle.star_spec.proofs.Keeping.{Keeps, Anything, keeps_then, keeps_give, keeps_fail, keeps_paid, keeps_if, keeps_reads, keeps_weaker, HeldIfThere, object_held}
+use Rattle.value_spec.specs.Store.{object_at}
+use Rattle.value_spec.specs.Values.{Value, none_value, bool_value, int_value, text_value, tuple_value, range_value, struct_value, fragment_value, list_value, dict_value, function_value, module_value, native_value, builtin, method, host_native, replacement, values_in, Fields, no_fields, a_field, fields_in, Child, child, Children, no_children, a_child, BuiltNotes, Body, one, map_of, list_of, Taken, taken, many, Contents, of_list, of_dict, of_box, of_function, Object}
+use Rattle.star_spec.proofs.MembersHeld.{in_values}
+use Rattle.star_spec.proofs.Keeping.{Keeps, Anything, keeps_then, keeps_give, keeps_fail, keeps_paid, keeps_if, keeps_below, keeps_reads, keeps_weaker, HeldIfThere, object_held}
 use Rattle.template_meaning.specs.Adding.{keys_equal, overrides, add_child, add_all, add_taken}
-use Rattle.template_meaning.specs.Take.{body_tree, children_trees, children_pairs, scalar_paid, key_paid, below, tree_paid, trees_paid, pairs_paid, children_paid, body_paid, scalar_of_value, trees_by, pairs_by, with_text_keys, object_tree, inner_tree, outer_tree, deeper_tree, tree_of_value, levels_at, levels_replaced, elements_at, pairs_at, members_at, fits_kind, children_in_place, replaced, take_over, key_taken}
+use Rattle.value_spec.specs.Built.{body_tree, children_trees, children_pairs, scalar_paid, key_paid, below, tree_paid, trees_paid, pairs_paid, children_paid, body_paid}
+use Rattle.template_meaning.specs.Take.{scalar_of_value, trees_by, pairs_by, with_text_keys, object_tree, inner_tree, outer_tree, deeper_tree, tree_of_value, levels_at, levels_replaced, elements_at, pairs_at, members_at, fits_kind, children_in_place, replaced, take_over, key_taken}
 
 -- ---- depths
 
@@ -66,10 +67,6 @@ mutual
       (h.0.0, body_is_tree b h.0.1, ap (has_key x) (keys_of_children cs) ∙ first_false (has_key x (child_keys cs)) (keys_distinct (child_keys cs)) e, pairs_are cs h.1 (second_true (has_key x (child_keys cs)) (keys_distinct (child_keys cs)) e))
 
 -- ---- what is paid for is no deeper than the levels left
-
-keeps_below : {H A : Type 0} {P : A → Type 0} (p : Place) (n : ℕ) (f : ℕ → Computation H A) → ((m : ℕ) → n ≡ suc m → Keeps P (f m)) → Keeps P (below p n f)
-keeps_below p zero f h = keeps_fail kind.TooDeep p []
-keeps_below p (suc n) f h = h n refl
 
 scalar_keeps : {H : Type 0} (p : Place) (x : Scalar) → Keeps {H = H} Anything (scalar_paid p x)
 scalar_keeps p null = keeps_give tt tt
@@ -287,10 +284,7 @@ in_place_keeps n p (list_value r) h = converted_keeps n p (list_value r) h
 in_place_keeps n p (dict_value r) h = converted_keeps n p (dict_value r) h
 in_place_keeps n p (function_value r) h = converted_keeps n p (function_value r) h
 in_place_keeps n p (module_value x fs) h = converted_keeps n p (module_value x fs) h
-in_place_keeps n p (builtin_value x) h = converted_keeps n p (builtin_value x) h
-in_place_keeps n p (method_value x v) h = converted_keeps n p (method_value x v) h
-in_place_keeps n p (native_value x held) h = converted_keeps n p (native_value x held) h
-in_place_keeps n p (replace_value v) h = converted_keeps n p (replace_value v) h
+in_place_keeps n p (native_value x) h = converted_keeps n p (native_value x) h
 
 replaced_keeps : {H : Type 0} (p : Place) (k : ItemKind) (n : ℕ) (v : Value) → HeldValue v → Keeps {H = H} (HeldTaken (max_depth - n)) (replaced p k n v)
 replaced_keeps p k n v h = keeps_if (fits_kind k v) (λ e. keeps_then (in_place_keeps n p v h) (λ cs g. keeps_give (many cs) g)) (λ e. keeps_fail kind.FragmentMixed p [])
@@ -305,7 +299,7 @@ list_taken : {H : Type 0} (p : Place) (n : ℕ) (cs : Children) → HeldChildren
 list_taken p n cs h = keeps_then (keeps_below {P = λ u. depth (list (children_trees cs)) ≤ max_depth - n} p (levels_at n) (λ m. children_paid p m cs) (λ m e. keeps_weaker (λ u g. let low = low_trees m cs g in omega (arith, e, low)) (children_keep p m cs))) (λ u g. keeps_give (taken (list_of cs)) (h, g))
 
 pub taken_keeps : {H : Type 0} (p : Place) (k : ItemKind) (n : ℕ) (v : Value) → HeldValue v → Keeps {H = H} (HeldTaken (max_depth - n)) (take_over p k n v)
-taken_keeps p k n (replace_value v) h = replaced_keeps p k n v h
+taken_keeps p k n (native_value (replacement v)) h = replaced_keeps p k n v h
 taken_keeps p k n (fragment_value pair_item cs) h = map_taken p n cs h.0 h.1
 taken_keeps p k n (fragment_value element_item cs) h = list_taken p n cs h.0
 taken_keeps p k n (fragment_value document_item cs) h = one_keeps p n (fragment_value document_item cs) h
@@ -320,9 +314,9 @@ taken_keeps p k n (list_value r) h = one_keeps p n (list_value r) h
 taken_keeps p k n (dict_value r) h = one_keeps p n (dict_value r) h
 taken_keeps p k n (function_value r) h = one_keeps p n (function_value r) h
 taken_keeps p k n (module_value x fs) h = one_keeps p n (module_value x fs) h
-taken_keeps p k n (builtin_value x) h = one_keeps p n (builtin_value x) h
-taken_keeps p k n (method_value x v) h = one_keeps p n (method_value x v) h
-taken_keeps p k n (native_value x held) h = one_keeps p n (native_value x held) h
+taken_keeps p k n (native_value (builtin x)) h = one_keeps p n (native_value (builtin x)) h
+taken_keeps p k n (native_value (method x v)) h = one_keeps p n (native_value (method x v)) h
+taken_keeps p k n (native_value (host_native x held)) h = one_keeps p n (native_value (host_native x held)) h
 
 pub key_taken_keeps : {H : Type 0} (p : Place) (v : Value) → HeldValue v → Keeps {H = H} HeldKey (key_taken p v)
 key_taken_keeps p (text_value t) h = keeps_give (Some (string t)) h

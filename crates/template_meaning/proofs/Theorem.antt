@@ -2,8 +2,8 @@
 use Rattle.std.proofs.Common.{◌≡◌, ℕ, zero, suc, List, [], ◌∷◌, Option, Some, None, length, refl, ap, ◌∙◌}
 use Rattle.ytt_base.specs.declared.fault.Place.{Place}
 use Rattle.code_spec.specs.Program.{Instruction}
-use Rattle.star_spec.specs.Values.{Value, Arguments, Children, no_children, Env}
-use Rattle.star_spec.specs.Outcomes.{State, Ending, done, bad, then_do, ◌>>=◌, give, or_ill_formed}
+use Rattle.value_spec.specs.Values.{Value, Arguments, Children, no_children, Env}
+use Rattle.value_spec.specs.Outcomes.{State, Ending, done, bad, then_do, ◌>>=◌, give, or_ill_formed}
 use Rattle.star_spec.specs.Language.{Call, Language}
 use Rattle.star_spec.specs.Names.{with_boxes}
 use Rattle.star_spec.specs.Flow.{Flow, on, out}
@@ -19,7 +19,7 @@ use Rattle.template_meaning.specs.Meaning.{run_blocks, Run, RunFile, names_in, l
 use Rattle.code_spec.specs.Scopes.{ops_names}
 use Rattle.template_spec.specs.Names.{items_names}
 use Rattle.template_spec.specs.ControlWords.{free, WordsStand}
-use Rattle.star_spec.proofs.Computations.{then_ext}
+use Rattle.value_spec.proofs.Computations.{then_ext}
 use Rattle.template_meaning.proofs.Follows.{mapped}
 use Rattle.template_meaning.proofs.Runs.{onto, as_block, items_runs}
 use Rattle.template_spec.proofs.NamesAgree.{same_names}

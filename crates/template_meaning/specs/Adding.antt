@@ -3,8 +3,8 @@ use Rattle.std.specs.Prelude.{Bool, false, ◌||◌, ℕ, List, [], Option, Some
 use Rattle.ytt_base.specs.declared.fault.FaultKind.TheVariants as kind
 use Rattle.ytt_base.specs.declared.fault.Place.{Place}
 use Rattle.ytt_base.specs.Trees.{Scalar, same_key}
-use Rattle.star_spec.specs.Values.{Child, child, Children, no_children, a_child, BuiltNotes, no_built, a_built, Taken, taken, many}
-use Rattle.star_spec.specs.Outcomes.{Computation, give, fail_with, ◌>>=◌}
+use Rattle.value_spec.specs.Values.{Child, child, Children, no_children, a_child, BuiltNotes, no_built, a_built, Taken, taken, many}
+use Rattle.value_spec.specs.Outcomes.{Computation, give, fail_with, ◌>>=◌}
 use Rattle.yaml_spec.specs.Text.{key_text}
 
 abbrev pub keys_equal : Option Scalar → Option Scalar → Bool

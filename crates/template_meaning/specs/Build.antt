@@ -3,8 +3,8 @@ use Rattle.std.specs.Prelude.{ℕ, suc, Option, Some, None, if◌then◌else◌}
 use Rattle.ytt_base.specs.declared.fault.Place.{Place}
 use Rattle.ytt_base.specs.Trees.{Scalar, null, scalar}
 use Rattle.code_spec.specs.Program.{ItemKind}
-use Rattle.star_spec.specs.Values.{Children, no_children, BuiltNotes, no_built, a_built, Body, one, map_of, list_of, Taken, taken, Env}
-use Rattle.star_spec.specs.Outcomes.{Computation, paid, give, ◌>>=◌}
+use Rattle.value_spec.specs.Values.{Children, no_children, BuiltNotes, no_built, a_built, Body, one, map_of, list_of, Taken, taken, Env}
+use Rattle.value_spec.specs.Outcomes.{Computation, paid, give, ◌>>=◌}
 use Rattle.star_spec.specs.Language.{Call, Language, execute, define}
 use Rattle.star_spec.specs.Flow.{Flow, on, out, Part, skip, in_turn, plain, when, test_of, loop}
 use Rattle.template_spec.specs.Template.{Notes, no_notes, note, Key, no_key, written_key, key_from, Item, node, code, if_block, for_block, def_block, Items, no_items, an_item, Branches, no_branch, else_branch, elif_branch, Content, written_value, value_from, pairs, elements, is_void}

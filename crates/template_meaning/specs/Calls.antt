@@ -2,8 +2,8 @@
 use Rattle.std.specs.Prelude.{ℕ, List, [], ◌∷◌, Option, Some, None, nat_eq}
 use Rattle.ytt_base.specs.Outcomes.{first_place}
 use Rattle.code_spec.specs.Program.{ItemKind, document_item, pair_item, element_item, holds_list, NodePart, node_start, node_note, node_key, node_key_from, node_value, node_value_from, node_end, Instruction}
-use Rattle.star_spec.specs.Values.{Value, none_value, fragment_value, Children, no_children}
-use Rattle.star_spec.specs.Outcomes.{give, ◌>>=◌}
+use Rattle.value_spec.specs.Values.{Value, none_value, fragment_value, Children, no_children}
+use Rattle.value_spec.specs.Outcomes.{give, ◌>>=◌}
 use Rattle.code_spec.specs.Options.{or_else}
 use Rattle.star_spec.specs.Language.{Call, Language, returns}
 use Rattle.star_spec.specs.Flow.{Flow, on, out}

@@ -5,9 +5,9 @@ use Rattle.ytt_base.specs.declared.fault.FaultKind.TheVariants as kind
 use Rattle.ytt_base.specs.declared.fault.Place.{Place}
 use Rattle.code_spec.specs.Code.{Name, LoadedNames, no_loaded, a_loaded, Statement, load}
 use Rattle.code_spec.specs.Blocks.{Op, op_part, op_statement, op_if, op_for, op_def, Ops, no_ops, an_op}
-use Rattle.star_spec.specs.Values.{Value, Children, Env, Store}
-use Rattle.star_spec.specs.Outcomes.{Computation, done, give, fail_with, or_ill_formed, on_store, ◌>>=◌}
-use Rattle.star_spec.specs.Store.{box_at, freeze_since}
+use Rattle.value_spec.specs.Values.{Value, Children, Env, Store}
+use Rattle.value_spec.specs.Outcomes.{Computation, done, give, fail_with, or_ill_formed, on_store, ◌>>=◌}
+use Rattle.value_spec.specs.Store.{box_at, freeze_since}
 use Rattle.star_spec.specs.Names.{box_of, with_boxes, fill_box}
 use Rattle.template_spec.specs.Template.{Item, node, code, if_block, for_block, def_block, Items, no_items, an_item, Content, written_value, value_from, pairs, elements}
 

@@ -3,14 +3,14 @@ use Rattle.std.specs.Prelude.{◌≡◌, ℕ, zero, suc, List, [], ◌∷◌, Op
 use Rattle.ytt_base.specs.Trees.{Trees, no_trees, tree, is_null}
 use Rattle.code_spec.specs.Code.{Name}
 use Rattle.code_spec.specs.Program.{Instruction}
-use Rattle.star_spec.specs.Values.{child, Children, no_children, a_child, Env}
-use Rattle.star_spec.specs.Outcomes.{State, Computation, give, ill_formed, ◌>>=◌}
+use Rattle.value_spec.specs.Values.{child, Children, no_children, a_child, Env}
+use Rattle.value_spec.specs.Outcomes.{State, Computation, give, ill_formed, ◌>>=◌}
 use Rattle.star_spec.specs.Language.{Call, Language}
 use Rattle.code_spec.specs.Blocks.{Ops, blocks}
 use Rattle.star_spec.specs.Calls.{Host}
 use Rattle.template_spec.specs.Template.{Items}
 use Rattle.template_spec.specs.Compiled.{compiled}
-use Rattle.template_meaning.specs.Take.{body_tree}
+use Rattle.value_spec.specs.Built.{body_tree}
 use Rattle.template_meaning.specs.Build.{builds, built}
 use Rattle.template_meaning.specs.Run.{runs}
 use Rattle.code_spec.specs.Scopes.{ops_names}

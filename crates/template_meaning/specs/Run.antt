@@ -4,8 +4,8 @@ use Rattle.ytt_base.specs.declared.fault.Place.{Place}
 use Rattle.ytt_base.specs.Trees.{Scalar, null, scalar}
 use Rattle.code_spec.specs.Code.{Name}
 use Rattle.code_spec.specs.Program.{ItemKind, Holds, holds_one, holds_map, holds_list, holds_void, NodePart, node_start, node_note, node_key, node_key_from, node_value, node_value_from, node_end}
-use Rattle.star_spec.specs.Values.{Arguments, Children, no_children, BuiltNotes, no_built, a_built, one, map_of, list_of, Taken, taken, Env}
-use Rattle.star_spec.specs.Outcomes.{Computation, paid, give, ill_formed, ◌>>=◌}
+use Rattle.value_spec.specs.Values.{Arguments, Children, no_children, BuiltNotes, no_built, a_built, one, map_of, list_of, Taken, taken, Env}
+use Rattle.value_spec.specs.Outcomes.{Computation, paid, give, ill_formed, ◌>>=◌}
 use Rattle.star_spec.specs.Language.{Call, Language, execute, define}
 use Rattle.star_spec.specs.Flow.{on, Part, skip, in_turn, plain, when, test_of, loop}
 use Rattle.code_spec.specs.Blocks.{Op, op_part, op_statement, op_if, op_for, op_def, Ops, no_ops, an_op, Arms, no_arm, else_arm, arm}

@@ -8,66 +8,11 @@ use Rattle.ytt_base.specs.declared.fault.Place.{Place}
 use Rattle.ytt_base.specs.Trees.{Scalar, null, boolean, integer, string, Tree, scalar, list, map, Trees, no_trees, tree, Pairs, no_pairs, pair, max_depth}
 use Rattle.code_spec.specs.Code.{Name}
 use Rattle.code_spec.specs.Program.{ItemKind, pair_item, element_item, same_kind}
-use Rattle.star_spec.specs.Values.{Value, none_value, bool_value, int_value, text_value, tuple_value, struct_value, fragment_value, list_value, dict_value, replace_value, values_in, fields_in, child, Children, no_children, a_child, no_built, Body, one, map_of, list_of, Taken, taken, many, of_list, of_dict, of_box, of_function, Object}
-use Rattle.star_spec.specs.Outcomes.{Computation, paid, paid_by, give, fail, reads, ◌>>=◌}
-use Rattle.star_spec.specs.Keys.{text_cost}
-use Rattle.star_spec.specs.Store.{object_at}
-
--- ---- the tree of annotated children, without their notes
-
-abbrev mutual
-  pub body_tree : Body → Tree
-  body_tree (one t) = t
-  body_tree (map_of cs) = map (children_pairs cs)
-  body_tree (list_of cs) = list (children_trees cs)
-
-  pub children_trees : Children → Trees
-  children_trees no_children = no_trees
-  children_trees (a_child (child p ns x b) cs) = tree (body_tree b) (children_trees cs)
-
-  pub children_pairs : Children → Pairs
-  children_pairs no_children = no_pairs
-  children_pairs (a_child (child p ns (Some x) b) cs) = pair x (body_tree b) (children_pairs cs)
-  children_pairs (a_child (child p ns None b) cs) = children_pairs cs
-
--- ---- steps and depth of trees and children, where so many levels are left
-
-abbrev pub scalar_paid : {H : Type 0} → Place → Scalar → Computation H (Unit {0})
-scalar_paid p (string t) = paid_by (text_cost (length t)) p (give tt)
-scalar_paid p x = give tt
-
-abbrev pub key_paid : {H : Type 0} → Place → Option Scalar → Computation H (Unit {0})
-key_paid p None = give tt
-key_paid p (Some x) = scalar_paid p x
-
--- a collection, one level down
-abbrev pub below : {H A : Type 0} → Place → ℕ → (ℕ → Computation H A) → Computation H A
-below p zero f = fail kind.TooDeep p
-below p (suc n) f = f n
-
-abbrev mutual
-  pub tree_paid : {H : Type 0} → Place → ℕ → Tree → Computation H (Unit {0})
-  tree_paid p n (scalar x) = scalar_paid p x
-  tree_paid p n (list ts) = below p n (λ m. trees_paid p m ts)
-  tree_paid p n (map ps) = below p n (λ m. pairs_paid p m ps)
-
-  pub trees_paid : {H : Type 0} → Place → ℕ → Trees → Computation H (Unit {0})
-  trees_paid p n no_trees = give tt
-  trees_paid p n (tree t ts) = paid p (tree_paid p n t) >>= λ u. trees_paid p n ts
-
-  pub pairs_paid : {H : Type 0} → Place → ℕ → Pairs → Computation H (Unit {0})
-  pairs_paid p n no_pairs = give tt
-  pairs_paid p n (pair x t ps) = paid p (scalar_paid p x) >>= λ u. tree_paid p n t >>= λ v. pairs_paid p n ps
-
-abbrev mutual
-  pub children_paid : {H : Type 0} → Place → ℕ → Children → Computation H (Unit {0})
-  children_paid p n no_children = give tt
-  children_paid p n (a_child (child q ns x b) cs) = paid p (key_paid p x) >>= λ u. body_paid p n b >>= λ v. children_paid p n cs
-
-  pub body_paid : {H : Type 0} → Place → ℕ → Body → Computation H (Unit {0})
-  body_paid p n (one t) = tree_paid p n t
-  body_paid p n (map_of cs) = below p n (λ m. children_paid p m cs)
-  body_paid p n (list_of cs) = below p n (λ m. children_paid p m cs)
+use Rattle.value_spec.specs.Values.{Value, none_value, bool_value, int_value, text_value, tuple_value, struct_value, fragment_value, list_value, dict_value, native_value, replacement, values_in, fields_in, child, Children, no_children, a_child, no_built, one, map_of, list_of, Taken, taken, many, of_list, of_dict, of_box, of_function, Object}
+use Rattle.value_spec.specs.Outcomes.{Computation, paid, paid_by, give, fail, reads, ◌>>=◌}
+use Rattle.value_spec.specs.Built.{children_trees, children_pairs, below, children_paid}
+use Rattle.value_spec.specs.Keys.{text_cost}
+use Rattle.value_spec.specs.Store.{object_at}
 
 -- ---- the tree of a value
 
@@ -182,7 +127,7 @@ replaced p k n v = if fits_kind k v then (children_in_place p n v >>= λ cs. giv
 
 -- a value taken over at an item of this kind with so many collections around it; documents stand in no node
 abbrev pub take_over : {H : Type 0} → Place → ItemKind → (around : ℕ) → Value → Computation H Taken
-take_over p k n (replace_value v) = replaced p k n v
+take_over p k n (native_value (replacement v)) = replaced p k n v
 take_over p k n (fragment_value pair_item cs) = below p (levels_at n) (λ m. children_paid p m cs) >>= λ u. give (taken (map_of cs))
 take_over p k n (fragment_value element_item cs) = below p (levels_at n) (λ m. children_paid p m cs) >>= λ u. give (taken (list_of cs))
 take_over p k n v = tree_of_value (levels_at n) p v >>= λ t. give (taken (one t))

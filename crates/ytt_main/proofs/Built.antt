@@ -6,7 +6,7 @@ use Rattle.ytt_base.specs.declared.fault.Stop.{Stop}
 use Rattle.ytt_base.specs.declared.fault.Stop.TheVariants as stop
 use Rattle.star_spec.specs.Calls.{no_natives}
 use Rattle.star_spec.specs.Eval.{starlark}
-use Rattle.star_spec.specs.Outcomes.{Ending, done, bad}
+use Rattle.value_spec.specs.Outcomes.{Ending, done, bad}
 use Rattle.code_spec.specs.Scopes.{program_names}
 use Rattle.star_tree.specs.Whole.{program_of}
 use Rattle.star_resolve.specs.declared.binding.Resolved.{Resolved}

@@ -10,7 +10,7 @@ use Rattle.yaml_held.proofs.HeldDocuments.{DocumentsHeld, good_read, reads_trees
 use Rattle.yaml_held.proofs.Shallow.{DocumentsShallow, reads_writable, shallow_read}
 use Rattle.star_spec.specs.Calls.{no_natives}
 use Rattle.star_spec.specs.Eval.{starlark}
-use Rattle.star_spec.specs.Outcomes.{Ending, done, bad}
+use Rattle.value_spec.specs.Outcomes.{Ending, done, bad}
 use Rattle.code_spec.specs.CodeReading.{CodeReader}
 use Rattle.star_spec.proofs.CallsKeep.{no_natives_keep, starlark_keeps}
 use Rattle.star_spec.proofs.Keeping.{Kept}

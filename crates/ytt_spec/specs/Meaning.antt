@@ -12,7 +12,7 @@ use Rattle.yaml_spec.specs.Read.{Read, plain_trees}
 use Rattle.star_spec.specs.Calls.{Host, no_natives}
 use Rattle.star_grammar.specs.CodeReaders.{MeansCode}
 use Rattle.star_spec.specs.Eval.{starlark}
-use Rattle.star_spec.specs.Outcomes.{State, Ending, done, bad}
+use Rattle.value_spec.specs.Outcomes.{State, Ending, done, bad}
 use Rattle.code_spec.specs.CodeReading.{CodeReader}
 use Rattle.template_meaning.specs.Files.{FileResult, Loader, nothing_to_load}
 use Rattle.template_meaning.specs.Meaning.{BuildFile, documents}

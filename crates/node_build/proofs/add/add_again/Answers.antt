@@ -1,5 +1,5 @@
 use Rattle.std.proofs.Common.{slice_set, ap, sym, ◌∙◌}
-use Rattle.star_spec.specs.Outcomes.{done}
+use Rattle.value_spec.specs.Outcomes.{done}
 use Rattle.template_meaning.specs.Adding.{in_place_if}
 use Rattle.node_build.specs.Positions.{in_scalar_key}
 use Rattle.node_build.specs.View.{children_of}

@@ -1,5 +1,5 @@
 use Rattle.std.proofs.Common.{◌≡◌, false, rules, ap, sym, ◌∙◌}
-use Rattle.star_spec.specs.Outcomes.{done}
+use Rattle.value_spec.specs.Outcomes.{done}
 use Rattle.node_build.specs.Positions.{in_scalar_key, is_known}
 use Rattle.node_build.specs.View.{children_of}
 use Rattle.node_build.proofs.Known.{new_key}

@@ -1,11 +1,11 @@
 use Rattle.std.proofs.Common.{◌≡◌, ◌∷◌, List, Err, refl, ap, ◌∙◌, rules}
 use Rattle.ytt_base.specs.View.{tree_of}
 use Rattle.ytt_base.specs.declared.tree.Tree.{Tree}
-use Rattle.star_ops.specs.Meets.{in_store}
-use Rattle.star_ops.specs.View.{value_of}
+use Rattle.plain_ops.specs.Meets.{in_store}
+use Rattle.plain_ops.specs.View.{value_of}
 use Rattle.star_spec.specs.Flow.{Flow, on}
-use Rattle.star_spec.specs.Outcomes.{Computation, give, then_do}
-use Rattle.star_spec.specs.Values.{Taken, one, taken}
+use Rattle.value_spec.specs.Outcomes.{Computation, give, then_do}
+use Rattle.value_spec.specs.Values.{Taken, one, taken}
 use Rattle.star_tree.specs.View.{item_kind_of}
 use Rattle.template_meaning.specs.Run.{Node}
 use Rattle.template_meaning.specs.Take.{take_over}

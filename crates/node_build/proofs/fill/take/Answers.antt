@@ -1,5 +1,5 @@
 use Rattle.node_build.proofs.Taking.{taken_as_one}
-use Rattle.star_ops.specs.Meets.{in_store}
+use Rattle.plain_ops.specs.Meets.{in_store}
 use Rattle.node_build.proofs.fill.take.Goals as goal
 
 pub returns-clause-meaning : goal.returns-clause-meaning

@@ -1,7 +1,7 @@
-use Rattle.std.proofs.Common.{◌∷◌, [], length, List, subst, sym, ap, ◌∙◌}
+use Rattle.std.proofs.Common.{◌∷◌, length, List, subst, sym, ap, ◌∙◌}
 use Rattle.star_spec.specs.Flow.{on}
 use Rattle.code_spec.specs.Program.{node_end}
-use Rattle.star_ops.specs.Meets.{Meets}
+use Rattle.plain_ops.specs.Meets.{Meets}
 use Rattle.template_meaning.specs.Run.{Node}
 use Rattle.node_build.specs.Parts.{written_part}
 use Rattle.node_build.specs.View.{node_at, nodes_in}

@@ -1,7 +1,7 @@
-use Rattle.std.proofs.Common.{[], List, subst, sym, ap, ◌∙◌}
+use Rattle.std.proofs.Common.{List, subst, sym, ap, ◌∙◌}
 use Rattle.star_spec.specs.Flow.{on}
-use Rattle.star_ops.specs.Meets.{Spends}
-use Rattle.star_ops.specs.View.{value_of}
+use Rattle.plain_ops.specs.Meets.{Spends}
+use Rattle.plain_ops.specs.View.{value_of}
 use Rattle.template_meaning.specs.Run.{Node}
 use Rattle.node_build.specs.Parts.{taking}
 use Rattle.node_build.specs.View.{nodes_in}

@@ -1,7 +1,7 @@
-use Rattle.std.proofs.Common.{◌≡◌, ◌≤◌, ◌-◌, ◌∷◌, length, List, rules, subst, sym}
+use Rattle.std.proofs.Common.{◌≡◌, ◌≤◌, ◌-◌, ◌∷◌, length, List, subst, sym}
 use Rattle.star_spec.specs.Flow.{on}
-use Rattle.star_ops.specs.Meets.{Meets, in_store}
-use Rattle.star_ops.specs.View.{value_of}
+use Rattle.plain_ops.specs.Meets.{Meets, in_store}
+use Rattle.plain_ops.specs.View.{value_of}
 use Rattle.template_meaning.specs.Run.{Node}
 use Rattle.node_build.specs.Parts.{taking}
 use Rattle.node_build.specs.View.{node_at}

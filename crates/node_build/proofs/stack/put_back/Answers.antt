@@ -1,6 +1,6 @@
 use Rattle.std.proofs.Common.{ap, sym, ◌∙◌}
 use Rattle.star_spec.specs.Flow.{on}
-use Rattle.star_spec.specs.Outcomes.{done}
+use Rattle.value_spec.specs.Outcomes.{done}
 use Rattle.node_build.specs.View.{nodes_in}
 use Rattle.node_build.proofs.Stacks.{nodes-last}
 use Rattle.node_build.proofs.stack.put_back.Goals as goal

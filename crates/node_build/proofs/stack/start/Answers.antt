@@ -1,9 +1,9 @@
 use Rattle.std.proofs.Common.{◌≡◌, suc, length, ◌∷◌, ◌++◌, [], ap, sym, ◌∙◌}
 use Rattle.star_spec.specs.Flow.{on}
-use Rattle.star_spec.specs.Outcomes.{done}
+use Rattle.value_spec.specs.Outcomes.{done}
 use Rattle.star_tree.specs.View.{holds_of, item_kind_of}
 use Rattle.template_meaning.specs.Run.{opened}
-use Rattle.star_ops.specs.Meets.{in_store}
+use Rattle.plain_ops.specs.Meets.{in_store}
 use Rattle.node_build.specs.View.{node_at, nodes_in}
 use Rattle.node_build.proofs.Meeting.{done_then}
 use Rattle.node_build.proofs.Stacks.{nodes-two}

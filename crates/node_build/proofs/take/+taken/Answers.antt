@@ -1,10 +1,10 @@
 use Rattle.std.proofs.Common.{◌≡◌, suc, ◌-◌, Err, ap, sym, ◌∙◌, arith, rules}
 use Rattle.ytt_base.specs.View.{tree_of, trees_of}
 use Rattle.ytt_base.proofs.Views.{tree_of-List}
-use Rattle.star_spec.specs.Outcomes.{done}
-use Rattle.star_ops.specs.Meets.{as_is, in_store}
-use Rattle.star_ops.specs.View.{value_of, values_of}
-use Rattle.star_ops.proofs.Views.{value_of-Text, value_of-Tuple}
+use Rattle.value_spec.specs.Outcomes.{done}
+use Rattle.plain_ops.specs.Meets.{as_is, in_store}
+use Rattle.plain_ops.specs.View.{value_of, values_of}
+use Rattle.plain_ops.proofs.Views.{value_of-Text, value_of-Tuple}
 use Rattle.node_build.proofs.Meeting.{done_then, meets_same, meets_stop, meets_then}
 use Rattle.node_build.proofs.Taking.{member_form, next_level, text_form, trees_done, trees_next, trees_stop, tuple_form}
 use Rattle.node_build.proofs.take.+taken.Goals as goal

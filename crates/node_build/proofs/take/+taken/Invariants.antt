@@ -1,7 +1,7 @@
-use Rattle.std.proofs.Common.{◌≡◌, ◌≤◌, ◌+◌, ◌*◌, drop}
-use Rattle.star_spec.specs.Values.{Store}
-use Rattle.star_ops.specs.Meets.{in_store}
-use Rattle.star_ops.specs.View.{values_of}
+use Rattle.std.proofs.Common.{◌≤◌, ◌+◌, ◌*◌, drop}
+use Rattle.value_spec.specs.Values.{Store}
+use Rattle.plain_ops.specs.Meets.{in_store}
+use Rattle.plain_ops.specs.View.{values_of}
 use Rattle.node_build.specs.Taking.{members_taken}
 use Rattle.node_build.proofs.Taking.{SoFar}
 use Rattle.node_build.proofs.take.+taken.Given as goal

@@ -1,10 +1,10 @@
 use Rattle.std.proofs.Common.{◌≡◌, reverse, subst, sym, ap, ◌∙◌}
 use Rattle.ytt_base.specs.Outcomes.{place_at}
 use Rattle.code_spec.specs.Code as plain
-use Rattle.star_spec.specs.Outcomes.{then_do}
+use Rattle.value_spec.specs.Outcomes.{then_do}
 use Rattle.star_tree.proofs.Forms.{expr_of-List, expr_of-Tuple}
 use Rattle.star_tree.specs.Whole.{expr_of, exprs_of}
-use Rattle.star_ops.specs.View.{value_of}
+use Rattle.plain_ops.specs.View.{value_of}
 use Rattle.star_eval.specs.Meets.{state_of}
 use Rattle.star_eval.specs.PartsSoFar.{assigned}
 use Rattle.star_eval.specs.Targets.{LeavesRows, rows_assigned}

@@ -1,7 +1,7 @@
 use Rattle.std.proofs.Common.{◌≡◌, ◌∷◌, ◌+◌, drop, slice_get, reverse, Some, None, rules, subst, sym, ap, ◌∙◌}
-use Rattle.star_spec.specs.Outcomes.{then_do}
+use Rattle.value_spec.specs.Outcomes.{then_do}
 use Rattle.star_tree.specs.Whole.{expr_of}
-use Rattle.star_ops.specs.View.{value_of, values_of}
+use Rattle.plain_ops.specs.View.{value_of, values_of}
 use Rattle.star_eval.specs.Meets.{state_of}
 use Rattle.star_eval.specs.PartsSoFar.{assigned}
 use Rattle.star_eval.specs.Targets.{LeavesRows, rows_assigned}

@@ -1,7 +1,7 @@
 use Rattle.std.proofs.Common.{◌≡◌, ◌==◌, length, true, false, reverse, map as each, rules, refl}
-use Rattle.star_spec.specs.Values.{tuple_value, values_from}
-use Rattle.star_ops.specs.declared.value.Value.{the_lemmas}
-use Rattle.star_ops.specs.View.{value_of}
+use Rattle.value_spec.specs.Values.{tuple_value, values_from}
+use Rattle.plain_ops.specs.declared.value.Value.{the_lemmas}
+use Rattle.plain_ops.specs.View.{value_of}
 use Rattle.star_eval.proofs.Rows.{spread_fault, spread_row}
 use Rattle.star_eval.proofs.assign.spread.Goals as goal
 

@@ -1,6 +1,6 @@
 use Rattle.std.proofs.Common.{◌≡◌, reverse, true, rules, sym, ap, ◌∙◌, arith}
 use Rattle.star_spec.specs.Flow.{go_on}
-use Rattle.star_spec.specs.Outcomes.{then_do, ◌>>=◌}
+use Rattle.value_spec.specs.Outcomes.{then_do, ◌>>=◌}
 use Rattle.code_spec.specs.Program.{node_value_from}
 use Rattle.star_tree.specs.Whole.{expr_of, part_of}
 use Rattle.star_blocks.specs.Nested.{ops_of}

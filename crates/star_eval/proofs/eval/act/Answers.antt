@@ -1,8 +1,8 @@
 use Rattle.std.proofs.Common.{◌≡◌, reverse, sym, ap, ◌∙◌, arith}
 use Rattle.ytt_base.specs.Outcomes.{place_at}
 use Rattle.code_spec.specs.Code as plain
-use Rattle.star_spec.specs.Operators.{binary_row}
-use Rattle.star_spec.specs.Outcomes.{then_do, ◌>>=◌}
+use Rattle.operator_spec.specs.Operators.{binary_row}
+use Rattle.value_spec.specs.Outcomes.{then_do, ◌>>=◌}
 use Rattle.star_tree.proofs.Forms.{expr_of-Binary}
 use Rattle.star_tree.specs.Whole.{binary_operator_of, expr_of}
 use Rattle.star_eval.specs.Frames.{around_value, env_in}

@@ -7,7 +7,7 @@ use Rattle.code_spec.specs.Unbuilt.{unbuilt_ops}
 use Rattle.code_spec.proofs.UnbuiltBlocks.{blocks_built}
 use Rattle.star_tree.specs.Whole.{program_of}
 use Rattle.star_blocks.specs.Nested.{ops_of}
-use Rattle.star_ops.specs.Meets.{in_store}
+use Rattle.plain_ops.specs.Meets.{in_store}
 use Rattle.star_resolve.specs.Frames.{boxed, unset_boxes}
 use Rattle.star_resolve.specs.Variables.{each_once}
 use Rattle.node_build.specs.View.{nodes_of}

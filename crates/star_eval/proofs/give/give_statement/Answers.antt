@@ -1,6 +1,6 @@
 use Rattle.std.proofs.Common.{◌≡◌, false, reverse, if◌then◌else◌, sym, ap, ◌∙◌, rules}
-use Rattle.star_spec.specs.Members.{truth_in}
-use Rattle.star_ops.specs.View.{value_of}
+use Rattle.value_spec.specs.Members.{truth_in}
+use Rattle.plain_ops.specs.View.{value_of}
 use Rattle.star_blocks.specs.Nested.{arms_of, ops_of}
 use Rattle.star_eval.specs.Frames.{around_flow, env_in, nodes_in, statement_goes}
 use Rattle.star_eval.specs.Meets.{state_of}

@@ -2,10 +2,10 @@ use Rattle.std.proofs.Common.{◌≡◌, false, None, rules, subst, sym, ap, ◌
 use Rattle.ytt_base.specs.declared.fault.FaultKind.TheVariants as kind
 use Rattle.star_spec.specs.Names.{constant, unbound}
 use Rattle.code_spec.specs.Names.{is_among, own_functions}
-use Rattle.star_spec.specs.Outcomes.{Computation, fail_with, not_built}
-use Rattle.star_spec.specs.Values.{Value}
-use Rattle.star_ops.specs.Meets.{Meets}
-use Rattle.star_ops.specs.View.{value_of}
+use Rattle.value_spec.specs.Outcomes.{Computation, fail_with, not_built}
+use Rattle.value_spec.specs.Values.{Value}
+use Rattle.plain_ops.specs.Meets.{Meets}
+use Rattle.plain_ops.specs.View.{value_of}
 use Rattle.star_eval.proofs.names.unbound.Goals as goal
 
 pub returns-else-is_own_function : goal.returns-else-is_own_function

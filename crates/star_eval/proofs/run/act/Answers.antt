@@ -3,7 +3,7 @@ use Rattle.ytt_base.specs.Outcomes.{place_at}
 use Rattle.code_spec.specs.Blocks.{op_statement}
 use Rattle.code_spec.specs.Code as plain
 use Rattle.star_spec.specs.Flow.{on}
-use Rattle.star_spec.specs.Outcomes.{give, then_do}
+use Rattle.value_spec.specs.Outcomes.{give, then_do}
 use Rattle.star_tree.specs.Whole.{expr_of}
 use Rattle.star_blocks.specs.Nested.{statement_of}
 use Rattle.star_blocks.specs.declared.block.Statement.{the_lemmas}

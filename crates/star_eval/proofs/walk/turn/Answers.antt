@@ -1,5 +1,5 @@
 use Rattle.std.proofs.Common.{◌≡◌, ◌+◌, slice_get, reverse, Some, None, ap, rules, arith}
-use Rattle.star_ops.specs.View.{value_of}
+use Rattle.plain_ops.specs.View.{value_of}
 use Rattle.star_eval.specs.Frames.{around_flow, env_in, nodes_in, turn_of}
 use Rattle.star_eval.specs.Meets.{state_of}
 use Rattle.star_eval.proofs.Loops.{turns_on, turns_over}

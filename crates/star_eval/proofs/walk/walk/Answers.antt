@@ -1,8 +1,8 @@
 use Rattle.std.proofs.Common.{◌≡◌, reverse, map as each, sym, ap, ◌∙◌, rules}
-use Rattle.star_spec.specs.Values.{tuple_value, values_from}
+use Rattle.value_spec.specs.Values.{tuple_value, values_from}
 use Rattle.star_tree.specs.Whole.{expr_of}
-use Rattle.star_ops.specs.declared.value.Value.{the_lemmas}
-use Rattle.star_ops.specs.View.{value_of, values_of}
+use Rattle.plain_ops.specs.declared.value.Value.{the_lemmas}
+use Rattle.plain_ops.specs.View.{value_of, values_of}
 use Rattle.star_blocks.specs.Nested.{ops_of}
 use Rattle.star_eval.specs.Frames.{around_flow, env_in, nodes_in}
 use Rattle.star_eval.specs.Meets.{state_of}

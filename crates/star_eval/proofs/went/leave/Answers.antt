@@ -1,5 +1,5 @@
 use Rattle.std.proofs.Common.{reverse, [], ◌∷◌, sym, ap, ◌∙◌, arith}
-use Rattle.star_spec.specs.Outcomes.{bad}
+use Rattle.value_spec.specs.Outcomes.{bad}
 use Rattle.star_eval.specs.Frames.{env_in, nodes_in, unwind_flow}
 use Rattle.star_eval.specs.Meets.{state_of}
 use Rattle.star_eval.proofs.Sorts.{fault_alike}

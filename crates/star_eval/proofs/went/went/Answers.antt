@@ -1,7 +1,7 @@
 use Rattle.std.proofs.Common.{reverse, [], ◌∷◌, sym, ap, subst, ◌∙◌, arith}
 use Rattle.ytt_base.specs.declared.fault.FaultKind.TheVariants as kind
 use Rattle.ytt_base.specs.Outcomes.{fault_of}
-use Rattle.star_spec.specs.Outcomes.{done}
+use Rattle.value_spec.specs.Outcomes.{done}
 use Rattle.star_eval.specs.declared.frame.Control.{Control}
 use Rattle.star_eval.specs.Frames.{Goes, budget, env_in, flow_of, nodes_in, unwind_flow}
 use Rattle.star_eval.specs.Meets.{state_of}

@@ -1,0 +1,4 @@
+pub mod FreshValues
+pub mod Index
+pub mod KeyTexts
+pub mod Slices

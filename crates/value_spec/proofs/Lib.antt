@@ -1,0 +1,2 @@
+pub mod Computations
+pub mod Keys
