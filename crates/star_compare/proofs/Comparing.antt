@@ -1,11 +1,7 @@
 -- What has an order is measured, and then compared.
-use Rattle.std.proofs.Common.{◌≡◌, Bool, true, false, refl, sym}
+use Rattle.star_steps.proofs.Names.{◌≡◌, Bool, true, false, refl, sym, Place, are_comparable, comparison, order, State, Computation, Ending, done, then_do, need, reads, ◌>>=◌, Store, then_assoc}
 use Rattle.ytt_base.specs.declared.fault.FaultKind.TheVariants as kind
-use Rattle.ytt_base.specs.declared.fault.Place.{Place}
-use Rattle.operator_spec.specs.Order.{are_comparable, comparison, order}
-use Rattle.value_spec.specs.Outcomes.{State, Computation, Ending, done, then_do, need, reads, ◌>>=◌}
-use Rattle.value_spec.specs.Values.{Store, Value}
-use Rattle.value_spec.proofs.Computations.{then_assoc}
+use Rattle.value_spec.specs.Values.{Value}
 use Rattle.star_compare.specs.Alike.{both_measured, measure, ordered}
 
 measured_both : (a b : Value) (e : Ending (Unit {0}) (Unit {0})) (f : Computation (Unit {0}) (Unit {0})) →

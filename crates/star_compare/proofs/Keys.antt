@@ -1,12 +1,6 @@
 -- What takes the size of a key, and isn't refused, is a key whose tuples stand in so many levels.
-use Rattle.std.proofs.Common.{◌≡◌, ℕ, zero, suc, Result, Ok, Err, OnOk, refl}
-use Rattle.ytt_base.specs.declared.fault.Place.{Place}
-use Rattle.ytt_base.specs.declared.fault.Stop.{Stop}
-use Rattle.value_spec.specs.Outcomes.{State, Ending, done, bad, then_do, Computation, take_steps}
-use Rattle.value_spec.specs.Values.{Value, none_value, bool_value, int_value, text_value, tuple_value, range_value, struct_value, fragment_value, list_value, dict_value, function_value, module_value, native_value, Values, no_values, a_value, values_in}
-use Rattle.operator_spec.specs.Order.{each_sized, key_sized, measured_by, measured_within}
-use Rattle.index_spec.specs.KeyTexts.{IsKeyWithin, AreKeysWithin}
-use Rattle.star_steps.specs.Meets.{Meets, as_is}
+use Rattle.star_steps.proofs.Names.{◌≡◌, ℕ, zero, suc, Result, Ok, Err, OnOk, refl, Place, Stop, State, Ending, done, bad, then_do, Computation, take_steps, none_value, bool_value, int_value, text_value, tuple_value, range_value, struct_value, fragment_value, list_value, dict_value, function_value, module_value, native_value, Values, no_values, a_value, values_in, each_sized, key_sized, measured_by, measured_within, IsKeyWithin, AreKeysWithin, Meets, as_is}
+use Rattle.value_spec.specs.Values.{Value}
 use Rattle.star_compare.specs.Alike.{measure}
 
 -- what ends well went on from a value

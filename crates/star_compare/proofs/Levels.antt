@@ -1,17 +1,7 @@
 -- One level less for what stands in values.
-use Rattle.std.proofs.Common.{◌≡◌, ℕ, suc, ◌-◌, Bool, true, false, if◌then◌else◌, List, [], ◌∷◌, length, refl, sym, ap, ◌∙◌, eq-eqb, arith}
-use Rattle.std.proofs.lemmas.Bool.{ne_eqb}
-use Rattle.std.specs.Prelude.{map as each}
-use Rattle.std.proofs.lemmas.List.{length-map}
-use Rattle.ytt_base.specs.declared.fault.Place.{Place}
-use Rattle.operator_spec.specs.Equality.{all_found, among, equality, equal_dicts, equal_members, equal_pairs, inside_at, named_values}
-use Rattle.operator_spec.specs.Order.{by_members, each_sized, measured_within, order_within}
-use Rattle.value_spec.specs.Outcomes.{State, done, give, paid}
-use Rattle.value_spec.proofs.Computations.{then_ext}
-use Rattle.value_spec.specs.Values.{Fields, Store, Value}
-use Rattle.star_values.specs.View.{fields_in}
-use Rattle.star_values.specs.declared.value.NamedValue.{NamedValue}
-use Rattle.star_compare.specs.Alike.{alike, among_by, measure, ordered}
+use Rattle.star_steps.proofs.Names.{equal_by, range_value, ℤ, ◌≡◌, ℕ, suc, ◌-◌, Bool, true, false, if◌then◌else◌, List, [], ◌∷◌, length, refl, sym, ap, ◌∙◌, eq-eqb, arith, ne_eqb, map as each, length-map, Place, all_found, among, equality, equal_dicts, equal_members, equal_pairs, inside_at, named_values, by_members, each_sized, measured_within, order_within, State, done, give, paid, then_ext, Fields, Store, fields_in, NamedValue}
+use Rattle.value_spec.specs.Values.{Value}
+use Rattle.star_compare.specs.Alike.{numbers_from, alike, among_by, measure, ordered}
 
 -- where there is a level, there is one less
 pub one_less : (n : ℕ) → (n ≡ 0 → ⊥) → n ≡ suc (n - 1)
@@ -38,11 +28,6 @@ members_next n k p vs ws s e h =
     ap (λ m. (inside_at {H = Unit {0}} m p).members vs ws s) e ∙ members_below k p vs ws s
     ∙ ap (λ b. (if b then equal_pairs (alike k p) p vs ws else give false) s) (eq-eqb _ _ h)
 
-pub members_unlike : (n k : ℕ) (p : Place) (vs ws : List Value) (s : State (Unit {0})) → n ≡ suc k → (length vs ≡ length ws → ⊥) → (inside_at n p).members vs ws s ≡ done false s
-members_unlike n k p vs ws s e h =
-    ap (λ m. (inside_at {H = Unit {0}} m p).members vs ws s) e ∙ members_below k p vs ws s
-    ∙ ap (λ b. (if b then equal_pairs (alike k p) p vs ws else give false) s) (ne_eqb _ _ h)
-
 pub pairs_next : (n k : ℕ) (p : Place) (ps qs : List (Value × Value)) (s : State (Unit {0})) → n ≡ suc k → length ps ≡ length qs → (inside_at n p).pairs ps qs s ≡ all_found (alike k p) p ps qs s
 pairs_next n k p ps qs s e h =
     ap (λ m. (inside_at {H = Unit {0}} m p).pairs ps qs s) e ∙ pairs_below k p ps qs s
@@ -53,6 +38,13 @@ sized_next r n k p vs s e = ap (λ m. measured_within {H = Unit {0}} r m p vs s)
 
 pub ordered_next : (n k : ℕ) (store : Store) (vs ws : List Value) → n ≡ suc k → order_within n store vs ws ≡ by_members (ordered k store) vs ws
 ordered_next n k store vs ws e = ap (λ m. order_within m store vs ws) e ∙ ordered_below k store vs ws
+
+-- the numbers of ranges
+pub ranges_next : (n : ℕ) (p : Place) (v w : Value) (q r : ℤ × ℤ × ℤ) (s : State (Unit {0})) → (n ≡ 0 → ⊥) → v ≡ range_value q.0 q.1 q.2 → w ≡ range_value r.0 r.1 r.2 →
+    equal_by (inside_at n p) p v w s ≡ equal_members (alike (n - 1) p) p (numbers_from q) (numbers_from r) s
+ranges_next n p v w q r s some e f =
+    (λ i. equal_by {H = Unit {0}} (inside_at n p) p (e i) (f i) s)
+    ∙ ap (λ m. (inside_at {H = Unit {0}} m p).members (numbers_from q) (numbers_from r) s) (one_less n some) ∙ members_below (n - 1) p (numbers_from q) (numbers_from r) s
 
 -- ---- as many
 

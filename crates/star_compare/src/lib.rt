@@ -12,5 +12,5 @@ mod sizes;
 
 pub use equality::{among, bounds, equal};
 pub use order::compare;
-pub use pairs::{field_under, pair_at, pair_count, value_under};
+pub use pairs::{field_under, pair_count, value_under};
 pub use sizes::key_size;

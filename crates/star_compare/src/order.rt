@@ -1,15 +1,11 @@
 // The order of values.
 ghost use Rattle.std.specs.Prelude.{◌≡◌};
-ghost use Rattle.operator_spec.specs.Order.{are_comparable, by_bool, by_integer, by_members, by_number, comparison, order_within, rank};
-ghost use Rattle.star_values.specs.Objects.{seen};
-ghost use Rattle.star_values.specs.Owns.{Owns, OwnsAll};
-ghost use Rattle.star_values.specs.View.{View, value_of, values_of};
-ghost use Rattle.star_steps.specs.Meets.{Meets, as_is, state_in};
+ghost use Rattle.star_steps.specs.Names.{are_comparable, by_bool, by_integer, by_members, by_number, comparison, order_within, rank, seen, Owns, OwnsAll, View, value_of, values_of, Meets, as_is, state_in};
 ghost use Rattle.star_compare.specs.Alike.{both_measured, comparison_of, ordered};
 
 use crate::sizes::{MAX_DEPTH, ORDERED_RANKS, pay_size, rank_of};
 use object_arena::{Arena, Value};
-use star_steps::{refusal, tuple_members};
+use star_steps::{Depth, Paid, refusal, tuple_members};
 use std::cmp::Ordering;
 use ytt_base::fault::{FaultKind, Place, Stop};
 
@@ -180,17 +176,13 @@ pub fn compare(
 }
 
 /// The steps of both.
-fn pay_sizes(
-    arena: &Arena,
-    place: Place,
-    left: Value,
-    right: Value,
-    steps: &mut u64,
-) -> Result<(), Stop>
+fn pay_sizes(arena: &Arena, place: Place, left: Value, right: Value, steps: &mut u64) -> Paid
     requires left { Owns (seen arena.now) left }
     requires right { Owns (seen arena.now) right }
     ensures { Meets as_is result (state_in (seen arena.now) steps.new) (both_measured place (value_of (seen arena.now) left) (value_of (seen arena.now) right) (state_in (seen arena.now) steps.old)) }
 {
-    pay_size(arena, place, ORDERED_RANKS, MAX_DEPTH, left, steps)?;
-    pay_size(arena, place, ORDERED_RANKS, MAX_DEPTH, right, steps)
+    let levels = MAX_DEPTH;
+    let at = Depth { place, levels };
+    pay_size(arena, at, ORDERED_RANKS, left, steps)?;
+    pay_size(arena, at, ORDERED_RANKS, right, steps)
 }

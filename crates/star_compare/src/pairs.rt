@@ -1,12 +1,6 @@
 // What stands under a key of a dict, or a name of a struct.
-ghost use Rattle.std.specs.Prelude.{◌≡◌, ◌<◌, length, slice_get, Some};
-ghost use Rattle.value_spec.specs.Keys.{IsKey};
-ghost use Rattle.value_spec.specs.Store.{pairs_at, value_of_key};
-ghost use Rattle.value_spec.specs.Values.{text_value};
-ghost use Rattle.operator_spec.specs.Equality.{named_values};
-ghost use Rattle.star_values.specs.Objects.{pair_in, seen};
-ghost use Rattle.star_values.specs.Owns.{Owns, OwnsFields, OwnsOption, OwnsPair};
-ghost use Rattle.star_values.specs.View.{View, fields_in, option_in, value_of};
+ghost use Rattle.std.specs.Prelude.{◌≡◌};
+ghost use Rattle.star_steps.specs.Names.{length, IsKey, pairs_at, value_of_key, text_value, named_values, seen, Owns, OwnsFields, OwnsOption, View, fields_in, option_in, value_of};
 ghost use Rattle.star_values.specs.declared.value.Value.TheVariants as value;
 
 use object_arena::{Arena, NamedValue, Ref, Value};
@@ -33,28 +27,17 @@ pub fn pair_count(arena: &Arena, dict: Ref) -> u64
     arena.length(dict)
 }
 
-/// The pair of a dict at a place, of which there is one.
-pub fn pair_at(arena: &Arena, dict: Ref, at: u64) -> (Value, Value)
-    requires dict { Owns (seen arena.now) (value.Dict dict) }
-    requires at { at < length (pairs_at dict.at (seen arena.now).store) }
-    ensures pair { slice_get (pairs_at dict.at (seen arena.now).store) at ≡ Some (pair_in (seen arena.now).held result) }
-    ensures owned { OwnsPair (seen arena.now) result }
-{
-    match arena.dict_at(dict, at) {
-        Ok(pair) => pair,
-        Err(_) => unreachable!(),
-    }
-}
-
 /// The value of the first field with this name.
 pub fn field_under(fields: &[NamedValue], name: &str) -> Option<Value>
     ensures value { (a : View) → option_in a.held result ≡ value_of_key (text_value name.now) (named_values (fields_in a.held fields.now)) }
     ensures owned { (a : View) → OwnsFields a fields.now → OwnsOption a result }
 {
-    for field in fields {
+    let mut rest = fields;
+    while let Some((field, more)) = rest.split_first() {
         if field.name.as_str() == name {
             return Some(field.value);
         }
+        rest = more;
     }
     None
 }

@@ -1,20 +1,8 @@
 -- A new dict, which pairs are put into.
-use Rattle.std.proofs.Common.{◌≡◌, ℕ, ◌+◌, ◌<◌, ◌≤◌, get_or, take, List, [], ◌∷◌, ◌++◌, length, Some, Ok, refl, sym, ap, subst, ◌∙◌}
-use Rattle.std.proofs.lemmas.List.{map-append, take_all, take_more}
-use Rattle.std.proofs.lemmas.Option.{slice_get-get_or}
-use Rattle.std.specs.Prelude.{slice_get, slice_set}
-use Rattle.value_spec.specs.Outcomes.{done, new_dict}
-use Rattle.value_spec.specs.Store.{Answer, did, refused, dict_put, object, on_found, put_key, put_pair, put_pairs, with_object}
+use Rattle.star_steps.proofs.Names.{◌≡◌, ℕ, ◌+◌, ◌<◌, ◌≤◌, get_or, take, List, [], ◌∷◌, ◌++◌, length, Some, Ok, refl, sym, ap, subst, ◌∙◌, map-append, take_all, take_more, slice_get-get_or, slice_get, slice_set, done, new_dict, Answer, did, refused, dict_put, object, on_found, put_key, put_pair, put_pairs, with_object, of_dict, Object, Store, pair_in, Each, Grows, Owns, OwnsPair, View, value_in, value_of, Ref, Value, each_at, grows_then, owns_kept}
 use Rattle.value_spec.specs.Values as plain
-use Rattle.value_spec.specs.Values.{of_dict, Contents, Object, Store}
-use Rattle.star_values.specs.Objects.{pair_in}
-use Rattle.star_values.specs.Owns.{Each, Grows, Owns, OwnsPair}
-use Rattle.star_values.specs.View.{View, value_in, value_of}
-use Rattle.star_values.specs.declared.value.Ref.{Ref}
-use Rattle.star_values.specs.declared.value.Value.{Value}
 use Rattle.star_values.specs.declared.value.Value.TheVariants as value
-use Rattle.star_values.proofs.Growing.{each_at, grows_then, owns_kept}
-use Rattle.star_fragments.specs.Fresh.{BuildsValue, OwnsPairs, pairs_of}
+use Rattle.star_fragments.specs.Fresh.{Builds, OwnsPairs, pairs_of}
 use Rattle.star_fragments.proofs.Making.{keeps_pair}
 
 -- ---- the newest object
@@ -66,7 +54,7 @@ put_next d put k v a b c h e f g =
       grows = grows_then a b c h.grows g;
     }
 
-pub put_all : (d : Ref) (put : List (Value × Value)) (a b : View) → PutSoFar d put a b → BuildsValue (new_dict (put_pairs [] (pairs_of a put))) (Ok (value.Dict d)) a b
+pub put_all : (d : Ref) (put : List (Value × Value)) (a b : View) → PutSoFar d put a b → Builds value_of Owns (new_dict (put_pairs [] (pairs_of a put))) (Ok (value.Dict d)) a b
 put_all d put a b h = record {
   meaning = λ n i. done (plain.dict_value (sym h.here i)) (record { store = sym h.store i; steps = n; host = tt });
   owns = h.owns;
@@ -86,5 +74,5 @@ pub put_more : (r : Ref) (pairs : List (Value × Value)) (i : ℕ) (d : Value ×
 put_more r pairs i d a b c lt h e f g =
     subst (λ l. PutSoFar r l a c) (sym (take_more pairs i d lt)) (put_next r (take i pairs) (get_or pairs i d).0 (get_or pairs i d).1 a b c h e f g)
 
-pub put_done : (r : Ref) (pairs : List (Value × Value)) (i : ℕ) (a b : View) → length pairs ≤ i → PutSoFar r (take i pairs) a b → BuildsValue (new_dict (put_pairs [] (pairs_of a pairs))) (Ok (value.Dict r)) a b
-put_done r pairs i a b past h = subst (λ l. BuildsValue (new_dict (put_pairs [] (pairs_of a l))) (Ok (value.Dict r)) a b) (take_all i pairs past) (put_all r (take i pairs) a b h)
+pub put_done : (r : Ref) (pairs : List (Value × Value)) (i : ℕ) (a b : View) → length pairs ≤ i → PutSoFar r (take i pairs) a b → Builds value_of Owns (new_dict (put_pairs [] (pairs_of a pairs))) (Ok (value.Dict r)) a b
+put_done r pairs i a b past h = subst (λ l. Builds value_of Owns (new_dict (put_pairs [] (pairs_of a l))) (Ok (value.Dict r)) a b) (take_all i pairs past) (put_all r (take i pairs) a b h)

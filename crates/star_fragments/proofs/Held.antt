@@ -1,27 +1,9 @@
 -- The members of fragments, and what they hold.
-use Rattle.std.proofs.Common.{◌≡◌, ℕ, zero, suc, ◌+◌, ◌<◌, ◌≤◌, true, false, if◌then◌else◌, drop, get_or, Result, Ok, Err, List, [], ◌∷◌, ◌++◌, length, Option, Some, None, refl, sym, ap, subst, ◌∙◌, rules, arith}
-use Rattle.std.specs.Prelude.{slice_get, map}
-use Rattle.std.proofs.Math.ListN.{drop_of_length-le}
-use Rattle.std.proofs.lemmas.Option.{slice_get-get_or}
-use Rattle.ytt_base.specs.Trees.{Scalar, max_depth}
-use Rattle.ytt_base.specs.declared.fault.Place.{Place}
-use Rattle.ytt_base.specs.declared.fault.Stop.{Stop}
-use Rattle.value_spec.specs.Built.{body_paid}
-use Rattle.value_spec.specs.Outcomes.{State, Ending, done, bad, then_do, give}
+use Rattle.star_steps.proofs.Names.{◌≡◌, ℕ, zero, suc, ◌+◌, ◌<◌, ◌≤◌, true, false, if◌then◌else◌, drop, get_or, Ok, List, [], ◌∷◌, ◌++◌, length, Option, Some, None, refl, sym, ap, subst, ◌∙◌, rules, arith, slice_get, map, drop_of_length-le, slice_get-get_or, Scalar, max_depth, Place, body_paid, State, done, then_do, fresh_body, body_at, body_under, body_value, child_count, has_key, Each, Owns, OwnsAll, OwnsBuilt, OwnsItem, all_values, body_values, item_values, note_values, values_of_item, View, body_in, built_in, scalar_key, BuiltItem, BuiltValue, fold-BuiltValue, the_lemmas, Value, some_same, Gives, state_in, value_of}
 use Rattle.value_spec.specs.Values as plain
-use Rattle.index_spec.specs.FreshValues.{fresh_body}
-use Rattle.index_spec.specs.Index.{body_at, body_under, body_value, child_count, has_key}
-use Rattle.star_values.specs.Owns.{Each, Owns, OwnsAll, OwnsBuilt, OwnsItem, all_values, body_values, item_values, note_values, values_of_item}
-use Rattle.star_values.specs.View.{View, body_in, built_in, scalar_key}
-use Rattle.star_values.specs.declared.value.BuiltItem.{BuiltItem}
 use Rattle.star_values.specs.declared.value.BuiltValue as code
-use Rattle.star_values.specs.declared.value.BuiltValue.{BuiltValue, fold-BuiltValue, the_lemmas}
-use Rattle.star_values.specs.declared.value.Value.{Value}
-use Rattle.star_values.proofs.Slots.{some_same}
-use Rattle.star_steps.specs.Meets.{Gives, Meets, as_is, state_in}
-use Rattle.star_steps.proofs.Meeting.{meets_stop}
 use Rattle.star_fragments.specs.Fragments.{Finds}
-use Rattle.star_fragments.specs.Fresh.{BuildsValue, OwnsBody, paid_body}
+use Rattle.star_fragments.specs.Fresh.{Builds, OwnsBody}
 use Rattle.star_fragments.specs.Nodes.{spread_body}
 use Rattle.star_fragments.proofs.Making.{dropped}
 use Rattle.star_fragments.proofs.Spread.{body_paid_spread}
@@ -87,43 +69,22 @@ map_owned a w is e o = items_owned a is (subst (OwnsAll a) (ap held_values e ∙
 pub list_owned : (a : View) (w : BuiltValue) (is : List BuiltItem) → w ≡ code.List is → OwnsBody a w → OwnsBuilt a is
 list_owned a w is e o = items_owned a is (subst (OwnsAll a) (ap held_values e ∙ list_values is) o)
 
--- ---- the size, and then the value
-
-after_size : (b : plain.Body) (o : Ending (Unit {0}) (Unit {0})) → then_do o (λ u. fresh_body b) ≡ then_do (then_do o (λ u. give b)) fresh_body
-after_size b (done u s) = refl
-after_size b (bad f s) = refl
-
-value_after_size : (p : Place) (b : plain.Body) (s : State (Unit {0})) → body_value p b s ≡ then_do (paid_body p b s) fresh_body
-value_after_size p b s = after_size b (body_paid p max_depth b s)
-
 -- ---- a copy after its size
 
-module _ (held : List plain.Value) (p : Place) (b : plain.Body) (w : BuiltValue) where
-  sized : (x : plain.Body) (o : Option plain.Body) (s : State (Unit {0})) → o ≡ Some b → o ≡ Some (body_in held w) → x ≡ spread_body (body_in held w) → body_paid p max_depth b s ≡ body_paid p max_depth x s
-  sized x o s e f g =
-      ap (λ b. body_paid p max_depth b s) (some_same b (body_in held w) (sym e ∙ f))
-      ∙ ap (λ m. m s) (sym (body_paid_spread p max_depth (body_in held w)))
-      ∙ ap (λ x. body_paid p max_depth x s) (sym g)
+-- there stands the body b, which is that of w; what is paid for is x
+module _ (a : View) (p : Place) (b : plain.Body) (w : BuiltValue) (x : plain.Body) (o : Option plain.Body) (s : State (Unit {0})) (there : o ≡ Some b) (here : o ≡ Some (body_in a.held w)) (seen_so : x ≡ spread_body (body_in a.held w)) where
+  same_body : b ≡ body_in a.held w
+  same_body = some_same b (body_in a.held w) (sym there ∙ here)
 
-  pub copy_refused : (x : plain.Body) (o : Option plain.Body) (r : Result BuiltValue Stop) (e : Stop) (s t : State (Unit {0})) → o ≡ Some b → o ≡ Some (body_in held w) → x ≡ spread_body (body_in held w)
-      → Meets (as_is {A = Unit {0}}) (Err e) t (body_paid p max_depth x s) → r ≡ Err e → Meets (body_in held) r t (paid_body p b s)
-  copy_refused x o r e s t f g h m is =
-      meets_stop as_is (body_in held) e t (body_paid p max_depth b s) (λ u. give b) r (subst (Meets as_is (Err e) t) (sym (sized x o s f g h)) m) is
+  pub sized : body_paid p max_depth b s ≡ body_paid p max_depth x s
+  sized = ap (λ b. body_paid p max_depth b s) same_body ∙ ap (λ m. m s) (sym (body_paid_spread p max_depth (body_in a.held w))) ∙ ap (λ x. body_paid p max_depth x s) (sym seen_so)
 
-  pub copy_paid : (copy : BuiltValue) (x : plain.Body) (o : Option plain.Body) (u : Unit {0}) (s t : State (Unit {0})) → o ≡ Some b → o ≡ Some (body_in held w) → x ≡ spread_body (body_in held w)
-      → Meets (as_is {A = Unit {0}}) (Ok u) t (body_paid p max_depth x s) → copy ≡ w → Meets (body_in held) (Ok copy) t (paid_body p b s)
-  copy_paid copy x o u s t f g h m is =
-      ap (λ o. then_do o (λ u. give b)) (sized x o s f g h ∙ m) ∙ ap (λ b. done b t) (some_same b (body_in held w) (sym f ∙ g) ∙ ap (body_in held) (sym is))
-
--- ---- the value
-
-pub value_built : (p : Place) (b : plain.Body) (w : BuiltValue) (v : Value) (a c : View) (s : State (Unit {0})) (n : ℕ) → paid_body p b s ≡ done (body_in a.held w) (state_in a n)
-    → BuildsValue (fresh_body (body_in a.held w)) (Ok v) a c → Gives (body_value p b s) (Ok v) a c n
-value_built p b w v a c s n e h = record {
-  meaning = value_after_size p b s ∙ ap (λ o. then_do o fresh_body) e ∙ h.meaning n;
-  owns = h.owns;
-  grows = h.grows;
-}
+  pub value_built : (copy : BuiltValue) (u : Unit {0}) (v : Value) (c : View) (n : ℕ) → body_paid p max_depth x s ≡ done u (state_in a n) → copy ≡ w → Builds value_of Owns (fresh_body (body_in a.held copy)) (Ok v) a c → Gives (body_value p b s) (Ok v) a c n
+  value_built copy u v c n paid is h = record {
+    meaning = ap (λ o. then_do o (λ u. fresh_body b)) (sized ∙ paid) ∙ ap (λ b. fresh_body b (state_in a n)) (same_body ∙ ap (body_in a.held) (sym is)) ∙ h.meaning n;
+    owns = h.owns;
+    grows = h.grows;
+  }
 
 -- ---- the first member with a key
 

@@ -1,26 +1,9 @@
 -- Values that are made one after another, in an arena that grows.
-use Rattle.std.proofs.Common.{◌≡◌, ℕ, ◌+◌, ◌<◌, List, [], ◌∷◌, ◌++◌, length, drop, get_or, map, Result, Ok, Err, refl, sym, ap, subst, ◌∙◌, append_assoc, add-one}
-use Rattle.std.proofs.lemmas.List.{map-append}
-use Rattle.std.proofs.Math.Seq.{drop-cons}
-use Rattle.ytt_base.specs.Trees.{Scalar, null, boolean, integer, string}
-use Rattle.ytt_base.specs.declared.text.Memory.{Memory}
-use Rattle.ytt_base.specs.declared.tree.Key.{Key}
+use Rattle.star_steps.proofs.Names.{◌≡◌, ℕ, ◌+◌, ◌<◌, List, [], ◌∷◌, ◌++◌, length, drop, get_or, map, Result, Ok, Err, refl, sym, ap, subst, ◌∙◌, append_assoc, add-one, map-append, drop-cons, Scalar, null, boolean, integer, string, Memory, Key, key_of, pairs_of as entries_of, trees_of, tree_of-List, tree_of-Map, IsKey, Computation, Ending, done, bad, then_do, give, new_dict, new_list, ◌>>=◌, put_pairs, fresh_pairs, fresh_value, fresh_values, value_of_scalar, MakesObject, Each, Grows, Owns, OwnsPair, View, value_of, values_of, Value, grows_then, owns_kept, value_kept, state_in, OwnsAll}
 use Rattle.ytt_base.specs.declared.tree.Tree.{Tree}
-use Rattle.ytt_base.specs.View.{key_of, pairs_of as entries_of, trees_of}
 use Rattle.ytt_base.specs.declared.tree.Tree as code
-use Rattle.ytt_base.proofs.Views.{tree_of-List, tree_of-Map}
-use Rattle.value_spec.specs.Keys.{IsKey}
-use Rattle.value_spec.specs.Outcomes.{Computation, Ending, done, bad, then_do, give, new_dict, new_list, ◌>>=◌}
-use Rattle.value_spec.specs.Store.{put_pairs}
 use Rattle.value_spec.specs.Values as plain
-use Rattle.index_spec.specs.FreshValues.{fresh_pairs, fresh_value, fresh_values, value_of_scalar}
-use Rattle.object_arena.specs.Made.{MakesObject}
-use Rattle.star_values.specs.Owns.{Each, Grows, Owns, OwnsPair}
-use Rattle.star_values.specs.View.{View, value_of, values_of}
-use Rattle.star_values.specs.declared.value.Value.{Value}
-use Rattle.star_values.proofs.Growing.{grows_then, owns_kept, value_kept}
-use Rattle.star_steps.specs.Meets.{state_in}
-use Rattle.star_fragments.specs.Fresh.{BuildsPair, BuildsPairs, BuildsValue, BuildsValues, each_made, pair_made, pair_of, pairs_of, value_made}
+use Rattle.star_fragments.specs.Fresh.{Builds, OwnsPairs, each_made, pair_made, pair_of, pairs_of, value_made}
 
 -- so many are made, and these are left to make
 pub record MadeSoFar {T V A : Type 0} (one : View → V → A) (Owned : View → V → Type 0) (f : T → Computation (Unit {0}) A) (all left : List T) (made : List V) (a b : View) : Type 0 where
@@ -73,8 +56,8 @@ module _ {T V A : Type 0} (one : View → V → A) (Owned : View → V → Type 
       }
 
 -- want of memory
-pub none_built : (m : Computation (Unit {0}) plain.Value) (r : Result Value Memory) (e : Memory) (a b : View) → r ≡ Err e → Grows a b → BuildsValue m r a b
-none_built m r e a b is g = subst (λ r. BuildsValue m r a b) (sym is) (record { meaning = tt; owns = tt; grows = g })
+pub none_built : (m : Computation (Unit {0}) plain.Value) (r : Result Value Memory) (e : Memory) (a b : View) → r ≡ Err e → Grows a b → Builds value_of Owns m r a b
+none_built m r e a b is g = subst (λ r. Builds value_of Owns m r a b) (sym is) (record { meaning = tt; owns = tt; grows = g })
 
 -- ---- pairs
 
@@ -88,7 +71,7 @@ abbrev given : plain.Value → Ending (Unit {0}) plain.Value → plain.Value
 given d (done v s) = v
 given d (bad f s) = d
 
-pub pair_built : (e : Key × Tree) (k v : Value) (a b c : View) → BuildsValue (value_made e.1) (Ok v) a b → BuildsValue (give (value_of_scalar (key_of e.0))) (Ok k) b c → BuildsPair (pair_made e) (Ok (k, v)) a c
+pub pair_built : (e : Key × Tree) (k v : Value) (a b c : View) → Builds value_of Owns (value_made e.1) (Ok v) a b → Builds value_of Owns (give (value_of_scalar (key_of e.0))) (Ok k) b c → Builds pair_of OwnsPair (pair_made e) (Ok (k, v)) a c
 pair_built e k v a b c h g =
     let key : value_of_scalar (key_of e.0) ≡ value_of c k = ap (given plain.none_value) (g.meaning 0) in
     let kept = value_kept b c v g.grows h.owns in
@@ -109,8 +92,8 @@ trees_made (t ∷ ts) = λ i. value_made t >>= λ v. trees_made ts i >>= λ vs. 
 list_made : (t : Tree) (ts : List Tree) → t ≡ code.List ts → value_made t ≡ (each_made value_made ts >>= new_list)
 list_made t ts e = ap value_made e ∙ ap fresh_value (tree_of-List ts) ∙ (λ i. trees_made ts i >>= new_list)
 
-pub list_built : (t : Tree) (ts : List Tree) (vs : List Value) (r : Result Value Memory) (a b c : View) → t ≡ code.List ts → BuildsValues (each_made value_made ts) (Ok vs) a b
-    → MakesObject (plain.list_value (length b.store)) (plain.of_list (values_of b vs)) r b c → BuildsValue (value_made t) r a c
+pub list_built : (t : Tree) (ts : List Tree) (vs : List Value) (r : Result Value Memory) (a b c : View) → t ≡ code.List ts → Builds values_of OwnsAll (each_made value_made ts) (Ok vs) a b
+    → MakesObject (plain.list_value (length b.store)) (plain.of_list (values_of b vs)) r b c → Builds value_of Owns (value_made t) r a c
 list_built t ts vs (Ok v) a b c e h g = record {
   meaning = λ n. ap (λ m. m (state_in a n)) (list_made t ts e) ∙ ap (λ o. then_do o new_list) (h.meaning n)
       ∙ (λ i. done (sym g.value i) (record { store = sym g.store i; steps = n; host = tt }));
@@ -135,8 +118,8 @@ entries_made (p ∷ ps) =
 map_made : (t : Tree) (ps : List (Key × Tree)) → t ≡ code.Map ps → value_made t ≡ (each_made pair_made ps >>= λ ms. new_dict (put_pairs [] ms))
 map_made t ps e = ap value_made e ∙ ap fresh_value (tree_of-Map ps) ∙ (λ i. entries_made ps i >>= λ ms. new_dict (put_pairs [] ms))
 
-pub dict_built : (t : Tree) (ps : List (Key × Tree)) (qs : List (Value × Value)) (r : Result Value Memory) (a b c : View) → t ≡ code.Map ps → BuildsPairs (each_made pair_made ps) (Ok qs) a b
-    → BuildsValue (new_dict (put_pairs [] (pairs_of b qs))) r b c → BuildsValue (value_made t) r a c
+pub dict_built : (t : Tree) (ps : List (Key × Tree)) (qs : List (Value × Value)) (r : Result Value Memory) (a b c : View) → t ≡ code.Map ps → Builds pairs_of OwnsPairs (each_made pair_made ps) (Ok qs) a b
+    → Builds value_of Owns (new_dict (put_pairs [] (pairs_of b qs))) r b c → Builds value_of Owns (value_made t) r a c
 dict_built t ps qs (Ok v) a b c e h g = record {
   meaning = λ n. ap (λ m. m (state_in a n)) (map_made t ps e) ∙ ap (λ o. then_do o (λ ms. new_dict (put_pairs [] ms))) (h.meaning n) ∙ g.meaning n;
   owns = g.owns;

@@ -1,11 +1,7 @@
 -- The pairs of a map, and the elements of a list as such pairs.
-use Rattle.std.proofs.Common.{◌≡◌, ℕ, suc, ◌==◌, Bool, true, false, Option, None, if◌then◌else◌, refl, sym, ap, ◌∙◌}
-use Rattle.ytt_base.specs.declared.fault.Place.{Place}
-use Rattle.ytt_base.specs.Trees.{Scalar, list, map, Trees, no_trees, tree}
+use Rattle.star_steps.proofs.Names.{◌≡◌, ℕ, suc, ◌==◌, Bool, true, false, Option, None, if◌then◌else◌, refl, sym, ap, ◌∙◌, Place, Scalar, list, Trees, no_trees, tree, State, give, paid, Children, Body, and_then, equal_elements, equal_entries, equal_trees, pair_count, tree_count}
+use Rattle.ytt_base.specs.Trees.{map}
 use Rattle.value_spec.specs.Built.{below}
-use Rattle.value_spec.specs.Outcomes.{State, give, paid}
-use Rattle.value_spec.specs.Values.{Children, Body}
-use Rattle.operator_spec.specs.Equality.{and_then, equal_elements, equal_entries, equal_trees, pair_count, tree_count}
 use Rattle.star_fragments.specs.Nodes.{a_part, as_pairs, pairs_among}
 
 -- a part without a key is no pair

@@ -1,12 +1,7 @@
 -- What is spread is the same tree, and takes the same steps.
-use Rattle.std.proofs.Common.{◌≡◌, ℕ, zero, suc, Some, None, refl, sym, ap, ◌∙◌}
-use Rattle.ytt_base.specs.declared.fault.Place.{Place}
-use Rattle.ytt_base.specs.Trees.{Tree, scalar, list, map, Trees, no_trees, tree, Pairs, no_pairs, pair}
-use Rattle.code_spec.specs.Program.{ItemKind}
-use Rattle.operator_spec.specs.Equality.{equal_by, equal_trees, inside_at}
-use Rattle.value_spec.specs.Built.{fragment_body, body_tree, children_trees, children_pairs, below, body_paid, children_paid, key_paid, pairs_paid, scalar_paid, tree_paid, trees_paid}
-use Rattle.value_spec.specs.Outcomes.{Computation, State, Ending, done, bad, give, paid, take_steps, then_do, ◌>>=◌}
-use Rattle.value_spec.specs.Values.{child, Children, no_children, a_child, Body, one, map_of, list_of, fragment_value}
+use Rattle.star_steps.proofs.Names.{◌≡◌, ℕ, zero, suc, Some, None, refl, sym, ap, ◌∙◌, Place, scalar, list, Trees, no_trees, tree, Pairs, no_pairs, pair, ItemKind, equal_by, equal_trees, inside_at, fragment_body, body_tree, children_trees, children_pairs, body_paid, children_paid, key_paid, pairs_paid, scalar_paid, tree_paid, trees_paid, Computation, State, Ending, done, bad, give, paid, take_steps, then_do, ◌>>=◌, child, Children, no_children, a_child, Body, one, map_of, list_of, fragment_value}
+use Rattle.ytt_base.specs.Trees.{Tree, map}
+use Rattle.value_spec.specs.Built.{below}
 use Rattle.star_fragments.specs.Nodes.{spread, spread_trees, spread_pairs, spread_body, spread_children}
 
 -- ---- the tree
@@ -76,7 +71,7 @@ mutual
   body_paid_spread p n (map_of cs) = ap (below p n) (λ i m. children_paid_spread p m cs i)
   body_paid_spread p n (list_of cs) = ap (below p n) (λ i m. children_paid_spread p m cs i)
 
-  children_paid_spread : (p : Place) (n : ℕ) (cs : Children) → children_paid {H = Unit {0}} p n (spread_children cs) ≡ children_paid p n cs
+  pub children_paid_spread : (p : Place) (n : ℕ) (cs : Children) → children_paid {H = Unit {0}} p n (spread_children cs) ≡ children_paid p n cs
   children_paid_spread p n no_children = refl
   children_paid_spread p n (a_child (child q ns x b) cs) = λ i. paid p (key_paid p x) >>= λ u. body_paid_spread p n b i >>= λ v. children_paid_spread p n cs i
 

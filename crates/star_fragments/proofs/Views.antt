@@ -1,22 +1,6 @@
--- The plain body of each form of what an item holds, and the plain child of an item.
-use Rattle.std.proofs.Common.{◌≡◌, List, rules}
-use Rattle.ytt_base.specs.declared.tree.Tree.{Tree}
-use Rattle.ytt_base.specs.View.{tree_of}
+-- The plain child of an item.
+use Rattle.star_steps.proofs.Names.{◌≡◌, List, rules, child, BuiltItem, the_lemmas, body_in, child_in, notes_in, scalar_key}
 use Rattle.value_spec.specs.Values as plain
-use Rattle.value_spec.specs.Values.{child, one, map_of, list_of}
-use Rattle.star_values.specs.declared.value.BuiltItem.{BuiltItem}
-use Rattle.star_values.specs.declared.value.BuiltValue as code
-use Rattle.star_values.specs.declared.value.BuiltValue.{the_lemmas}
-use Rattle.star_values.specs.View.{body_in, built_in, child_in, notes_in, scalar_key}
-
-pub body_in-One : (held : List plain.Value) (t : Tree) → body_in held (code.One t) ≡ one (tree_of t)
-body_in-One held t = search (rules, the_lemmas)
-
-pub body_in-Map : (held : List plain.Value) (is : List BuiltItem) → body_in held (code.Map is) ≡ map_of (built_in held is)
-body_in-Map held is = search (rules, the_lemmas)
-
-pub body_in-List : (held : List plain.Value) (is : List BuiltItem) → body_in held (code.List is) ≡ list_of (built_in held is)
-body_in-List held is = search (rules, the_lemmas)
 
 pub child_in-item : (held : List plain.Value) (i : BuiltItem) → child_in held i ≡ child i.place (notes_in held i.notes) (scalar_key i.key) (body_in held i.value)
 child_in-item held i = search (rules, the_lemmas)

@@ -1,11 +1,6 @@
 -- What a fragment of an arena is made of.
-use Rattle.std.specs.Prelude.{◌≡◌, ℕ, ◌<◌, Option, Some, None, get_or}
-use Rattle.ytt_base.specs.Trees.{Scalar}
-use Rattle.code_spec.specs.Program.{ItemKind}
-use Rattle.value_spec.specs.Values.{Children, none_value}
-use Rattle.index_spec.specs.Index.{body_at, body_under, child_count}
-use Rattle.star_values.specs.View.{View, children_in, item_kind_in}
-use Rattle.star_values.specs.declared.value.Ref.{Ref}
+use Rattle.std.specs.Prelude.{◌≡◌, ◌<◌}
+use Rattle.star_steps.specs.Names.{ℕ, Option, Some, None, get_or, Scalar, ItemKind, Children, none_value, body_at, body_under, child_count, View, children_in, item_kind_in, Ref}
 
 -- the kind of its items
 abbrev pub kind_at : View → Ref → ItemKind

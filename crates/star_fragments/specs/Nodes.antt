@@ -1,13 +1,8 @@
 -- What stands in fragments, trees and items alike, as children without places and notes, down to the scalars.
-use Rattle.std.specs.Prelude.{◌≡◌, ℕ, Bool, true, false, List, Option, Some, None}
-use Rattle.ytt_base.specs.declared.fault.Place.{Place}
-use Rattle.ytt_base.specs.Trees.{Scalar, null, boolean, integer, string, Tree, scalar, list, map, Trees, no_trees, tree, Pairs, no_pairs, pair}
-use Rattle.ytt_base.specs.View.{trees_of, pairs_of}
-use Rattle.value_spec.specs.Built.{body_paid, body_tree, children_pairs, children_trees, key_paid}
-use Rattle.value_spec.specs.Outcomes.{Computation, paid, ◌>>=◌}
+use Rattle.std.specs.Prelude.{◌≡◌}
+use Rattle.star_steps.specs.Names.{ℕ, Bool, true, false, List, Option, Some, None, Place, Scalar, null, boolean, integer, string, scalar, list, Trees, no_trees, tree, Pairs, no_pairs, pair, trees_of, pairs_of, body_paid, body_tree, children_pairs, children_trees, key_paid, Computation, paid, ◌>>=◌, child, Children, no_children, a_child, no_built, Body, one, map_of, list_of, built_in}
+use Rattle.ytt_base.specs.Trees.{Tree, map}
 use Rattle.value_spec.specs.Values as plain
-use Rattle.value_spec.specs.Values.{child, Children, no_children, a_child, no_built, Body, one, map_of, list_of}
-use Rattle.star_values.specs.View.{built_in}
 use Rattle.star_fragments.specs.declared.node.Leaf.{Leaf}
 use Rattle.star_fragments.specs.declared.node.Leaf.TheVariants as leaf
 use Rattle.star_fragments.specs.declared.node.Parts.{Parts}

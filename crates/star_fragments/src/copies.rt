@@ -1,5 +1,6 @@
 // Copies of what was built.
-ghost use Rattle.std.specs.Prelude.{◌≡◌, IfOk};
+ghost use Rattle.std.specs.Prelude.{◌≡◌};
+ghost use Rattle.star_steps.specs.Names.{IfOk};
 
 use object_arena::{
     Built, BuiltItem, BuiltNote, BuiltNotes, BuiltValue, CallArgs, NamedValue, NamedValues,
@@ -55,7 +56,7 @@ fn copy_key(key: &Option<Key>) -> Result<Option<Key>, Memory>
 
 /// A copy of what an item holds.
 #[cycle(copies)]
-pub(crate) fn copy_value(alloc: Global, value: &BuiltValue) -> Result<BuiltValue, Memory>
+pub fn copy_value(alloc: Global, value: &BuiltValue) -> Result<BuiltValue, Memory>
     ensures { IfOk result (λ v. v ≡ value.now) }
 {
     match value {
@@ -65,8 +66,9 @@ pub(crate) fn copy_value(alloc: Global, value: &BuiltValue) -> Result<BuiltValue
     }
 }
 
+/// A copy of an item.
 #[cycle(copies)]
-fn copy_item(alloc: Global, item: &BuiltItem) -> Result<BuiltItem, Memory>
+pub fn copy_item(alloc: Global, item: &BuiltItem) -> Result<BuiltItem, Memory>
     ensures { IfOk result (λ i. i ≡ item.now) }
 {
     let key = copy_key(&item.key)?;
@@ -80,8 +82,9 @@ fn copy_item(alloc: Global, item: &BuiltItem) -> Result<BuiltItem, Memory>
     })
 }
 
+/// Copies of items.
 #[cycle(copies)]
-fn copy_items(alloc: Global, items: &Built) -> Result<Built, Memory>
+pub fn copy_items(alloc: Global, items: &Built) -> Result<Built, Memory>
     ensures { IfOk result (λ is. is ≡ items.now) }
 {
     let mut copies = Items::new(alloc);

@@ -1,10 +1,6 @@
 // Fragments, and what they are made of.
 ghost use Rattle.std.specs.Prelude.{◌≡◌};
-ghost use Rattle.value_spec.specs.Built.{fragment_body};
-ghost use Rattle.star_tree.specs.View.{item_kind_of};
-ghost use Rattle.star_values.specs.Objects.{seen};
-ghost use Rattle.star_values.specs.Owns.{Owns, OwnsBuilt};
-ghost use Rattle.star_values.specs.View.{built_in};
+ghost use Rattle.star_steps.specs.Names.{fragment_body, item_kind_of, seen, Owns, OwnsBuilt, built_in};
 ghost use Rattle.star_values.specs.declared.value.Value.TheVariants as value;
 ghost use Rattle.star_fragments.specs.Fragments.{children_at, kind_at};
 ghost use Rattle.star_fragments.specs.Nodes.{node_in, spread_body};
@@ -13,7 +9,7 @@ use crate::node::{Node, Parts};
 use object_arena::{Arena, BuiltItem, ItemKind, Ref, Shape};
 
 /// The items of a fragment.
-pub(crate) fn items_of(arena: &Arena, fragment: Ref) -> &[BuiltItem]
+pub fn items_of(arena: &Arena, fragment: Ref) -> &[BuiltItem]
     requires { Owns (seen arena.now) (value.Fragment fragment) }
     ensures items { children_at (seen arena.now) fragment ≡ built_in (seen arena.now).held result.now }
     ensures owned { OwnsBuilt (seen arena.now) result.now }
@@ -25,7 +21,7 @@ pub(crate) fn items_of(arena: &Arena, fragment: Ref) -> &[BuiltItem]
 }
 
 /// The kind of the items of a fragment.
-fn kind_of(arena: &Arena, fragment: Ref) -> ItemKind
+pub fn kind_of(arena: &Arena, fragment: Ref) -> ItemKind
     requires { Owns (seen arena.now) (value.Fragment fragment) }
     ensures { item_kind_of result ≡ kind_at (seen arena.now) fragment }
 {
@@ -36,7 +32,7 @@ fn kind_of(arena: &Arena, fragment: Ref) -> ItemKind
 }
 
 /// What a fragment is: a map of pairs, or a list of elements or documents.
-pub(crate) fn node_of_fragment(arena: &Arena, fragment: Ref) -> Node<'_>
+pub fn node_of_fragment(arena: &Arena, fragment: Ref) -> Node<'_>
     requires { Owns (seen arena.now) (value.Fragment fragment) }
     ensures { node_in (seen arena.now).held result ≡ spread_body (fragment_body (kind_at (seen arena.now) fragment) (children_at (seen arena.now) fragment)) }
 {

@@ -1,15 +1,8 @@
 // Trees as values: new lists and dicts, each made behind those that stand in it.
-ghost use Rattle.std.specs.Prelude.{◌≡◌, ◌++◌, ◌∷◌, [], IfOk, OnOk, length};
-ghost use Rattle.ytt_base.specs.View.{key_of};
-ghost use Rattle.value_spec.specs.Outcomes.{give, new_dict};
-ghost use Rattle.value_spec.specs.Store.{did, dict_put, may_change, put_pairs, with_object};
-ghost use Rattle.value_spec.specs.Values.{of_dict};
-ghost use Rattle.index_spec.specs.FreshValues.{value_of_scalar};
-ghost use Rattle.star_values.specs.Objects.{seen};
-ghost use Rattle.star_values.specs.Owns.{Grows, Owns, OwnsPair};
-ghost use Rattle.star_values.specs.View.{value_of};
+ghost use Rattle.std.specs.Prelude.{◌≡◌, ◌++◌, ◌∷◌};
+ghost use Rattle.star_steps.specs.Names.{[], IfOk, OnOk, length, key_of, give, new_dict, did, dict_put, may_change, put_pairs, with_object, of_dict, value_of_scalar, seen, Grows, Owns, OwnsPair, value_of, OwnsAll, values_of};
 ghost use Rattle.star_values.specs.declared.value.Value.TheVariants as value;
-ghost use Rattle.star_fragments.specs.Fresh.{BuildsPair, BuildsPairs, BuildsValue, BuildsValues, OwnsPairs, each_made, pair_made, pairs_of, value_made};
+ghost use Rattle.star_fragments.specs.Fresh.{Builds, OwnsPairs, each_made, pair_made, pair_of, pairs_of, value_made};
 
 use object_arena::{Arena, ArenaStop, Ref, Value, Values};
 use sqlite_items::Items;
@@ -24,7 +17,7 @@ fn push<T: Drop>(items: &mut Items<T>, item: T) -> Result<(), Memory>
 }
 
 fn key_value(arena: &mut Arena, key: &Key) -> Result<Value, Memory>
-    ensures { BuildsValue (give (value_of_scalar (key_of key.now))) result (seen arena.old) (seen arena.new) }
+    ensures { Builds value_of Owns (give (value_of_scalar (key_of key.now))) result (seen arena.old) (seen arena.new) }
 {
     match key {
         Key::Null => Ok(Value::None),
@@ -67,7 +60,7 @@ fn put_pair(arena: &mut Arena, dict: Ref, key: Value, held: Value) -> Result<(),
 /// A new dict of pairs, of which the later ones change the values of keys that there are.
 pub fn dict_of(arena: &mut Arena, pairs: &[(Value, Value)]) -> Result<Value, Memory>
     requires { OwnsPairs (seen arena.old) pairs.now }
-    ensures { BuildsValue (new_dict (put_pairs [] (pairs_of (seen arena.old) pairs.now))) result (seen arena.old) (seen arena.new) }
+    ensures { Builds value_of Owns (new_dict (put_pairs [] (pairs_of (seen arena.old) pairs.now))) result (seen arena.old) (seen arena.new) }
 {
     let dict = empty_dict(arena)?;
     for (key, held) in pairs {
@@ -78,8 +71,8 @@ pub fn dict_of(arena: &mut Arena, pairs: &[(Value, Value)]) -> Result<Value, Mem
 
 /// A tree as a value.
 #[cycle(fresh)]
-pub(crate) fn fresh_value(arena: &mut Arena, tree: &Tree) -> Result<Value, Memory>
-    ensures { BuildsValue (value_made tree.now) result (seen arena.old) (seen arena.new) }
+pub fn fresh_value(arena: &mut Arena, tree: &Tree) -> Result<Value, Memory>
+    ensures { Builds value_of Owns (value_made tree.now) result (seen arena.old) (seen arena.new) }
 {
     match tree {
         Tree::Null => Ok(Value::None),
@@ -99,7 +92,7 @@ pub(crate) fn fresh_value(arena: &mut Arena, tree: &Tree) -> Result<Value, Memor
 
 #[cycle(fresh)]
 fn fresh_values(arena: &mut Arena, trees: &Trees) -> Result<Values, Memory>
-    ensures { BuildsValues (each_made value_made trees.now) result (seen arena.old) (seen arena.new) }
+    ensures { Builds values_of OwnsAll (each_made value_made trees.now) result (seen arena.old) (seen arena.new) }
 {
     let mut values = Items::new(arena.alloc());
     for tree in trees.as_slice() {
@@ -111,7 +104,7 @@ fn fresh_values(arena: &mut Arena, trees: &Trees) -> Result<Values, Memory>
 
 #[cycle(fresh)]
 fn fresh_pair(arena: &mut Arena, key: &Key, tree: &Tree) -> Result<(Value, Value), Memory>
-    ensures { BuildsPair (pair_made (key.now, tree.now)) result (seen arena.old) (seen arena.new) }
+    ensures { Builds pair_of OwnsPair (pair_made (key.now, tree.now)) result (seen arena.old) (seen arena.new) }
 {
     let value = fresh_value(arena, tree)?;
     let key = key_value(arena, key)?;
@@ -120,7 +113,7 @@ fn fresh_pair(arena: &mut Arena, key: &Key, tree: &Tree) -> Result<(Value, Value
 
 #[cycle(fresh)]
 fn fresh_pairs(arena: &mut Arena, entries: &Pairs) -> Result<Items<(Value, Value)>, Memory>
-    ensures { BuildsPairs (each_made pair_made entries.now) result (seen arena.old) (seen arena.new) }
+    ensures { Builds pairs_of OwnsPairs (each_made pair_made entries.now) result (seen arena.old) (seen arena.new) }
 {
     let mut pairs = Items::new(arena.alloc());
     for (key, tree) in entries.as_slice() {

@@ -1,11 +1,8 @@
 // Where the member of a key stands.
-ghost use Rattle.std.specs.Prelude.{◌≡◌, List, None, Some};
-ghost use Rattle.ytt_base.specs.Trees.{Scalar, same_key};
+ghost use Rattle.std.specs.Prelude.{◌≡◌};
+ghost use Rattle.star_steps.specs.Names.{List, None, Some, Scalar, as_scalar, has_key, seen, Owns, built_in, scalar_key, value_of};
+ghost use Rattle.ytt_base.specs.Trees.{same_key};
 ghost use Rattle.value_spec.specs.Values as plain;
-ghost use Rattle.index_spec.specs.Index.{as_scalar, has_key};
-ghost use Rattle.star_values.specs.Objects.{seen};
-ghost use Rattle.star_values.specs.Owns.{Owns};
-ghost use Rattle.star_values.specs.View.{built_in, scalar_key, value_of};
 ghost use Rattle.star_values.specs.declared.value.Value.TheVariants as value;
 ghost use Rattle.star_fragments.specs.Fragments.{Finds, children_at};
 ghost use Rattle.star_fragments.specs.Nodes.{key_in, scalar_in};

@@ -1,15 +1,9 @@
 // The members of fragments.
-ghost use Rattle.std.specs.Prelude.{◌≡◌, ◌<◌, IfOk, Some};
-ghost use Rattle.value_spec.specs.Values.{Body};
-ghost use Rattle.index_spec.specs.FreshValues.{fresh_body};
-ghost use Rattle.index_spec.specs.Index.{body_at, body_value, child_count};
-ghost use Rattle.star_values.specs.Objects.{seen};
-ghost use Rattle.star_values.specs.Owns.{Owns};
-ghost use Rattle.star_values.specs.View.{body_in};
+ghost use Rattle.std.specs.Prelude.{◌≡◌, ◌<◌};
+ghost use Rattle.star_steps.specs.Names.{Some, Body, fresh_body, body_at, body_value, child_count, seen, Owns, body_in, Gives, state_in, value_of};
 ghost use Rattle.star_values.specs.declared.value.Value.TheVariants as value;
-ghost use Rattle.star_steps.specs.Meets.{Gives, Meets, state_in};
 ghost use Rattle.star_fragments.specs.Fragments.{children_at};
-ghost use Rattle.star_fragments.specs.Fresh.{BuildsValue, OwnsBody, paid_body};
+ghost use Rattle.star_fragments.specs.Fresh.{Builds, OwnsBody};
 
 use crate::copies::copy_value;
 use crate::fragment::items_of;
@@ -18,7 +12,8 @@ use crate::node::node_of_value;
 use crate::sizes::{MAX_DEPTH, pay_node};
 use object_arena::{Arena, BuiltValue, ItemKind, Ref, Value};
 use sqlite_items::at as item_at;
-use ytt_base::fault::{Place, Stop};
+use star_steps::{Depth, Given};
+use ytt_base::fault::Place;
 use ytt_base::text::Memory;
 
 /// How many members a fragment has.
@@ -42,29 +37,10 @@ fn held_at(arena: &Arena, fragment: Ref, at: usize) -> &BuiltValue
     }
 }
 
-/// A copy of what the member at a place holds, after its size as steps.
-fn paid_copy(
-    arena: &Arena,
-    place: Place,
-    fragment: Ref,
-    at: usize,
-    steps: &mut u64,
-) -> Result<BuiltValue, Stop>
-    requires fragment { Owns (seen arena.now) (value.Fragment fragment) }
-    requires at { at < child_count (children_at (seen arena.now) fragment) }
-    ensures meaning { (b : Body) → body_at at (children_at (seen arena.now) fragment) ≡ Some b → Meets (body_in (seen arena.now).held) result (state_in (seen arena.now) steps.new) (paid_body place b (state_in (seen arena.now) steps.old)) }
-    ensures owned { IfOk result (OwnsBody (seen arena.now)) }
-{
-    let held = held_at(arena, fragment, at);
-    pay_node(arena, place, MAX_DEPTH, node_of_value(held), steps)?;
-    let copy = copy_value(arena.alloc(), held)?;
-    Ok(copy)
-}
-
 /// What an item holds, as a value: a fragment where it was built of items.
 fn made(arena: &mut Arena, held: BuiltValue) -> Result<Value, Memory>
     requires { OwnsBody (seen arena.old) held }
-    ensures { BuildsValue (fresh_body (body_in (seen arena.old).held held)) result (seen arena.old) (seen arena.new) }
+    ensures { Builds value_of Owns (fresh_body (body_in (seen arena.old).held held)) result (seen arena.old) (seen arena.new) }
 {
     match held {
         BuiltValue::One(tree) => fresh_value(arena, &tree),
@@ -81,12 +57,16 @@ pub fn member_value(
     fragment: Ref,
     at: usize,
     steps: &mut u64,
-) -> Result<Value, Stop>
+) -> Given
     requires fragment { Owns (seen arena.old) (value.Fragment fragment) }
     requires at { at < child_count (children_at (seen arena.old) fragment) }
     ensures { (b : Body) → body_at at (children_at (seen arena.old) fragment) ≡ Some b → Gives (body_value place b (state_in (seen arena.old) steps.old)) result (seen arena.old) (seen arena.new) steps.new }
 {
-    let held = paid_copy(arena, place, fragment, at, steps)?;
-    let value = made(arena, held)?;
+    let held = held_at(arena, fragment, at);
+    let levels = MAX_DEPTH;
+    let depth = Depth { place, levels };
+    pay_node(arena, depth, node_of_value(held), steps)?;
+    let copy = copy_value(arena.alloc(), held)?;
+    let value = made(arena, copy)?;
     Ok(value)
 }

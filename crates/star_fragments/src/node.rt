@@ -1,8 +1,7 @@
 // What stands in fragments: a tree, or items that were built, seen alike.
-ghost use Rattle.std.specs.Prelude.{◌≡◌, List};
-ghost use Rattle.ytt_base.specs.View.{key_of, pairs_of, tree_of, trees_of};
+ghost use Rattle.std.specs.Prelude.{◌≡◌};
+ghost use Rattle.star_steps.specs.Names.{List, key_of, pairs_of, tree_of, trees_of, body_in, built_in, scalar_key};
 ghost use Rattle.value_spec.specs.Values as plain;
-ghost use Rattle.star_values.specs.View.{body_in, built_in, scalar_key};
 ghost use Rattle.star_fragments.specs.Nodes.{FirstEntry, FirstPart, entries_in, key_in, node_in, parts_in, scalar_in, spread, spread_body, spread_children, spread_pairs, spread_trees};
 
 use star_values::{BuiltItem, BuiltValue};
@@ -57,7 +56,7 @@ pub(crate) struct Entry<'a> {
     pub rest: Entries<'a>,
 }
 
-pub(crate) fn leaf_of(key: &Key) -> Leaf<'_>
+pub fn leaf_of(key: &Key) -> Leaf<'_>
     ensures { scalar_in result ≡ key_of key.now }
 {
     match key {
@@ -91,7 +90,7 @@ fn node_of_tree(tree: &Tree) -> Node<'_>
     }
 }
 
-pub(crate) fn node_of_value(value: &BuiltValue) -> Node<'_>
+pub fn node_of_value(value: &BuiltValue) -> Node<'_>
     ensures { (held : List plain.Value) → node_in held result ≡ spread_body (body_in held value.now) }
 {
     match value {
@@ -141,7 +140,7 @@ fn first_item(items: &[BuiltItem]) -> Option<Part<'_>>
 }
 
 /// The first of parts, and the rest.
-pub(crate) fn first_part(parts: Parts<'_>) -> Option<Part<'_>>
+pub fn first_part(parts: Parts<'_>) -> Option<Part<'_>>
     ensures { (held : List plain.Value) → FirstPart held (parts_in held parts.entry) result }
 {
     match parts {
@@ -152,7 +151,7 @@ pub(crate) fn first_part(parts: Parts<'_>) -> Option<Part<'_>>
 }
 
 /// The first of pairs, and the rest.
-pub(crate) fn first_entry(entries: Entries<'_>) -> Option<Entry<'_>>
+pub fn first_entry(entries: Entries<'_>) -> Option<Entry<'_>>
     ensures { (held : List plain.Value) → FirstEntry held (entries_in held entries.entry) result }
 {
     let keyed = entries.keyed;

@@ -1,29 +1,12 @@
 -- The bytes that are picked at the places of a slice.
-use Rattle.std.proofs.Common.{◌≡◌, ℕ, suc, ◌+◌, ◌-◌, ◌<◌, true, false, ℤ, pos, ◌+ℤ◌, ◌*ℤ◌, List, [], ◌++◌, drop, take, if◌then◌else◌, refl, sym, ap, ◌∙◌, add-one, arith, append_assoc, append-nil}
+use Rattle.star_steps.proofs.Names.{◌≡◌, ℕ, suc, ◌+◌, ◌-◌, ◌<◌, true, false, ℤ, pos, ◌+ℤ◌, ◌*ℤ◌, List, ◌++◌, drop, take, if◌then◌else◌, refl, sym, ap, ◌∙◌, add-one, arith, append_assoc, append-nil, Place, fault_at, at_least_zero, State, Ending, done, bad, fail, give, then_do, ◌>>=◌, cut_text, is_whole, same_integer, Places, bytes_cut, picked_bytes, place_count}
 use Rattle.ytt_base.specs.declared.fault.FaultKind.TheVariants as kind
-use Rattle.ytt_base.specs.declared.fault.Place.{Place}
-use Rattle.ytt_base.specs.Outcomes.{fault_at}
-use Rattle.value_spec.specs.Numbers.{at_least_zero}
-use Rattle.value_spec.specs.Outcomes.{State, Ending, done, bad, fail, give, then_do, ◌>>=◌}
-use Rattle.index_spec.specs.Index.{cut_text, is_whole}
-use Rattle.ytt_base.specs.Trees.{same_integer}
-use Rattle.index_spec.specs.Slices.{Places, bytes_cut, picked_bytes, place_count}
 use Rattle.star_index.specs.Cuts.{place_at}
-use Rattle.std.proofs.lemmas.Int.{ints}
-use Rattle.star_integers.proofs.Progressions.{first_number, from_next, times_next}
+use Rattle.star_integers.proofs.Progressions.{first_number, further_on}
 
 -- what is picked at so many places is these bytes, and what is picked at those that are left
 abbrev pub BytesSoFar : List ℕ → (count : ℕ) → (first step : ℤ) → (bytes : List ℕ) → (number : ℕ) → Type 0
 BytesSoFar t n z step bytes i = (p : Place) (s : State (Unit {0})) → picked_bytes p t n z step s ≡ then_do (picked_bytes p t (n - i) (z +ℤ (pos i *ℤ step)) step s) (λ more. give (bytes ++ more))
-
-same_bytes : (o : Ending (Unit {0}) (List ℕ)) → then_do o (λ more. give ([] ++ more)) ≡ o
-same_bytes (done c s) = refl
-same_bytes (bad e s) = refl
-
-pub bytes_begin : (t : List ℕ) (n : ℕ) (z step : ℤ) → BytesSoFar t n z step [] 0
-bytes_begin t n z step p s = sym (same_bytes (picked_bytes p t n z step s)) ∙ (λ i. then_do (picked_bytes p t (same n i) (first_number z step i) step s) (λ more. give ([] ++ more))) where
-  same : (n : ℕ) → n ≡ n - 0
-  same n = omega arith
 
 regroup : (front c : List ℕ) (o : Ending (Unit {0}) (List ℕ)) → then_do (then_do o (λ more. give (c ++ more))) (λ more. give (front ++ more)) ≡ then_do o (λ more. give ((front ++ c) ++ more))
 regroup front c (done more s) = ap (λ l. done l s) (sym (append_assoc front c more))
@@ -43,10 +26,6 @@ none_more : (p : Place) (t : List ℕ) (m a : ℕ) (z step : ℤ) (s : State (Un
 none_more p t m a z step s e h =
     ap (λ a. then_do (cut_text p t a (suc a) s) (λ c. picked_bytes p t m (z +ℤ step) step >>= λ more. give (c ++ more))) (sym e)
     ∙ ap (λ b. then_do ((if b then give (drop a (take (suc a) t)) else fail kind.CutsCharacter p) s) (λ c. picked_bytes p t m (z +ℤ step) step >>= λ more. give (c ++ more))) h
-
--- one place further on
-further_on : (z step : ℤ) (i : ℕ) → (z +ℤ (pos i *ℤ step)) +ℤ step ≡ z +ℤ (pos (i + 1) *ℤ step)
-further_on z step i = omega (arith, ints, from_next z step i, times_next i step) ∙ ap (λ m. z +ℤ (pos m *ℤ step)) (sym (add-one i))
 
 pub bytes_next : (t bytes : List ℕ) (n : ℕ) (z step : ℤ) (i a : ℕ) → i < n → BytesSoFar t n z step bytes i → a ≡ at_least_zero (z +ℤ (pos i *ℤ step)) → is_whole t a (a + 1) ≡ true → BytesSoFar t n z step (bytes ++ drop a (take (a + 1) t)) (i + 1)
 bytes_next t bytes n z step i a below so_far e h p s =

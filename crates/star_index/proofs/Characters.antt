@@ -1,12 +1,5 @@
 -- Where a text may be cut.
-use Rattle.std.proofs.Common.{◌≡◌, ℕ, ◌+◌, ◌-◌, ◌<◌, ◌≤◌, min, Bool, true, false, nat_le, nat_lt, ◌&&◌, ◌||◌, not, ◌⊎◌, inl, inr, List, [], length, get_or, take, drop, ◌++◌, slice_range, append-nil, subst, refl, sym, ap, ◌∙◌, arith}
-use Rattle.std.specs.Str.{IsCharBoundary}
-use Rattle.std.proofs.lemmas.Bool.{leb-true, leb-false, ltb-true, ltb-false}
-use Rattle.std.proofs.Math.ListN.{drop_of_length-le}
-use Rattle.std.proofs.Math.Seq.{drop-cons, take-length}
-use Rattle.std.proofs.lemmas.List.{drop-take, take-append-drop}
-use Rattle.value_spec.specs.Members.{is_empty}
-use Rattle.index_spec.specs.Index.{begins_inner, is_inner, is_whole}
+use Rattle.star_steps.proofs.Names.{◌≡◌, ℕ, ◌+◌, ◌-◌, ◌<◌, ◌≤◌, min, Bool, true, false, nat_le, nat_lt, ◌&&◌, ◌||◌, not, ◌⊎◌, inl, inr, List, [], length, get_or, take, drop, ◌++◌, slice_range, append-nil, subst, refl, sym, ap, ◌∙◌, arith, IsCharBoundary, leb-true, leb-false, ltb-true, ltb-false, drop_of_length-le, drop-cons, take-length, drop-take, take-append-drop, is_empty, begins_inner, is_inner, is_whole}
 
 not_inner : (b : ℕ) → (128 ≤ b → 192 ≤ b) → is_inner b ≡ false
 not_inner b h = grind (arith, h)

@@ -1,15 +1,9 @@
 -- The places of a slice stand among the members, and are no more than these.
-use Rattle.std.proofs.Common.{◌≡◌, ℕ, zero, suc, ◌-◌, ◌*◌, ◌<◌, ◌≤◌, Bool, true, false, ℤ, pos, negsuc, neg_ℤ, ◌+ℤ◌, ◌-ℤ◌, ◌*ℤ◌, ◌<ℤ◌, ◌≤ℤ◌, if◌then◌else◌, nat_lt, Some, None, FitsSigned, to_z, of_z, refl, sym, subst, arith}
-use Rattle.std.proofs.lemmas.Bool.{ltb-true}
-use Rattle.std.proofs.lemmas.Int.{ints, to_z-of_z}
-use Rattle.std.specs.Int.{w128}
-use Rattle.std.specs.Prelude.{int_lt}
-use Rattle.value_spec.specs.Numbers.{range_count, steps_up}
-use Rattle.value_spec.specs.Values.{Value, int_value}
-use Rattle.index_spec.specs.Index.{place_among}
-use Rattle.index_spec.specs.Slices.{Cut, Places, between, bound_or, end_place, first_place, from_end, place_count, places_of, step_in}
-use Rattle.std.proofs.Math.Nat.{mul-le-mul_left}
-use Rattle.star_integers.proofs.Progressions.{comes_before, none_by_zero, number_fits}
+use Rattle.std.proofs.Common.{◌-ℤ◌}
+use Rattle.star_steps.proofs.Names.{◌≡◌, ℕ, zero, suc, ◌-◌, ◌*◌, ◌<◌, ◌≤◌, Bool, true, false, ℤ, pos, negsuc, neg_ℤ, ◌+ℤ◌, ◌*ℤ◌, ◌<ℤ◌, ◌≤ℤ◌, if◌then◌else◌, nat_lt, Some, None, refl, sym, subst, arith, ltb-true, ints, int_lt, steps_up, int_value, place_among, Places, between, bound_or, end_place, first_place, from_end, place_count, places_of, step_in, mul-le-mul_left}
+use Rattle.value_spec.specs.Values.{Value}
+use Rattle.index_spec.specs.Slices.{Cut}
+use Rattle.star_integers.proofs.Progressions.{comes_before, none_by_zero}
 use Rattle.star_index.specs.Cuts.{AreAmong, IsPlace}
 
 -- ---- bounds
@@ -76,10 +70,6 @@ among n from to (negsuc k) =
 places_among : (n : ℕ) (c : Cut) → AreAmong n (places_of n c)
 places_among n c = among n c.from c.to (step_in c.step)
 
--- a place among members is one that a machine's word holds
-pub place_fits : (m n : ℕ) (z : ℤ) → m ≤ n → IsPlace m z → IsPlace n z
-place_fits m n z h p = record { low = p.low; high = omega (arith, ints, p.high) }
-
 -- the places that a slice was found to have
 pub sliced_among : (n : ℕ) (c : Cut) (q : Places) → q ≡ places_of n c → AreAmong n q
 sliced_among n c q e = subst (AreAmong n) (sym e) (places_among n c)
@@ -98,9 +88,3 @@ place_below n (negsuc k) i e = by (nat_lt k n) refl e where
   by : (v : Bool) → nat_lt k n ≡ v → (if v then Some (n - suc k) else None) ≡ Some i → i < n
   by true h e = let s : n - suc k ≡ i = cc in let l : k < n = ltb-true k n h in omega arith
   by false h e = cc
-
--- a number of a range that was passed
-pub number_passed : (start stop step : ℤ) (i n : ℕ) → FitsSigned w128 start → FitsSigned w128 stop → n ≡ range_count (to_z w128 (of_z w128 start)) (to_z w128 (of_z w128 stop)) (to_z w128 (of_z w128 step)) → i < n →
-    FitsSigned w128 (to_z w128 (of_z w128 start) +ℤ (pos i *ℤ to_z w128 (of_z w128 step)))
-number_passed start stop step i n f g e below =
-    number_fits (to_z w128 (of_z w128 start)) (to_z w128 (of_z w128 stop)) (to_z w128 (of_z w128 step)) i (subst (FitsSigned w128) (sym (to_z-of_z w128 start f)) f) (subst (FitsSigned w128) (sym (to_z-of_z w128 stop g)) g) (omega arith)

@@ -1,28 +1,8 @@
 -- How calls of an index or a slice end.
-use Rattle.std.proofs.Common.{◌≡◌, ℕ, Result, Ok, Err, IfOk, sym, subst, ◌∙◌}
-use Rattle.ytt_base.specs.declared.fault.Stop.{Stop}
+use Rattle.star_steps.proofs.Names.{◌≡◌, ℕ, Ok, Err, sym, ◌∙◌, Stop, Ending, Computation, done, with_object, Owns, View, Value, grows_same, Makes, MakesObject, Gives, Meets, state_in, meets_same, value_of}
 use Rattle.ytt_base.specs.declared.fault.Stop.TheVariants as stop
-use Rattle.value_spec.specs.Outcomes.{Ending, Computation, done, then_do}
-use Rattle.value_spec.specs.Store.{with_object}
 use Rattle.value_spec.specs.Values as plain
-use Rattle.star_values.specs.Owns.{Owns}
-use Rattle.star_values.specs.View.{View}
-use Rattle.star_values.specs.declared.value.Value.{Value}
-use Rattle.star_values.proofs.Growing.{grows_same}
-use Rattle.object_arena.specs.Made.{Makes, MakesObject}
-use Rattle.star_steps.specs.Meets.{Gives, Meets, state_in}
-use Rattle.star_steps.proofs.Meeting.{meets_same, meets_stop}
 use Rattle.star_index.specs.Cuts.{Refuses}
-use Rattle.star_values.specs.View.{value_of}
-
--- a refusal is the end of all that would follow
-pub gives_stop : {A B : Type 0} (view : A → B) (e : Stop) (a : View) (n : ℕ) (o : Ending (Unit {0}) B) (k : B → Computation (Unit {0}) plain.Value) (r : Result Value Stop) (p : Ending (Unit {0}) plain.Value) →
-    p ≡ then_do o k → Meets view (Err e) (state_in a n) o → r ≡ Err e → Gives p r a a n
-gives_stop view e a n o k r p same m is = subst (λ p. Gives p r a a n) (sym same) (record {
-  meaning = meets_stop view (value_of a) e (state_in a n) o k r m is;
-  owns = subst (λ r. IfOk r (Owns a)) (sym is) tt;
-  grows = grows_same a;
-})
 
 -- a value that is made
 pub gives_made : (x : plain.Value) (v : Value) (a b : View) (n : ℕ) (p : Ending (Unit {0}) plain.Value) → p ≡ done x (state_in a n) → Makes x (Ok v) a b → Gives p (Ok v) a b n

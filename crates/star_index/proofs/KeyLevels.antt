@@ -1,8 +1,6 @@
 -- Keys, whose tuples stand in so many levels.
-use Rattle.std.proofs.Common.{◌≡◌, ℕ, zero, suc, ◌-◌, ◌<◌, sym, subst, arith}
-use Rattle.value_spec.specs.Keys.{AreKeys, IsKey}
-use Rattle.value_spec.specs.Values.{Value, none_value, bool_value, int_value, text_value, tuple_value, Values, no_values, a_value}
-use Rattle.index_spec.specs.KeyTexts.{AreKeysWithin, IsKeyWithin}
+use Rattle.star_steps.proofs.Names.{◌≡◌, ℕ, zero, suc, ◌-◌, ◌<◌, sym, subst, arith, AreKeys, IsKey, none_value, bool_value, int_value, text_value, tuple_value, Values, no_values, a_value, AreKeysWithin, IsKeyWithin}
+use Rattle.value_spec.specs.Values.{Value}
 
 mutual
   pub is_key : (n : ℕ) (v : Value) → IsKeyWithin n v → IsKey v

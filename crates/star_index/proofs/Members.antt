@@ -1,18 +1,8 @@
 -- Members of fragments, by their keys and places.
-use Rattle.std.proofs.Common.{◌≡◌, ℕ, zero, suc, ◌<◌, ℤ, Option, Some, None, is_some, true, option_and_then, refl, ap, ◌∙◌, arith}
+use Rattle.star_steps.proofs.Names.{◌≡◌, ℕ, ℤ, Option, Some, None, is_some, true, option_and_then, refl, ap, ◌∙◌, Place, Scalar, State, or_fail, then_do, int_value, Body, Children, if_one, as_scalar, body_at, body_under, body_value, by_place, child_count, element_at, entry_of, found_body, missing, other_key, place_among}
 use Rattle.ytt_base.specs.declared.fault.FaultKind.TheVariants as kind
-use Rattle.ytt_base.specs.declared.fault.Place.{Place}
-use Rattle.ytt_base.specs.Trees.{Scalar}
-use Rattle.value_spec.specs.Outcomes.{State, or_fail, then_do}
-use Rattle.value_spec.specs.Values.{Value, int_value, Body, Children, no_children, a_child, child}
-use Rattle.operator_spec.specs.Operators.{if_one}
-use Rattle.index_spec.specs.Index.{as_scalar, body_at, body_under, body_value, by_place, child_count, element_at, entry_of, found_body, missing, other_key, place_among}
+use Rattle.value_spec.specs.Values.{Value}
 use Rattle.star_index.specs.Cuts.{absent}
-
-pub child_there : (n : ℕ) (cs : Children) → n < child_count cs → (b : Body) × (body_at n cs ≡ Some b)
-child_there n no_children h = absurd (omega arith)
-child_there zero (a_child (child q ns y b) cs) h = (b, refl)
-child_there (suc n) (a_child (child q ns y b) cs) h = child_there n cs (omega arith)
 
 -- only a key that pairs have is found
 pub scalar_of : (o : Option Scalar) (r : Option ℕ) (i : ℕ) → r ≡ Some i → (o ≡ None → r ≡ None) → (x : Scalar) × (o ≡ Some x)

@@ -1,16 +1,7 @@
 -- What is picked at the places of a slice.
-use Rattle.std.proofs.Common.{◌≡◌, ℕ, zero, suc, ◌+◌, ℤ, pos, ◌+ℤ◌, ◌*ℤ◌, List, [], ◌∷◌, ◌++◌, length, map, Option, Some, None, option_map, slice_get, refl, sym, ap, ◌∙◌, add-one}
-use Rattle.std.proofs.lemmas.Option.{slice_get-map}
-use Rattle.value_spec.specs.Numbers.{at_least_zero}
-use Rattle.std.proofs.lemmas.List.{length-map}
-use Rattle.ytt_base.specs.declared.fault.Place.{Place}
-use Rattle.value_spec.specs.Outcomes.{State, done, give, take_steps, then_do}
-use Rattle.index_spec.specs.Slices.{Cut, Places, and_more, members_cut, picked, place_count, places_of}
-use Rattle.star_values.specs.View.{View, value_of, values_of}
-use Rattle.star_values.specs.declared.value.Value.{Value}
+use Rattle.star_steps.proofs.Names.{◌≡◌, ℕ, zero, suc, ◌+◌, ℤ, pos, ◌+ℤ◌, ◌*ℤ◌, List, [], ◌∷◌, ◌++◌, length, map, Option, Some, None, option_map, slice_get, refl, sym, ap, ◌∙◌, add-one, slice_get-map, at_least_zero, length-map, Place, State, done, give, take_steps, then_do, Places, and_more, members_cut, picked, place_count, places_of, View, value_of, values_of, Value, Each, each_at}
+use Rattle.index_spec.specs.Slices.{Cut}
 use Rattle.star_index.specs.Cuts.{members_paid}
-use Rattle.star_values.specs.Owns.{Each}
-use Rattle.star_values.proofs.Growing.{each_at}
 use Rattle.star_integers.proofs.Progressions.{first_number, from_next}
 
 one_before : {A : Type 0} (o : Option A) (xs ys : List A) → and_more o (xs ++ ys) ≡ and_more o xs ++ ys

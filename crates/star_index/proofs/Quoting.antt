@@ -1,12 +1,7 @@
 -- How characters stand between quotes.
-use Rattle.std.proofs.Common.{◌≡◌, ℕ, ◌+◌, ◌/◌, ◌%◌, ◌≤◌, ◌<◌, Bool, true, false, cond, nat_lt, ◌||◌, ◌==◌, List, [], ◌∷◌, ◌++◌, length, if◌then◌else◌, codes, Result, Ok, Err, OnOk, refl, sym, ap, subst, ◌∙◌, arith, append-nil, append_assoc}
+use Rattle.star_steps.proofs.Names.{◌≡◌, ℕ, ◌+◌, ◌/◌, ◌%◌, ◌≤◌, ◌<◌, Bool, true, false, cond, nat_lt, ◌||◌, ◌==◌, List, [], ◌∷◌, ◌++◌, length, if◌then◌else◌, codes, Result, Ok, Err, OnOk, refl, sym, ap, subst, ◌∙◌, arith, append-nil, append_assoc, encode_utf8_all, ltb-true, ltb-false, ne_eqb, encode_ascii, encodes-append, values_from, closed, hex_digit, quoted_byte, quoted_bytes, Each}
 use Rattle.std.specs.Char.{encode_utf8}
-use Rattle.std.specs.Str.{encode_utf8_all}
-use Rattle.std.proofs.lemmas.Bool.{ltb-true, ltb-false, ne_eqb}
-use Rattle.std.proofs.lemmas.Str.{encode_ascii, encodes-append}
-use Rattle.value_spec.specs.Values.{Value, values_from}
-use Rattle.index_spec.specs.KeyTexts.{closed, hex_digit, quoted_byte, quoted_bytes}
-use Rattle.star_values.specs.Owns.{Each}
+use Rattle.value_spec.specs.Values.{Value}
 use Rattle.star_index.specs.Quoting.{quoted_character, unescaped}
 
 pub quoted_joined : (s t : List ℕ) → quoted_bytes (s ++ t) ≡ quoted_bytes s ++ quoted_bytes t

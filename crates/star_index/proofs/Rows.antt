@@ -1,22 +1,9 @@
 -- Rows of the definitions, by what stands in their parts.
-use Rattle.std.proofs.Common.{◌≡◌, ℕ, suc, ◌+◌, add-one, ℤ, List, length, Option, Some, None, refl, sym, ap, ◌∙◌}
+use Rattle.star_steps.proofs.Names.{◌≡◌, ℕ, suc, ◌+◌, add-one, ℤ, List, length, Option, Some, None, refl, sym, ap, ◌∙◌, Place, State, Computation, done, fail, give, new_list, or_fail, reads, take_steps, then_do, ◌>>=◌, as_int, as_text, list_at, pairs_at, value_of_key, Fields, dict_value, int_value, range_value, text_value, tuple_value, list_value, values_from, then_assoc, named_values, if_one, key_sized, by_place, character_at, cut_text, field_of, found_value, index_row, member_at, number_at, other_key, place_among, value_under, bytes_cut, cut_row, give_tuple, members_slice, places_of, View, value_of, Ref, Value as Held, tuple_members}
 use Rattle.ytt_base.specs.declared.fault.FaultKind.TheVariants as kind
-use Rattle.ytt_base.specs.declared.fault.Place.{Place}
-use Rattle.value_spec.specs.Outcomes.{State, Computation, done, fail, give, new_list, or_fail, reads, take_steps, then_do, ◌>>=◌}
-use Rattle.value_spec.specs.Members.{as_int, as_text}
-use Rattle.value_spec.specs.Store.{list_at, pairs_at, value_of_key}
-use Rattle.value_spec.specs.Values.{Value, Fields, dict_value, int_value, range_value, text_value, tuple_value, list_value, values_from}
-use Rattle.value_spec.proofs.Computations.{then_assoc}
-use Rattle.operator_spec.specs.Equality.{named_values}
-use Rattle.operator_spec.specs.Operators.{if_one}
-use Rattle.operator_spec.specs.Order.{key_sized}
-use Rattle.index_spec.specs.Index.{by_place, character_at, cut_text, field_of, found_value, index_row, member_at, number_at, other_key, place_among, value_under}
-use Rattle.index_spec.specs.Slices.{Cut, bytes_cut, cut_row, give_tuple, members_slice, places_of}
-use Rattle.star_values.specs.View.{View, value_of}
-use Rattle.star_values.specs.declared.value.Ref.{Ref}
-use Rattle.star_values.specs.declared.value.Value.{Value as Held}
+use Rattle.value_spec.specs.Values.{Value}
+use Rattle.index_spec.specs.Slices.{Cut}
 use Rattle.star_values.specs.declared.value.Value.TheVariants as value
-use Rattle.star_steps.proofs.Meeting.{tuple_members}
 use Rattle.star_index.specs.Cuts.{bytes_paid, character, members_paid}
 
 abbrev S : Type 0

@@ -1,17 +1,10 @@
 -- The parts of slices, and what they come to, of the code.
-use Rattle.std.specs.Prelude.{◌≡◌, ℕ, suc, ◌+◌, ◌<◌, ◌≤◌, ℤ, pos, ◌+ℤ◌, ◌*ℤ◌, ◌<ℤ◌, ◌≤ℤ◌, true, false, Option, Some, None, List, length, drop, take}
+use Rattle.std.specs.Prelude.{◌≡◌, ◌+◌, ◌<◌, ◌≤◌, ◌+ℤ◌, ◌*ℤ◌, ◌<ℤ◌, ◌≤ℤ◌}
+use Rattle.star_steps.specs.Names.{ℕ, suc, ℤ, pos, true, false, Option, Some, None, List, length, drop, take, Place, Stop, State, Computation, bad, fail, give, or_fail, paid_by, ◌>>=◌, text_cost, as_int, if_one, as_scalar, cut_text, is_whole, missing, other_key, place_among, value_in}
 use Rattle.ytt_base.specs.declared.fault.FaultKind.TheVariants as kind
-use Rattle.ytt_base.specs.declared.fault.Place.{Place}
-use Rattle.ytt_base.specs.declared.fault.Stop.{Stop}
 use Rattle.ytt_base.specs.declared.fault.Stop.TheVariants as stop
 use Rattle.value_spec.specs.Values as plain
-use Rattle.value_spec.specs.Outcomes.{State, Computation, bad, fail, give, or_fail, paid_by, ◌>>=◌}
-use Rattle.value_spec.specs.Keys.{text_cost}
-use Rattle.value_spec.specs.Members.{as_int}
-use Rattle.operator_spec.specs.Operators.{if_one}
-use Rattle.index_spec.specs.Index.{as_scalar, cut_text, is_whole, missing, other_key, place_among}
 use Rattle.index_spec.specs.Slices as slices
-use Rattle.star_values.specs.View.{value_in}
 use Rattle.star_values.specs.declared.value.Cut.{Cut}
 use Rattle.star_index.specs.declared.places.Places.{Places}
 

@@ -1,7 +1,6 @@
 -- Characters between quotes.
-use Rattle.std.specs.Prelude.{ℕ, ◌/◌, ◌%◌, nat_lt, ◌||◌, ◌==◌, List, [], ◌∷◌, ◌++◌, if◌then◌else◌, codes}
-use Rattle.std.specs.Char.{encode_utf8}
-use Rattle.index_spec.specs.KeyTexts.{hex_digit, quoted_bytes}
+use Rattle.std.specs.Prelude.{◌/◌, ◌%◌, ◌||◌, ◌==◌, ◌∷◌, ◌++◌, if◌then◌else◌}
+use Rattle.star_steps.specs.Names.{ℕ, nat_lt, List, [], codes, encode_utf8, hex_digit, quoted_bytes}
 
 -- a character as it stands between quotes
 abbrev pub quoted_character : ℕ → List ℕ

@@ -1,33 +1,23 @@
 // Indexes.
-ghost use Rattle.std.specs.Prelude.{ℕ};
-ghost use Rattle.index_spec.specs.Index.{by_place, index_row, member_at, number_at};
-ghost use Rattle.star_values.specs.Objects.{seen};
-ghost use Rattle.star_values.specs.Owns.{Owns, OwnsAll};
-ghost use Rattle.star_values.specs.View.{value_of, values_of};
+ghost use Rattle.star_steps.specs.Names.{ℕ, by_place, index_row, member_at, number_at, seen, Owns, OwnsAll, value_of, values_of, Gives, Meets, as_is, state_in};
 ghost use Rattle.star_values.specs.declared.value.Value.TheVariants as value;
-ghost use Rattle.star_steps.specs.Meets.{Gives, Meets, as_is, state_in};
 ghost use Rattle.star_index.specs.Cuts.{character};
 
 use crate::fragments::child_of;
 use crate::keys::{field_of, value_of_key};
 use crate::places::place_among;
-use crate::texts::cut_text;
-use object_arena::{Arena, Ref, Shape, Value};
+use crate::texts::{Part, cut_text};
+use object_arena::{Arena, Ref, Value};
+use star_compare::bounds;
 use star_integers::{number_at, range_count};
-use star_steps::refusal;
-use ytt_base::fault::{FaultKind, Place, Stop};
+use star_steps::{Given, refusal};
+use ytt_base::fault::{FaultKind, Place};
 use ytt_base::text::Text;
 
 /// What an index of a value gives, each refusal at its place: `ValueKind` for kinds without indexes, for a place that is no integer and
 /// for what is no key; `IndexRange`; `KeyMissing` with the key's text; `CutsCharacter`; `Steps` and `TooDeep` of a key's size, and of a
 /// fragment's member.
-pub fn index(
-    arena: &mut Arena,
-    place: Place,
-    value: Value,
-    index: Value,
-    steps: &mut u64,
-) -> Result<Value, Stop>
+pub fn index(arena: &mut Arena, place: Place, value: Value, index: Value, steps: &mut u64) -> Given
     requires value { Owns (seen arena.old) value }
     requires index { Owns (seen arena.old) index }
     ensures { Gives (index_row place (value_of (seen arena.old) value) (value_of (seen arena.old) index) (state_in (seen arena.old) steps.old)) result (seen arena.old) (seen arena.new) steps.new }
@@ -45,7 +35,7 @@ pub fn index(
 }
 
 /// A member of a tuple or list.
-fn member_at(arena: &Arena, place: Place, members: &[Value], index: Value) -> Result<Value, Stop>
+fn member_at(arena: &Arena, place: Place, members: &[Value], index: Value) -> Given
     requires { OwnsAll (seen arena.now) members.now }
     ensures { (n : ℕ) → Gives (by_place place (member_at place (values_of (seen arena.now) members.now)) (value_of (seen arena.now) index) (state_in (seen arena.now) n)) result (seen arena.now) (seen arena.now) n }
 {
@@ -59,23 +49,15 @@ fn member_at(arena: &Arena, place: Place, members: &[Value], index: Value) -> Re
 }
 
 /// A number of a range.
-fn number_of(arena: &Arena, place: Place, range: Ref, index: Value) -> Result<Value, Stop>
+fn number_of(arena: &Arena, place: Place, range: Ref, index: Value) -> Given
     requires { Owns (seen arena.now) (value.Range range) }
     ensures { (n : ℕ) → Gives (index_row place (value_of (seen arena.now) (value.Range range)) (value_of (seen arena.now) index) (state_in (seen arena.now) n)) result (seen arena.now) (seen arena.now) n }
 {
-    match arena.shape(range) {
-        Shape::Range(from, to, step) => number_in(arena, place, (from, to, step), index),
-        _ => unreachable!(),
-    }
+    number_in(arena, place, bounds(arena, range), index)
 }
 
 /// A number from the first of these on and before the second, by steps of the third.
-fn number_in(
-    arena: &Arena,
-    place: Place,
-    range: (i128, i128, i128),
-    index: Value,
-) -> Result<Value, Stop>
+fn number_in(arena: &Arena, place: Place, range: (i128, i128, i128), index: Value) -> Given
     ensures { (n : ℕ) → Gives (by_place place (number_at place range.0 range.1 range.2) (value_of (seen arena.now) index) (state_in (seen arena.now) n)) result (seen arena.now) (seen arena.now) n }
 {
     let (from, to, step) = range;
@@ -89,7 +71,7 @@ fn number_in(
 }
 
 /// A byte of a text that is a whole character.
-fn character_at(arena: &mut Arena, place: Place, text: Ref, index: Value) -> Result<Value, Stop>
+fn character_at(arena: &mut Arena, place: Place, text: Ref, index: Value) -> Given
     requires { Owns (seen arena.old) (value.Text text) }
     ensures { (n : ℕ) → Gives (index_row place (value_of (seen arena.old) (value.Text text)) (value_of (seen arena.old) index) (state_in (seen arena.old) n)) result (seen arena.old) (seen arena.new) n }
 {
@@ -97,7 +79,7 @@ fn character_at(arena: &mut Arena, place: Place, text: Ref, index: Value) -> Res
     Ok(arena.new_text(character)?)
 }
 
-fn character(arena: &Arena, place: Place, text: &str, index: Value) -> Result<Text, Stop>
+fn character(arena: &Arena, place: Place, text: &str, index: Value) -> Part
     ensures { (n : ℕ) → Meets as_is result (state_in (seen arena.now) n) (character place text.now (value_of (seen arena.now) index) (state_in (seen arena.now) n)) }
 {
     match index {

@@ -1,11 +1,6 @@
 // The text of a key, as it stands in the detail of a fault.
-ghost use Rattle.std.specs.Prelude.{◌≡◌, ◌∷◌, [], ◌++◌, ◌<◌, IfOk, MatchOption, OnOk, string_bytes};
-ghost use Rattle.index_spec.specs.KeyTexts.{AreKeysWithin, IsKeyWithin, closed, hex_digit, integer_text, key_text, key_texts, more_texts, quoted, quoted_bytes};
-ghost use Rattle.operator_spec.specs.Operators.{tuple_of};
-ghost use Rattle.value_spec.specs.Values.{values_from};
-ghost use Rattle.star_values.specs.Objects.{seen};
-ghost use Rattle.star_values.specs.Owns.{Owns, OwnsAll};
-ghost use Rattle.star_values.specs.View.{View, value_of, values_of};
+ghost use Rattle.std.specs.Prelude.{◌≡◌, ◌∷◌, ◌++◌, ◌<◌};
+ghost use Rattle.star_steps.specs.Names.{[], IfOk, MatchOption, OnOk, string_bytes, AreKeysWithin, IsKeyWithin, closed, hex_digit, integer_text, key_text, key_texts, more_texts, quoted, quoted_bytes, tuple_of, values_from, seen, Owns, OwnsAll, View, value_of, values_of};
 ghost use Rattle.star_index.specs.Quoting.{quoted_character, unescaped};
 
 use crate::texts::append;
@@ -13,11 +8,14 @@ use itoa::Buffer;
 use object_arena::{Arena, Value};
 use ytt_base::text::{Memory, Text};
 
+/// A text was shown, if there was room.
+type Shown = Result<(), Memory>;
+
 /// How many tuples of a key may stand in one another.
 const MAX_DEPTH: u32 = 100;
 
 /// The text of a key.
-pub(crate) fn key_text(arena: &Arena, key: Value) -> Result<Text, Memory>
+pub fn key_text(arena: &Arena, key: Value) -> Result<Text, Memory>
     requires owned { Owns (seen arena.now) key }
     requires key { IsKeyWithin 100 (value_of (seen arena.now) key) }
     ensures { IfOk result (λ t. t ≡ key_text (value_of (seen arena.now) key)) }
@@ -28,7 +26,7 @@ pub(crate) fn key_text(arena: &Arena, key: Value) -> Result<Text, Memory>
 }
 
 #[cycle(keys)]
-fn push_key(arena: &Arena, levels: u32, key: Value, shown: &mut String) -> Result<(), Memory>
+fn push_key(arena: &Arena, levels: u32, key: Value, shown: &mut String) -> Shown
     requires owned { Owns (seen arena.now) key }
     requires key { IsKeyWithin levels (value_of (seen arena.now) key) }
     ensures { OnOk result (string_bytes shown.new ≡ string_bytes shown.old ++ key_text (value_of (seen arena.now) key)) }
@@ -45,12 +43,7 @@ fn push_key(arena: &Arena, levels: u32, key: Value, shown: &mut String) -> Resul
 }
 
 #[cycle(keys)]
-fn push_tuple(
-    arena: &Arena,
-    levels: u32,
-    members: &[Value],
-    shown: &mut String,
-) -> Result<(), Memory>
+fn push_tuple(arena: &Arena, levels: u32, members: &[Value], shown: &mut String) -> Shown
     requires owned { OwnsAll (seen arena.now) members.now }
     requires keys { AreKeysWithin levels (values_from (values_of (seen arena.now) members.now)) }
     ensures { OnOk result (string_bytes shown.new ≡ string_bytes shown.old ++ key_text (tuple_of (values_of (seen arena.now) members.now))) }
@@ -69,12 +62,7 @@ fn closed(members: &[Value]) -> &'static str
 
 /// The members of a tuple, with `, ` between them.
 #[cycle(keys)]
-fn push_members(
-    arena: &Arena,
-    levels: u32,
-    members: &[Value],
-    shown: &mut String,
-) -> Result<(), Memory>
+fn push_members(arena: &Arena, levels: u32, members: &[Value], shown: &mut String) -> Shown
     requires owned { OwnsAll (seen arena.now) members.now }
     requires keys { AreKeysWithin levels (values_from (values_of (seen arena.now) members.now)) }
     ensures { OnOk result (string_bytes shown.new ≡ string_bytes shown.old ++ key_texts (values_from (values_of (seen arena.now) members.now))) }
@@ -90,12 +78,7 @@ fn push_members(
 
 /// Members with `, ` before each.
 #[cycle(keys)]
-fn push_more(
-    arena: &Arena,
-    levels: u32,
-    members: &[Value],
-    shown: &mut String,
-) -> Result<(), Memory>
+fn push_more(arena: &Arena, levels: u32, members: &[Value], shown: &mut String) -> Shown
     requires owned { OwnsAll (seen arena.now) members.now }
     requires keys { AreKeysWithin levels (values_from (values_of (seen arena.now) members.now)) }
     ensures { OnOk result (string_bytes shown.new ≡ string_bytes shown.old ++ more_texts (values_from (values_of (seen arena.now) members.now))) }
@@ -109,7 +92,7 @@ fn push_more(
     Ok(())
 }
 
-fn push_integer(number: i128, shown: &mut String) -> Result<(), Memory>
+fn push_integer(number: i128, shown: &mut String) -> Shown
     ensures { OnOk result (string_bytes shown.new ≡ string_bytes shown.old ++ integer_text number) }
 {
     let mut buffer = Buffer::new();
@@ -117,7 +100,7 @@ fn push_integer(number: i128, shown: &mut String) -> Result<(), Memory>
 }
 
 /// A text in double quotes.
-fn push_quoted(text: &str, shown: &mut String) -> Result<(), Memory>
+fn push_quoted(text: &str, shown: &mut String) -> Shown
     ensures { OnOk result (string_bytes shown.new ≡ string_bytes shown.old ++ quoted text.now) }
 {
     append(shown, "\"")?;
@@ -125,7 +108,7 @@ fn push_quoted(text: &str, shown: &mut String) -> Result<(), Memory>
     append(shown, "\"")
 }
 
-fn push_characters(text: &str, shown: &mut String) -> Result<(), Memory>
+fn push_characters(text: &str, shown: &mut String) -> Shown
     ensures { OnOk result (string_bytes shown.new ≡ string_bytes shown.old ++ quoted_bytes text.now) }
 {
     for c in text.chars() {
@@ -134,7 +117,7 @@ fn push_characters(text: &str, shown: &mut String) -> Result<(), Memory>
     Ok(())
 }
 
-fn push_character(c: char, shown: &mut String) -> Result<(), Memory>
+fn push_character(c: char, shown: &mut String) -> Shown
     ensures { OnOk result (string_bytes shown.new ≡ string_bytes shown.old ++ quoted_character c) }
 {
     match escape(c) {
@@ -157,7 +140,7 @@ fn escape(c: char) -> Option<&'static str>
     }
 }
 
-fn push_unescaped(c: char, shown: &mut String) -> Result<(), Memory>
+fn push_unescaped(c: char, shown: &mut String) -> Shown
     ensures { OnOk result (string_bytes shown.new ≡ string_bytes shown.old ++ unescaped c) }
 {
     let code = c as u32;
@@ -170,7 +153,7 @@ fn push_unescaped(c: char, shown: &mut String) -> Result<(), Memory>
     }
 }
 
-fn push_digit(n: u32, shown: &mut String) -> Result<(), Memory>
+fn push_digit(n: u32, shown: &mut String) -> Shown
     requires { n < 16 }
     ensures { OnOk result (string_bytes shown.new ≡ string_bytes shown.old ++ hex_digit n ∷ []) }
 {

@@ -1,21 +1,17 @@
 // What stands under a key.
-ghost use Rattle.index_spec.specs.Index.{field_of, index_row, missing, other_key};
-ghost use Rattle.index_spec.specs.KeyTexts.{IsKeyWithin};
-ghost use Rattle.star_values.specs.Objects.{seen};
-ghost use Rattle.star_values.specs.Owns.{Owns, OwnsFields};
-ghost use Rattle.star_values.specs.View.{fields_in, value_of};
+ghost use Rattle.star_steps.specs.Names.{field_of, index_row, missing, other_key, IsKeyWithin, seen, Owns, OwnsFields, fields_in, value_of, Gives, state_in};
 ghost use Rattle.star_values.specs.declared.value.Value.TheVariants as value;
-ghost use Rattle.star_steps.specs.Meets.{Gives, state_in};
 ghost use Rattle.star_index.specs.Cuts.{Refuses};
 
 use crate::key_text::key_text;
 use object_arena::{Arena, NamedValue, Ref, Shape, Value};
 use star_compare::{field_under, key_size, value_under};
+use star_steps::Given;
 use ytt_base::fault::{Fault, FaultKind, Place, Stop};
 use ytt_base::text::Memory;
 
 /// The refusal of a key that isn't there, with the key's text.
-pub(crate) fn missing(arena: &Arena, place: Place, key: Value) -> Stop
+pub fn missing(arena: &Arena, place: Place, key: Value) -> Stop
     requires owned { Owns (seen arena.now) key }
     requires key { IsKeyWithin 100 (value_of (seen arena.now) key) }
     ensures { Refuses result (missing place (value_of (seen arena.now) key)) }
@@ -31,13 +27,7 @@ pub(crate) fn missing(arena: &Arena, place: Place, key: Value) -> Stop
 }
 
 /// The value of a key of a dict.
-pub(crate) fn value_of_key(
-    arena: &Arena,
-    place: Place,
-    dict: Ref,
-    key: Value,
-    steps: &mut u64,
-) -> Result<Value, Stop>
+pub fn value_of_key(arena: &Arena, place: Place, dict: Ref, key: Value, steps: &mut u64) -> Given
     requires dict { Owns (seen arena.now) (value.Dict dict) }
     requires key { Owns (seen arena.now) key }
     ensures { Gives (index_row place (value_of (seen arena.now) (value.Dict dict)) (value_of (seen arena.now) key) (state_in (seen arena.now) steps.old)) result (seen arena.now) (seen arena.now) steps.new }
@@ -50,13 +40,7 @@ pub(crate) fn value_of_key(
 }
 
 /// The value of a name of a struct.
-pub(crate) fn field_of(
-    arena: &Arena,
-    place: Place,
-    fields: Ref,
-    key: Value,
-    steps: &mut u64,
-) -> Result<Value, Stop>
+pub fn field_of(arena: &Arena, place: Place, fields: Ref, key: Value, steps: &mut u64) -> Given
     requires fields { Owns (seen arena.now) (value.Struct fields) }
     requires key { Owns (seen arena.now) key }
     ensures { Gives (index_row place (value_of (seen arena.now) (value.Struct fields)) (value_of (seen arena.now) key) (state_in (seen arena.now) steps.old)) result (seen arena.now) (seen arena.now) steps.new }
@@ -73,7 +57,7 @@ fn field_named(
     fields: &[NamedValue],
     key: Value,
     steps: &mut u64,
-) -> Result<Value, Stop>
+) -> Given
     requires fields { OwnsFields (seen arena.now) fields.now }
     requires key { Owns (seen arena.now) key }
     ensures { Gives (field_of place (fields_in (seen arena.now).held fields.now) (value_of (seen arena.now) key) (state_in (seen arena.now) steps.old)) result (seen arena.now) (seen arena.now) steps.new }
@@ -88,12 +72,7 @@ fn field_named(
 }
 
 /// A key of another kind takes its size, and isn't there.
-pub(crate) fn other_key(
-    arena: &Arena,
-    place: Place,
-    key: Value,
-    steps: &mut u64,
-) -> Result<Value, Stop>
+pub fn other_key(arena: &Arena, place: Place, key: Value, steps: &mut u64) -> Given
     requires { Owns (seen arena.now) key }
     ensures { Gives (other_key place (value_of (seen arena.now) key) (state_in (seen arena.now) steps.old)) result (seen arena.now) (seen arena.now) steps.new }
 {

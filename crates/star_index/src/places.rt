@@ -1,16 +1,13 @@
 // Places among members: of an index, and of a slice.
-ghost use Rattle.std.specs.Prelude.{◌≡◌, ◌^◌, ◌≤ℤ◌, pos};
-ghost use Rattle.value_spec.specs.Numbers.{at_least_zero};
-ghost use Rattle.index_spec.specs.Index.{place_among};
-ghost use Rattle.index_spec.specs.Slices.{bound_or, has_bounds, is_bound, place_count, places_of, step_in};
-ghost use Rattle.star_values.specs.View.{View, value_of};
+ghost use Rattle.std.specs.Prelude.{◌≡◌, ◌^◌, ◌≤ℤ◌};
+ghost use Rattle.star_steps.specs.Names.{pos, at_least_zero, place_among, bound_or, has_bounds, is_bound, place_count, places_of, step_in, View, value_of};
 ghost use Rattle.star_index.specs.Cuts.{IsPlace, cut_in, place_at, places_in};
 
 use object_arena::{Cut, Value};
 use star_integers::{number_at, range_count};
 
 /// A place among so many: from 0 on, or from the end where it is negative.
-pub(crate) fn place_among(count: u128, index: i128) -> Option<u128>
+pub fn place_among(count: u128, index: i128) -> Option<u128>
     ensures { result ≡ place_among count index }
 {
     if index >= 0 {
@@ -35,14 +32,14 @@ pub(crate) struct Places {
 
 impl Places {
     /// How many there are.
-    pub(crate) fn count(&self) -> u128
+    pub fn count(&self) -> u128
         ensures { result ≡ place_count (places_in self.now) }
     {
         range_count(self.first, self.end, self.step)
     }
 
     /// The place after so many steps.
-    pub(crate) fn at(&self, number: u128) -> usize
+    pub fn at(&self, number: u128) -> usize
         requires { IsPlace (2 ^ 64) (place_at (places_in self.now) number) }
         ensures { result ≡ at_least_zero (place_at (places_in self.now) number) }
     {
@@ -51,7 +48,7 @@ impl Places {
 }
 
 /// Whether each part of a slice is absent or an integer, and the step isn't 0.
-pub(crate) fn has_bounds(cut: &Cut) -> bool
+pub fn has_bounds(cut: &Cut) -> bool
     ensures { (a : View) → result ≡ has_bounds (cut_in a.held cut.now) }
 {
     is_bound(cut.from) && is_bound(cut.to) && is_bound(cut.step) && step_of(cut) != 0
@@ -73,7 +70,7 @@ fn step_of(cut: &Cut) -> i128
 }
 
 /// The places of a slice of so many members.
-pub(crate) fn cut_places(count: usize, cut: &Cut) -> Places
+pub fn cut_places(count: usize, cut: &Cut) -> Places
     ensures { (a : View) → places_in result ≡ places_of count (cut_in a.held cut.now) }
 {
     let step = step_of(cut);

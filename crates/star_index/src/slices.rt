@@ -1,30 +1,20 @@
 // Slices.
-ghost use Rattle.std.specs.Prelude.{◌≡◌, IfOk, length};
-ghost use Rattle.index_spec.specs.Slices.{cut_row, members_cut, slice_row};
-ghost use Rattle.star_values.specs.Objects.{seen};
-ghost use Rattle.star_values.specs.Owns.{Owns, OwnsAll};
-ghost use Rattle.star_values.specs.View.{value_of, values_of};
+ghost use Rattle.std.specs.Prelude.{◌≡◌};
+ghost use Rattle.star_steps.specs.Names.{IfOk, length, cut_row, members_cut, slice_row, seen, Owns, OwnsAll, value_of, values_of, Gives, Meets, as_is, state_in};
 ghost use Rattle.star_values.specs.declared.value.Value.TheVariants as value;
-ghost use Rattle.star_steps.specs.Meets.{Gives, Meets, as_is, state_in};
 ghost use Rattle.star_index.specs.Cuts.{AreAmong, bytes_paid, cut_in, members_paid, places_in};
 
 use crate::places::{Places, cut_places, has_bounds};
-use crate::texts::bytes_cut;
+use crate::texts::{Part, bytes_cut};
 use object_arena::{Arena, Cut, Ref, Value, Values};
-use star_steps::{pay, refusal};
+use star_steps::{Given, pay, refusal};
 use std::alloc::Global;
 use ytt_base::fault::{FaultKind, Place, Stop};
 use ytt_base::text::{Memory, Text};
 
 /// What a slice of a text, a tuple or a list gives, each refusal at its place: `ValueKind` for other kinds, for a bound that is no
 /// integer and for a step of 0; `Steps`; and `CutsCharacter`.
-pub fn slice(
-    arena: &mut Arena,
-    place: Place,
-    value: Value,
-    cut: Cut,
-    steps: &mut u64,
-) -> Result<Value, Stop>
+pub fn slice(arena: &mut Arena, place: Place, value: Value, cut: Cut, steps: &mut u64) -> Given
     requires value { Owns (seen arena.old) value }
     ensures { Gives (slice_row place (value_of (seen arena.old) value) (cut_in (seen arena.old).held cut) (state_in (seen arena.old) steps.old)) result (seen arena.old) (seen arena.new) steps.new }
 {
@@ -39,13 +29,7 @@ pub fn slice(
     }
 }
 
-fn text_slice(
-    arena: &mut Arena,
-    place: Place,
-    text: Ref,
-    cut: &Cut,
-    steps: &mut u64,
-) -> Result<Value, Stop>
+fn text_slice(arena: &mut Arena, place: Place, text: Ref, cut: &Cut, steps: &mut u64) -> Given
     requires { Owns (seen arena.old) (value.Text text) }
     ensures { Gives (cut_row place (value_of (seen arena.old) (value.Text text)) (cut_in (seen arena.old).held cut.now) (state_in (seen arena.old) steps.old)) result (seen arena.old) (seen arena.new) steps.new }
 {
@@ -54,13 +38,7 @@ fn text_slice(
 }
 
 /// The bytes of a slice, for the steps that it takes.
-fn bytes_slice(
-    arena: &Arena,
-    place: Place,
-    text: &str,
-    cut: &Cut,
-    steps: &mut u64,
-) -> Result<Text, Stop>
+fn bytes_slice(arena: &Arena, place: Place, text: &str, cut: &Cut, steps: &mut u64) -> Part
     ensures { Meets as_is result (state_in (seen arena.now) steps.new) (bytes_paid place text.now (cut_in (seen arena.now).held cut.now) (state_in (seen arena.now) steps.old)) }
 {
     let places = cut_places(text.len(), cut);
@@ -73,13 +51,7 @@ fn bytes_slice(
     bytes_cut(arena, place, text, &places)
 }
 
-fn tuple_slice(
-    arena: &mut Arena,
-    place: Place,
-    tuple: Ref,
-    cut: &Cut,
-    steps: &mut u64,
-) -> Result<Value, Stop>
+fn tuple_slice(arena: &mut Arena, place: Place, tuple: Ref, cut: &Cut, steps: &mut u64) -> Given
     requires { Owns (seen arena.old) (value.Tuple tuple) }
     ensures { Gives (cut_row place (value_of (seen arena.old) (value.Tuple tuple)) (cut_in (seen arena.old).held cut.now) (state_in (seen arena.old) steps.old)) result (seen arena.old) (seen arena.new) steps.new }
 {
@@ -87,13 +59,7 @@ fn tuple_slice(
     Ok(arena.new_tuple(members.as_slice())?)
 }
 
-fn list_slice(
-    arena: &mut Arena,
-    place: Place,
-    list: Ref,
-    cut: &Cut,
-    steps: &mut u64,
-) -> Result<Value, Stop>
+fn list_slice(arena: &mut Arena, place: Place, list: Ref, cut: &Cut, steps: &mut u64) -> Given
     requires { Owns (seen arena.old) (value.List list) }
     ensures { Gives (cut_row place (value_of (seen arena.old) (value.List list)) (cut_in (seen arena.old).held cut.now) (state_in (seen arena.old) steps.old)) result (seen arena.old) (seen arena.new) steps.new }
 {

@@ -1,9 +1,6 @@
 // Characters of texts.
-ghost use Rattle.std.specs.Prelude.{◌≡◌, ◌++◌, ℕ, OnOk, length, option_map, string_bytes};
-ghost use Rattle.index_spec.specs.Index.{cut_text};
-ghost use Rattle.index_spec.specs.Slices.{bytes_cut, picked_bytes, place_count};
-ghost use Rattle.star_values.specs.Objects.{seen};
-ghost use Rattle.star_steps.specs.Meets.{Meets, as_is, state_in};
+ghost use Rattle.std.specs.Prelude.{◌≡◌, ◌++◌};
+ghost use Rattle.star_steps.specs.Names.{ℕ, OnOk, length, option_map, string_bytes, cut_text, bytes_cut, picked_bytes, place_count, seen, Meets, as_is, state_in};
 ghost use Rattle.star_index.specs.Cuts.{AreAmong, WholeCut, places_in};
 
 use crate::places::Places;
@@ -11,6 +8,9 @@ use object_arena::Arena;
 use star_steps::refusal;
 use ytt_base::fault::{FaultKind, Place, Stop};
 use ytt_base::text::{Memory, Text};
+
+/// A part of a text, or its refusal.
+pub type Part = Result<Text, Stop>;
 
 /// The bytes of a text from one place to another, or `None` where they cut a character. Nothing is cut where the places are
 /// one, or the second comes first.
@@ -28,13 +28,7 @@ fn whole_cut(text: &str, from: usize, to: usize) -> Option<&str>
 }
 
 /// A part of a text, or `CutsCharacter`.
-pub(crate) fn cut_text(
-    arena: &Arena,
-    place: Place,
-    text: &str,
-    from: usize,
-    to: usize,
-) -> Result<Text, Stop>
+pub fn cut_text(arena: &Arena, place: Place, text: &str, from: usize, to: usize) -> Part
     ensures { (n : ℕ) → Meets as_is result (state_in (seen arena.now) n) (cut_text place text.now from to (state_in (seen arena.now) n)) }
 {
     match whole_cut(text, from, to) {
@@ -44,12 +38,7 @@ pub(crate) fn cut_text(
 }
 
 /// The bytes of a text at the places of a slice, or `CutsCharacter`.
-pub(crate) fn bytes_cut(
-    arena: &Arena,
-    place: Place,
-    text: &str,
-    places: &Places,
-) -> Result<Text, Stop>
+pub fn bytes_cut(arena: &Arena, place: Place, text: &str, places: &Places) -> Part
     requires { AreAmong (length text.now) (places_in places.now) }
     ensures { (n : ℕ) → Meets as_is result (state_in (seen arena.now) n) (bytes_cut place text.now (places_in places.now) (state_in (seen arena.now) n)) }
 {
@@ -65,7 +54,7 @@ pub(crate) fn bytes_cut(
 }
 
 /// One byte at each place, each of which is a whole character.
-fn picked_bytes(arena: &Arena, place: Place, text: &str, places: &Places) -> Result<Text, Stop>
+fn picked_bytes(arena: &Arena, place: Place, text: &str, places: &Places) -> Part
     requires { AreAmong (length text.now) (places_in places.now) }
     ensures { (n : ℕ) → Meets as_is result (state_in (seen arena.now) n) (picked_bytes place text.now (place_count (places_in places.now)) places.now.first places.now.step (state_in (seen arena.now) n)) }
 {
@@ -81,7 +70,7 @@ fn picked_bytes(arena: &Arena, place: Place, text: &str, places: &Places) -> Res
 }
 
 /// Puts a text behind another.
-pub(crate) fn append(text: &mut String, more: &str) -> Result<(), Memory>
+pub fn append(text: &mut String, more: &str) -> Result<(), Memory>
     ensures { OnOk result (string_bytes text.new ≡ string_bytes text.old ++ more.now) }
 {
     text.push_str(more)?;

@@ -4,8 +4,8 @@ use Rattle.std.specs.Prelude.{if◌then◌else◌}
 use Rattle.ytt_base.specs.declared.fault.FaultKind.{FaultKind}
 use Rattle.ytt_base.specs.declared.fault.FaultKind.TheVariants as kind
 use Rattle.ytt_base.specs.declared.fault.Place.{Place}
-use Rattle.code_spec.specs.Code.{negation, positive, inversion}
-use Rattle.value_spec.specs.Numbers.{fits, is_negative, is_zero, at_least_zero, complement, floor_quotient, floor_remainder, shifted_left, shifted_right}
+use Rattle.code_spec.specs.Code.{negation}
+use Rattle.value_spec.specs.Numbers.{fits, is_negative, is_zero, at_least_zero, floor_quotient, floor_remainder, shifted_left, shifted_right}
 use Rattle.value_spec.specs.Outcomes.{State, Computation, give, fail}
 use Rattle.value_spec.specs.Values.{Value, int_value}
 use Rattle.operator_spec.specs.Operators.{int_of, divided, shifted, binary_row, unary_row}
@@ -49,9 +49,3 @@ integer_row integer.ShiftRight p x y s = shifted_act shifted_right p x y s
 -- the rows of one integer
 pub negation_row : {H : Type 0} (p : Place) (z : ℤ) (s : State H) → unary_row p negation (int_value z) s ≡ answered p (fitting (neg_ℤ z)) s
 negation_row p z s = int_act p (neg_ℤ z) s
-
-pub positive_row : {H : Type 0} (p : Place) (z : ℤ) (s : State H) → unary_row p positive (int_value z) s ≡ answered p (number z) s
-positive_row p z s = refl
-
-pub inversion_row : {H : Type 0} (p : Place) (z : ℤ) (s : State H) → unary_row p inversion (int_value z) s ≡ answered p (number (complement z)) s
-inversion_row p z s = refl

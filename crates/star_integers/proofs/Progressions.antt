@@ -1,5 +1,5 @@
 -- The numbers of ranges, which are told by arithmetic and never made as a list.
-use Rattle.std.proofs.Common.{◌≡◌, ℕ, zero, suc, ◌+◌, ◌-◌, ◌*◌, ◌/◌, ◌%◌, ◌^◌, ◌<◌, ◌≤◌, Bool, true, false, nat_eq, ◌||◌, length, Some, slice_get, ℤ, pos, negsuc, neg_ℤ, ◌+ℤ◌, ◌-ℤ◌, ◌*ℤ◌, ◌<ℤ◌, ◌≤ℤ◌, FitsSigned, to_z, of_z, refl, sym, ap, subst, ◌∙◌, arith, rules}
+use Rattle.std.proofs.Common.{◌≡◌, ℕ, zero, suc, ◌+◌, ◌-◌, ◌*◌, ◌/◌, ◌%◌, ◌^◌, ◌<◌, ◌≤◌, Bool, true, false, nat_eq, ◌||◌, length, Some, slice_get, ℤ, pos, negsuc, neg_ℤ, ◌+ℤ◌, ◌-ℤ◌, ◌*ℤ◌, ◌<ℤ◌, ◌≤ℤ◌, FitsSigned, to_z, of_z, refl, sym, ap, subst, ◌∙◌, add-one, arith, rules}
 use Rattle.std.proofs.lemmas.Int.{ints, to_z-of_z, of_z-to_z, wrapping_add-bits, wrapping_mul_onto, int_wrap_fits, int_wrap-add_right, int_wrap-mul_left}
 use Rattle.std.proofs.lemmas.Nat.{le-div, div-add-mod'}
 use Rattle.std.proofs.Math.Nat.{add-div_left, div-mul-le_self, mod-eq_of_lt, mul-le-mul_right, mul-mod_left, suc-mul}
@@ -19,6 +19,10 @@ times_next i (negsuc k) = omega (arith, ints, suc-mul i (suc k))
 pub from_next : (start step : ℤ) (i : ℕ) → (start +ℤ step) +ℤ (pos i *ℤ step) ≡ start +ℤ (pos (suc i) *ℤ step)
 from_next start step i = omega (arith, ints, times_next i step)
 
+-- the number behind that at a place
+pub further_on : (z step : ℤ) (i : ℕ) → (z +ℤ (pos i *ℤ step)) +ℤ step ≡ z +ℤ (pos (i + 1) *ℤ step)
+further_on z step i = omega (arith, ints, from_next z step i, times_next i step) ∙ ap (λ m. z +ℤ (pos m *ℤ step)) (sym (add-one i))
+
 pub first_number : (start step : ℤ) → start ≡ start +ℤ (pos 0 *ℤ step)
 first_number start (pos k) = omega (arith, ints)
 first_number start (negsuc k) = omega (arith, ints)
@@ -37,13 +41,13 @@ progression_get (suc n) start step (suc i) h = progression_get n (start +ℤ ste
 same_integer_alike : (z : ℤ) → same_integer z z ≡ true
 same_integer_alike z = search rules
 
-same_integers : (y z : ℤ) → y ≡ z → same_integer y z ≡ true
+pub same_integers : (y z : ℤ) → y ≡ z → same_integer y z ≡ true
 same_integers y z e = subst (λ x. same_integer y x ≡ true) e (same_integer_alike y)
 
 other_numbers : (m n : ℕ) → (m ≡ n → ⊥) → nat_eq m n ≡ false
 other_numbers m n h = grind (arith, h)
 
-other_integers : (y z : ℤ) → (y ≡ z → ⊥) → same_integer y z ≡ false
+pub other_integers : (y z : ℤ) → (y ≡ z → ⊥) → same_integer y z ≡ false
 other_integers (pos m) (pos n) h = other_numbers m n (λ e. h (ap pos e))
 other_integers (pos m) (negsuc n) h = refl
 other_integers (negsuc m) (pos n) h = refl
@@ -117,6 +121,12 @@ number_fits start stop (pos (suc k)) i f g below =
 number_fits start stop (negsuc k) i f g below =
     let before : pos (i * suc k) <ℤ (start -ℤ stop) = comes_before (start -ℤ stop) (suc k) i (omega arith) below in
     between_fits stop (start +ℤ neg_ℤ (pos (i * suc k))) start (omega (arith, ints)) (omega (arith, ints)) g f
+
+-- a number of a range that was passed
+pub number_passed : (start stop step : ℤ) (i n : ℕ) → FitsSigned w128 start → FitsSigned w128 stop → n ≡ range_count (to_z w128 (of_z w128 start)) (to_z w128 (of_z w128 stop)) (to_z w128 (of_z w128 step)) → i < n →
+    FitsSigned w128 (to_z w128 (of_z w128 start) +ℤ (pos i *ℤ to_z w128 (of_z w128 step)))
+number_passed start stop step i n f g e below =
+    number_fits (to_z w128 (of_z w128 start)) (to_z w128 (of_z w128 stop)) (to_z w128 (of_z w128 step)) i (subst (FitsSigned w128) (sym (to_z-of_z w128 start f)) f) (subst (FitsSigned w128) (sym (to_z-of_z w128 stop g)) g) (omega arith)
 
 -- ---- whether a number is in it
 

@@ -1,23 +1,9 @@
 -- Rows that make a dict, or change a list.
-use Rattle.std.proofs.Common.{◌≡◌, ℕ, suc, ◌+◌, true, List, [], ◌∷◌, ◌++◌, length, Some, Result, Ok, Err, refl, sym, ap, subst, ◌∙◌, rules}
-use Rattle.std.proofs.lemmas.List.{length-map}
-use Rattle.ytt_base.specs.declared.fault.Place.{Place}
-use Rattle.ytt_base.specs.declared.fault.Stop.{Stop}
-use Rattle.value_spec.specs.Members.{count_in, keys_in, members_in}
-use Rattle.value_spec.specs.Outcomes.{Computation, done, then_do, acting, after_act, give, new_dict, take_steps, ◌>>=◌}
-use Rattle.value_spec.specs.Store.{did, list_at, list_extend, may_change, pairs_at, put_pairs}
+use Rattle.star_steps.proofs.Names.{◌≡◌, ℕ, suc, ◌+◌, true, List, [], ◌∷◌, ◌++◌, length, Some, Result, Ok, Err, refl, sym, ap, subst, ◌∙◌, rules, length-map, Place, Stop, count_in, keys_in, members_in, Computation, done, then_do, acting, after_act, give, new_dict, take_steps, ◌>>=◌, did, list_at, list_extend, may_change, pairs_at, put_pairs, extend_row, join_pairs, new_keys, Grows, Owns, View, value_of, values_of, Ref, Value, grows_same, owns_kept, Gives, Meets, as_is, state_in, meets_same, meets_stop}
 use Rattle.value_spec.specs.Values as plain
-use Rattle.operator_spec.specs.Operators.{extend_row, join_pairs, new_keys}
-use Rattle.star_values.specs.Owns.{Grows, Owns}
-use Rattle.star_values.specs.View.{View, value_of, values_of}
-use Rattle.star_values.specs.declared.value.Ref.{Ref}
-use Rattle.star_values.specs.declared.value.Value.{Value}
-use Rattle.star_values.proofs.Growing.{grows_same, owns_kept}
 use Rattle.star_values.specs.declared.value.Value.TheVariants as value
-use Rattle.star_fragments.specs.Fresh.{BuildsValue}
+use Rattle.star_fragments.specs.Fresh.{Builds}
 use Rattle.star_integers.proofs.Progressions.{progression_length}
-use Rattle.star_steps.specs.Meets.{Gives, Meets, as_is, state_in}
-use Rattle.star_steps.proofs.Meeting.{meets_same, meets_stop}
 use Rattle.star_ops.specs.Acts.{is_iterable}
 use Rattle.star_ops.proofs.Members.{put_both}
 
@@ -25,7 +11,7 @@ use Rattle.star_ops.proofs.Members.{put_both}
 
 -- the steps were taken, and the dict was made
 pub dicts_joined : (p : Place) (ps qs : List (plain.Value × plain.Value)) (v : Value) (a b : View) (n m cost : ℕ) → cost ≡ length ps + length qs + (length ps + new_keys ps qs) → take_steps cost p (state_in a n) ≡ done tt (state_in a m) →
-    BuildsValue (new_dict (put_pairs [] (ps ++ qs))) (Ok v) a b → Gives (join_pairs p ps qs (state_in a n)) (Ok v) a b m
+    Builds value_of Owns (new_dict (put_pairs [] (ps ++ qs))) (Ok v) a b → Gives (join_pairs p ps qs (state_in a n)) (Ok v) a b m
 dicts_joined p ps qs v a b n m cost e taken built = record {
   meaning =
       ap (λ k. then_do (take_steps k p (state_in a n)) (λ u. new_dict (put_pairs (put_pairs [] ps) qs))) (sym e)

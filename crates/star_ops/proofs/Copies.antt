@@ -1,9 +1,5 @@
 -- A text or a tuple that is repeated, one copy behind another.
-use Rattle.std.proofs.Common.{◌≡◌, ℕ, zero, suc, ◌+◌, List, [], ◌∷◌, ◌++◌, refl, sym, ap, ◌∙◌, add-one, append_assoc, append-nil, rules}
-use Rattle.operator_spec.specs.Operators.{copies, repeated}
-use Rattle.star_values.specs.Owns.{OwnsAll}
-use Rattle.star_values.specs.View.{View, value_of, values_of}
-use Rattle.star_values.specs.declared.value.Value.{Value}
+use Rattle.star_steps.proofs.Names.{◌≡◌, ℕ, zero, suc, ◌+◌, List, [], ◌∷◌, ◌++◌, refl, sym, ap, ◌∙◌, add-one, append_assoc, append-nil, rules, copies, repeated, OwnsAll, View, Value}
 
 copies-last : {A : Type 0} (n : ℕ) (t : List A) → copies n t ++ t ≡ t ++ copies n t
 copies-last zero t = sym (append-nil t)
@@ -23,10 +19,6 @@ repeated_empty n [] h = refl
 repeated_empty n (b ∷ t) h = search rules
 
 -- ---- of the values of an arena
-
-pub joined_seen : (a : View) (vs ws : List Value) → values_of a (vs ++ ws) ≡ values_of a vs ++ values_of a ws
-joined_seen a [] ws = refl
-joined_seen a (v ∷ vs) ws = ap (λ l. value_of a v ∷ l) (joined_seen a vs ws)
 
 pub joined_owned : (a : View) (vs ws : List Value) → OwnsAll a vs → OwnsAll a ws → OwnsAll a (vs ++ ws)
 joined_owned a [] ws h k = k

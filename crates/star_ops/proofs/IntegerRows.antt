@@ -1,13 +1,7 @@
 -- The rows of operators where an operand is an integer.
-use Rattle.std.proofs.Common.{◌≡◌, ℤ, Option, Some, None, FitsSigned, to_z, of_z, refl, sym, subst, ◌∙◌}
-use Rattle.std.proofs.lemmas.Int.{to_z-of_z}
-use Rattle.std.specs.Int.{w128}
+use Rattle.star_steps.proofs.Names.{◌≡◌, ℤ, Option, Some, None, FitsSigned, to_z, of_z, refl, sym, subst, ◌∙◌, to_z-of_z, w128, Place, as_int, State, Computation, fail, int_value, if_both, sum_row, product_row, remainder_row, union_row, binary_row}
 use Rattle.ytt_base.specs.declared.fault.FaultKind.TheVariants as kind
-use Rattle.ytt_base.specs.declared.fault.Place.{Place}
-use Rattle.value_spec.specs.Members.{as_int}
-use Rattle.value_spec.specs.Outcomes.{State, Computation, fail}
-use Rattle.value_spec.specs.Values.{Value, int_value}
-use Rattle.operator_spec.specs.Operators.{if_both, sum_row, product_row, remainder_row, union_row, binary_row}
+use Rattle.value_spec.specs.Values.{Value}
 use Rattle.star_integers.specs.Answers.{answered, integer_answer, operator_of}
 use Rattle.star_integers.specs.declared.operators.IntegerOp.{IntegerOp}
 use Rattle.star_integers.specs.declared.operators.IntegerOp.TheVariants as integer

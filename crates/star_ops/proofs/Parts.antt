@@ -1,8 +1,6 @@
 -- A text that stands in another.
-use Rattle.std.proofs.Common.{◌≡◌, ℕ, Bool, true, false, ◌==◌, ◌&&◌, ◌||◌, ◌⊎◌, inl, inr, List, [], ◌∷◌, ◌++◌, refl, sym, ap, subst}
-use Rattle.std.proofs.Common.{eq-eqb, eqb-true}
-use Rattle.std.specs.Str.Iter.{HasSubslice}
-use Rattle.operator_spec.specs.Operators.{begins_with, is_part}
+use Rattle.star_steps.proofs.Names.{◌≡◌, ℕ, Bool, true, false, ◌==◌, ◌&&◌, ◌||◌, ◌⊎◌, inl, inr, List, [], ◌∷◌, ◌++◌, refl, sym, ap, subst, eq-eqb, HasSubslice, begins_with, is_part}
+use Rattle.std.proofs.Common.{eqb-true}
 
 same_head : (a b : Bool) → (a && b) ≡ true → (a ≡ true) × (b ≡ true)
 same_head true b h = (refl, h)
@@ -11,14 +9,6 @@ same_head false b h = cc
 either : (a b : Bool) → (a || b) ≡ true → (a ≡ true) ⊎ (b ≡ true)
 either true b h = inl refl
 either false b h = inr h
-
-both : (a b : Bool) → a ≡ true → b ≡ true → (a && b) ≡ true
-both true b e f = f
-both false b e f = cc
-
-left : (a b : Bool) → a ≡ true → (a || b) ≡ true
-left true b e = refl
-left false b e = cc
 
 right : (a b : Bool) → b ≡ true → (a || b) ≡ true
 right true b e = refl
@@ -35,7 +25,7 @@ rest_of (x ∷ xs) (b ∷ t) h =
 
 begins : (x b : List ℕ) → begins_with x (x ++ b) ≡ true
 begins [] b = refl
-begins (x ∷ xs) b = both (x == x) (begins_with xs (xs ++ b)) (eq-eqb x x refl) (begins xs b)
+begins (x ∷ xs) b = λ i. eq-eqb x x refl i && begins xs b i
 
 pub shown : (x t : List ℕ) → is_part x t ≡ true → HasSubslice t x
 shown [] [] h = ([], [], refl)
@@ -48,7 +38,7 @@ shown x (b ∷ t) h = elim (either (begins_with x (b ∷ t)) (is_part x t) h) [
 part_at_front : (x b : List ℕ) → is_part x (x ++ b) ≡ true
 part_at_front [] [] = refl
 part_at_front [] (c ∷ b) = refl
-part_at_front (x ∷ xs) b = left (begins_with (x ∷ xs) (x ∷ xs ++ b)) (is_part (x ∷ xs) (xs ++ b)) (begins (x ∷ xs) b)
+part_at_front (x ∷ xs) b = ap (λ v. v || is_part (x ∷ xs) (xs ++ b)) (begins (x ∷ xs) b)
 
 part_behind : (x a b : List ℕ) → is_part x (a ++ (x ++ b)) ≡ true
 part_behind x [] b = part_at_front x b

@@ -1,19 +1,10 @@
 -- The operators that are for integers alone, and values that have members.
-use Rattle.std.specs.Prelude.{ℤ, Bool, true, false, not, List, [], ◌∷◌, Result, Ok, Err}
-use Rattle.ytt_base.specs.declared.fault.FaultKind.{FaultKind}
-use Rattle.ytt_base.specs.declared.fault.Stop.{Stop}
+use Rattle.std.specs.Prelude.{◌∷◌}
+use Rattle.star_steps.specs.Names.{ℤ, Bool, true, false, List, [], Result, Ok, Err, FaultKind, Stop, fault_at, Value as Held, Place, as_int, Computation, fail, if_both, BinOp}
 use Rattle.ytt_base.specs.declared.fault.Stop.TheVariants as stop
-use Rattle.ytt_base.specs.Outcomes.{fault_at}
-use Rattle.star_values.specs.declared.value.Value.{Value as Held}
 use Rattle.star_values.specs.declared.value.Value.TheVariants as value
 use Rattle.ytt_base.specs.declared.fault.FaultKind.TheVariants as kind
-use Rattle.ytt_base.specs.declared.fault.Place.{Place}
-use Rattle.value_spec.specs.Members.{as_int}
-use Rattle.value_spec.specs.Outcomes.{Computation, fail}
 use Rattle.value_spec.specs.Values.{Value}
-use Rattle.operator_spec.specs.Operators.{if_both}
-use Rattle.operator_spec.specs.Order.{Comparison, is_below, is_above}
-use Rattle.star_tree.specs.declared.code.BinOp.{BinOp}
 use Rattle.star_tree.specs.declared.code.BinOp.TheVariants as binary
 use Rattle.star_integers.specs.Answers.{answered, integer_answer}
 use Rattle.star_integers.specs.declared.operators.IntegerOp.{IntegerOp}
@@ -40,26 +31,14 @@ abbrev pub first_parts : List (Held × Held) → List Held
 first_parts [] = []
 first_parts (p ∷ ps) = p.0 ∷ first_parts ps
 
--- ---- operators that test
-
-abbrev pub is_order : BinOp → Bool
-is_order binary.Less = true
-is_order binary.Greater = true
-is_order binary.AtMost = true
-is_order binary.AtLeast = true
-is_order _ = false
-
+-- operators that test
 abbrev pub is_test : BinOp → Bool
 is_test binary.Equal = true
 is_test binary.Unequal = true
 is_test binary.In = true
 is_test binary.NotIn = true
-is_test o = is_order o
-
--- what an operator of order asks of one
-abbrev pub order_test : BinOp → Comparison → Bool
-order_test binary.Less c = is_below c
-order_test binary.Greater c = is_above c
-order_test binary.AtMost c = not (is_above c)
-order_test binary.AtLeast c = not (is_below c)
-order_test _ c = false
+is_test binary.Less = true
+is_test binary.Greater = true
+is_test binary.AtMost = true
+is_test binary.AtLeast = true
+is_test _ = false

@@ -1,36 +1,23 @@
 // A list that is extended in place.
-ghost use Rattle.std.specs.Prelude.{◌≡◌, ◌+◌, IfOk, Some, true};
-ghost use Rattle.value_spec.specs.Members.{keys_in, members_in};
-ghost use Rattle.value_spec.specs.Outcomes.{take_steps};
-ghost use Rattle.value_spec.specs.Store.{pairs_at};
-ghost use Rattle.operator_spec.specs.Operators.{extend_row};
-ghost use Rattle.star_values.specs.Objects.{seen};
-ghost use Rattle.star_values.specs.Owns.{Owns, OwnsAll};
-ghost use Rattle.star_values.specs.View.{value_of, values_of};
+ghost use Rattle.std.specs.Prelude.{◌≡◌, ◌+◌};
+ghost use Rattle.star_steps.specs.Names.{IfOk, Some, true, keys_in, members_in, take_steps, pairs_at, extend_row, seen, Owns, OwnsAll, value_of, values_of, Gives, Meets, as_is, state_in};
 ghost use Rattle.star_values.specs.declared.value.Value.TheVariants as value;
 ghost use Rattle.star_ops.specs.Acts.{first_parts, is_iterable};
-ghost use Rattle.star_steps.specs.Meets.{Gives, Meets, as_is, state_in};
 
 use crate::truths::member_count;
-use crate::unions::pairs;
+use indexmap::map::Slice;
 use object_arena::{Arena, Ref, Value, Values};
 use sqlite_items::Items;
 use star_compare::bounds;
 use star_integers::{number_at, range_count};
-use star_steps::{pay, refusal, stop_at, tuple_members};
+use star_steps::{Given, Paid, pay, refusal, stop_at, tuple_members};
 use std::alloc::Global;
-use ytt_base::fault::{FaultKind, Place, Stop};
+use ytt_base::fault::{FaultKind, Place};
 use ytt_base::text::Memory;
 
 /// The members of a value behind those of a list, which is given. It refuses with `Frozen` and `Iterating`, then with `ValueKind` where the
 /// value has no members. It takes the members of both as steps.
-pub(crate) fn extend(
-    arena: &mut Arena,
-    place: Place,
-    list: Ref,
-    more: Value,
-    steps: &mut u64,
-) -> Result<Value, Stop>
+pub fn extend(arena: &mut Arena, place: Place, list: Ref, more: Value, steps: &mut u64) -> Given
     requires list { Owns (seen arena.old) (value.List list) }
     requires more { Owns (seen arena.old) more }
     ensures { Gives (extend_row place list.at (value_of (seen arena.old) more) (state_in (seen arena.old) steps.old)) result (seen arena.old) (seen arena.new) steps.new }
@@ -43,7 +30,7 @@ pub(crate) fn extend(
     }
     let first = arena.list(list).len();
     pay_both(arena, place, first, member_count(arena, more), steps)?;
-    let members = members(arena, more)?;
+    let members = members_of(arena, more)?;
     match arena.list_extend(list, members.as_slice()) {
         Ok(()) => Ok(Value::List(list)),
         Err(stop) => Err(stop_at(arena, stop, place)),
@@ -51,13 +38,7 @@ pub(crate) fn extend(
 }
 
 /// Takes 1 for each of two counts. A sum past every budget is `Steps` at once.
-fn pay_both(
-    arena: &Arena,
-    place: Place,
-    first: usize,
-    second: u128,
-    steps: &mut u64,
-) -> Result<(), Stop>
+fn pay_both(arena: &Arena, place: Place, first: usize, second: u128, steps: &mut u64) -> Paid
     ensures { Meets as_is result (state_in (seen arena.now) steps.new) (take_steps (first + second) place (state_in (seen arena.now) steps.old)) }
 {
     match (first as u128).checked_add(second) {
@@ -81,7 +62,7 @@ fn has_members(value: Value) -> bool
 }
 
 /// The members of a value that has some: those of a tuple or list, the keys of a dict, the numbers of a range.
-fn members(arena: &Arena, value: Value) -> Result<Values, Memory>
+pub fn members_of(arena: &Arena, value: Value) -> Result<Values, Memory>
     requires owned { Owns (seen arena.now) value }
     requires kind { is_iterable value ≡ true }
     ensures members { IfOk result (λ vs. members_in (seen arena.now).store (value_of (seen arena.now) value) ≡ Some (values_of (seen arena.now) vs)) }
@@ -102,17 +83,17 @@ fn keys(arena: &Arena, dict: Ref) -> Result<Values, Memory>
     ensures keys { IfOk result (λ vs. keys_in (pairs_at dict.at (seen arena.now).store) ≡ values_of (seen arena.now) vs) }
     ensures owns { IfOk result (OwnsAll (seen arena.now)) }
 {
-    let all = pairs(arena, dict)?;
-    first_parts(arena.alloc(), all.as_slice())
+    let keys = first_parts(arena.alloc(), arena.pairs(dict))?;
+    Ok(keys)
 }
 
-fn first_parts(alloc: Global, pairs: &[(Value, Value)]) -> Result<Values, Memory>
-    ensures { IfOk result (λ vs. vs ≡ first_parts pairs.now) }
+fn first_parts(alloc: Global, pairs: Slice<'_, Value, Value>) -> Result<Values, Memory>
+    ensures { IfOk result (λ vs. vs ≡ first_parts pairs.entry) }
 {
     let mut firsts = Items::new(alloc);
     let mut rest = pairs;
-    while let [first, more @ ..] = rest {
-        firsts.push(first.0)?;
+    while let Some(((key, _), more)) = rest.split_first() {
+        firsts.push(*key)?;
         rest = more;
     }
     Ok(firsts)

@@ -14,5 +14,6 @@ mod sums;
 mod truths;
 mod unions;
 
+pub use in_place::members_of;
 pub use rows::{augment, binary, compare, equal, index, slice, unary};
 pub use truths::truth;

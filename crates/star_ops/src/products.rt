@@ -1,55 +1,33 @@
 // Products: a value so many times.
-ghost use Rattle.std.specs.Prelude.{◌≡◌, ◌+◌, ◌*◌, IfOk};
-ghost use Rattle.value_spec.specs.Keys.{text_cost};
-ghost use Rattle.value_spec.specs.Outcomes.{take_steps};
-ghost use Rattle.value_spec.specs.Numbers.{at_least_zero};
-ghost use Rattle.operator_spec.specs.Operators.{product_row, repeat_row, repeated};
-ghost use Rattle.star_values.specs.Objects.{seen};
-ghost use Rattle.star_values.specs.Owns.{Owns, OwnsAll};
-ghost use Rattle.star_values.specs.View.{value_of, values_of};
+ghost use Rattle.std.specs.Prelude.{◌≡◌, ◌+◌, ◌*◌};
+ghost use Rattle.star_steps.specs.Names.{IfOk, text_cost, take_steps, at_least_zero, product_row, repeat_row, repeated, seen, Owns, OwnsAll, value_of, values_of, Gives, Meets, as_is, state_in};
 ghost use Rattle.star_values.specs.declared.value.Value.TheVariants as value;
-ghost use Rattle.star_steps.specs.Meets.{Gives, Meets, as_is, state_in};
 
 use crate::integers::on_integers;
 use object_arena::{Arena, Ref, Value, Values};
 use sqlite_items::Items;
 use star_integers::IntegerOp;
-use star_steps::{pay, refusal, tuple_members};
+use star_steps::{Given, Paid, pay, refusal, tuple_members};
 use std::alloc::Global;
-use ytt_base::fault::{FaultKind, Place, Stop};
+use ytt_base::fault::{FaultKind, Place};
 use ytt_base::text::{Memory, Text};
 
 /// The product of two integers; a text, a tuple or a list so many times, as a new value; else `ValueKind`.
-pub(crate) fn multiply(
-    arena: &mut Arena,
-    place: Place,
-    left: Value,
-    right: Value,
-    steps: &mut u64,
-) -> Result<Value, Stop>
+pub fn product(arena: &mut Arena, place: Place, left: Value, right: Value, steps: &mut u64) -> Given
     requires left { Owns (seen arena.old) left }
     requires right { Owns (seen arena.old) right }
     ensures { Gives (product_row place (value_of (seen arena.old) left) (value_of (seen arena.old) right) (state_in (seen arena.old) steps.old)) result (seen arena.old) (seen arena.new) steps.new }
 {
-    match left {
-        Value::Int(times) => match right {
-            Value::Int(_) => on_integers(arena, place, IntegerOp::Multiply, left, right),
-            _ => repeat(arena, place, right, times, steps),
-        },
-        _ => match right {
-            Value::Int(times) => repeat(arena, place, left, times, steps),
-            _ => Err(refusal(arena, FaultKind::ValueKind, place)),
-        },
+    let op = IntegerOp::Multiply;
+    match (left, right) {
+        (Value::Int(_), Value::Int(_)) => on_integers(arena, place, op, left, right),
+        (Value::Int(times), _) => repeat(arena, place, right, times, steps),
+        (_, Value::Int(times)) => repeat(arena, place, left, times, steps),
+        _ => Err(refusal(arena, FaultKind::ValueKind, place)),
     }
 }
 
-fn repeat(
-    arena: &mut Arena,
-    place: Place,
-    value: Value,
-    times: i128,
-    steps: &mut u64,
-) -> Result<Value, Stop>
+fn repeat(arena: &mut Arena, place: Place, value: Value, times: i128, steps: &mut u64) -> Given
     requires { Owns (seen arena.old) value }
     ensures { Gives (repeat_row place (value_of (seen arena.old) value) times (state_in (seen arena.old) steps.old)) result (seen arena.old) (seen arena.new) steps.new }
 {
@@ -69,13 +47,7 @@ fn from_zero(number: i128) -> u128
 }
 
 /// Takes a sixteenth of so many bytes and of those of their copies. A product past every budget is `Steps` at once.
-fn pay_bytes(
-    arena: &Arena,
-    place: Place,
-    bytes: usize,
-    times: i128,
-    steps: &mut u64,
-) -> Result<(), Stop>
+fn pay_bytes(arena: &Arena, place: Place, bytes: usize, times: i128, steps: &mut u64) -> Paid
     ensures { Meets as_is result (state_in (seen arena.now) steps.new) (take_steps (text_cost (bytes * (1 + at_least_zero times))) place (state_in (seen arena.now) steps.old)) }
 {
     match (bytes as u128).checked_mul(1 + from_zero(times)) {
@@ -89,13 +61,7 @@ fn pay_bytes(
 }
 
 /// Takes 1 for so many members and for each of their copies. A product past every budget is `Steps` at once.
-fn pay_members(
-    arena: &Arena,
-    place: Place,
-    count: usize,
-    times: i128,
-    steps: &mut u64,
-) -> Result<(), Stop>
+fn pay_members(arena: &Arena, place: Place, count: usize, times: i128, steps: &mut u64) -> Paid
     ensures { Meets as_is result (state_in (seen arena.now) steps.new) (take_steps (count * (1 + at_least_zero times)) place (state_in (seen arena.now) steps.old)) }
 {
     match (count as u128).checked_mul(1 + from_zero(times)) {
@@ -109,13 +75,7 @@ fn pay_members(
 }
 
 /// It takes a sixteenth of the bytes of the text and of the result as steps.
-fn repeat_text(
-    arena: &mut Arena,
-    place: Place,
-    text: Ref,
-    times: i128,
-    steps: &mut u64,
-) -> Result<Value, Stop>
+fn repeat_text(arena: &mut Arena, place: Place, text: Ref, times: i128, steps: &mut u64) -> Given
     requires { Owns (seen arena.old) (value.Text text) }
     ensures { Gives (repeat_row place (value_of (seen arena.old) (value.Text text)) times (state_in (seen arena.old) steps.old)) result (seen arena.old) (seen arena.new) steps.new }
 {
@@ -126,13 +86,7 @@ fn repeat_text(
 }
 
 /// It takes the members of the tuple and of the result as steps.
-fn repeat_tuple(
-    arena: &mut Arena,
-    place: Place,
-    tuple: Ref,
-    times: i128,
-    steps: &mut u64,
-) -> Result<Value, Stop>
+fn repeat_tuple(arena: &mut Arena, place: Place, tuple: Ref, times: i128, steps: &mut u64) -> Given
     requires { Owns (seen arena.old) (value.Tuple tuple) }
     ensures { Gives (repeat_row place (value_of (seen arena.old) (value.Tuple tuple)) times (state_in (seen arena.old) steps.old)) result (seen arena.old) (seen arena.new) steps.new }
 {
@@ -143,13 +97,7 @@ fn repeat_tuple(
 }
 
 /// It takes the members of the list and of the result as steps.
-fn repeat_list(
-    arena: &mut Arena,
-    place: Place,
-    list: Ref,
-    times: i128,
-    steps: &mut u64,
-) -> Result<Value, Stop>
+fn repeat_list(arena: &mut Arena, place: Place, list: Ref, times: i128, steps: &mut u64) -> Given
     requires { Owns (seen arena.old) (value.List list) }
     ensures { Gives (repeat_row place (value_of (seen arena.old) (value.List list)) times (state_in (seen arena.old) steps.old)) result (seen arena.old) (seen arena.new) steps.new }
 {

@@ -1,42 +1,28 @@
 // Each operator's row.
-ghost use Rattle.std.specs.Prelude.{◌≡◌, ℕ, IsTrue};
-ghost use Rattle.operator_spec.specs.Equality.{equality};
-ghost use Rattle.operator_spec.specs.Operators.{answered, augment_row, binary_row, compared, contained_in, denied, not_row, remainder_row, unary_row};
-ghost use Rattle.operator_spec.specs.Order.{Comparison, comparison, is_above, is_below};
-ghost use Rattle.index_spec.specs.Index.{index_row};
-ghost use Rattle.index_spec.specs.Slices.{slice_row};
-ghost use Rattle.star_tree.specs.Whole.{binary_operator_of, unary_operator_of};
-ghost use Rattle.star_ops.specs.Acts.{is_order, is_test, order_test};
+ghost use Rattle.std.specs.Prelude.{◌≡◌};
+ghost use Rattle.star_steps.specs.Names.{ℕ, IsTrue, equality, answered, augment_row, binary_row, compared, contained_in, denied, not_row, remainder_row, unary_row, Comparison, comparison, is_above, is_below, index_row, slice_row, binary_operator_of, unary_operator_of, seen, Owns, View, value_of, Gives, Meets, as_is, state_in};
+ghost use Rattle.star_ops.specs.Acts.{is_test};
 ghost use Rattle.star_compare.specs.Alike.{comparison_of};
 ghost use Rattle.star_index.specs.Cuts.{cut_in};
-ghost use Rattle.star_values.specs.Objects.{seen};
-ghost use Rattle.star_values.specs.Owns.{Owns};
-ghost use Rattle.star_values.specs.View.{View, value_of};
-ghost use Rattle.star_steps.specs.Meets.{Gives, Meets, as_is, state_in};
 
 use crate::in_place::extend;
 use crate::integers::{inverse, negative, on_integers, positive};
 use crate::membership::is_in;
-use crate::products::multiply;
+use crate::products::product;
 use crate::sums::add;
 use crate::truths::{truth, turning_cost};
 use crate::unions::unite;
 use object_arena::{Arena, Cut, Value, Work};
+use star_compare::{compare as order, equal as alike};
 use star_integers::IntegerOp;
-use star_steps::{pay, refusal};
+use star_steps::{Given, Told, pay, refusal};
 use star_tree::code::{BinOp, UnOp};
 use std::cmp::Ordering;
 use ytt_base::fault::{FaultKind, Place, Stop};
 
 /// What an operator before its operand gives, each refusal at the operator's place: `ValueKind`, `IntOverflow`,
 /// and `Steps` of `not`.
-pub fn unary(
-    arena: &mut Arena,
-    work: &mut Work,
-    op: UnOp,
-    value: Value,
-    place: Place,
-) -> Result<Value, Stop>
+pub fn unary(arena: &mut Arena, work: &mut Work, op: UnOp, value: Value, place: Place) -> Given
     requires { Owns (seen arena.old) value }
     ensures row { Gives (unary_row place (unary_operator_of op) (value_of (seen arena.old) value) (state_in (seen arena.old) work.old.steps)) result (seen arena.old) (seen arena.new) work.new.steps }
     ensures depth { work.new.depth ≡ work.old.depth }
@@ -49,7 +35,7 @@ pub fn unary(
     }
 }
 
-fn not_true(arena: &Arena, place: Place, value: Value, steps: &mut u64) -> Result<Value, Stop>
+fn not_true(arena: &Arena, place: Place, value: Value, steps: &mut u64) -> Given
     requires { Owns (seen arena.now) value }
     ensures { Gives (not_row place (value_of (seen arena.now) value) (state_in (seen arena.now) steps.old)) result (seen arena.now) (seen arena.now) steps.new }
 {
@@ -66,7 +52,7 @@ pub fn binary(
     left: Value,
     right: Value,
     place: Place,
-) -> Result<Value, Stop>
+) -> Given
     requires left { Owns (seen arena.old) left }
     requires right { Owns (seen arena.old) right }
     ensures row { Gives (binary_row place (binary_operator_of op) (value_of (seen arena.old) left) (value_of (seen arena.old) right) (state_in (seen arena.old) work.old.steps)) result (seen arena.old) (seen arena.new) work.new.steps }
@@ -75,7 +61,7 @@ pub fn binary(
     let steps = &mut work.steps;
     match op {
         BinOp::Add => add(arena, place, left, right, steps),
-        BinOp::Multiply => multiply(arena, place, left, right, steps),
+        BinOp::Multiply => product(arena, place, left, right, steps),
         BinOp::BitOr => unite(arena, place, left, right, steps),
         BinOp::Remainder => remainder(arena, place, left, right),
         BinOp::Subtract => on_integers(arena, place, IntegerOp::Subtract, left, right),
@@ -89,7 +75,7 @@ pub fn binary(
 }
 
 /// The remainder of two integers; with a text at the left `NotBuilt`; else `ValueKind`.
-fn remainder(arena: &Arena, place: Place, left: Value, right: Value) -> Result<Value, Stop>
+fn remainder(arena: &Arena, place: Place, left: Value, right: Value) -> Given
     ensures { (a : View) (n : ℕ) → Gives (remainder_row place (value_of a left) (value_of a right) (state_in a n)) result a a n }
 {
     match left {
@@ -100,56 +86,35 @@ fn remainder(arena: &Arena, place: Place, left: Value, right: Value) -> Result<V
 }
 
 /// What an operator gives that tests: equality, order, `in`.
-fn test(
-    arena: &Arena,
-    place: Place,
-    op: BinOp,
-    left: Value,
-    right: Value,
-    steps: &mut u64,
-) -> Result<Value, Stop>
+fn test(arena: &Arena, place: Place, op: BinOp, left: Value, right: Value, steps: &mut u64) -> Given
     requires op { IsTrue (is_test op) }
     requires left { Owns (seen arena.now) left }
     requires right { Owns (seen arena.now) right }
     ensures { Gives (binary_row place (binary_operator_of op) (value_of (seen arena.now) left) (value_of (seen arena.now) right) (state_in (seen arena.now) steps.old)) result (seen arena.now) (seen arena.now) steps.new }
 {
     match op {
-        BinOp::Equal | BinOp::Unequal => {
-            let holds = star_compare::equal(arena, place, left, right, steps)?;
-            Ok(Value::Bool(if matches!(op, BinOp::Equal) {
-                holds
-            } else {
-                !holds
-            }))
-        }
-        BinOp::In | BinOp::NotIn => {
-            let holds = is_in(arena, place, left, right, steps)?;
-            Ok(Value::Bool(if matches!(op, BinOp::In) {
-                holds
-            } else {
-                !holds
-            }))
-        }
-        BinOp::Less | BinOp::Greater | BinOp::AtMost | BinOp::AtLeast => {
-            let order = star_compare::compare(arena, place, left, right, steps)?;
-            Ok(Value::Bool(told(op, order)))
-        }
+        BinOp::Equal => Ok(Value::Bool(alike(arena, place, left, right, steps)?)),
+        BinOp::Unequal => Ok(Value::Bool(!alike(arena, place, left, right, steps)?)),
+        BinOp::In => Ok(Value::Bool(is_in(arena, place, left, right, steps)?)),
+        BinOp::NotIn => Ok(Value::Bool(!is_in(arena, place, left, right, steps)?)),
+        BinOp::Less => Ok(Value::Bool(is_less(order(arena, place, left, right, steps)?))),
+        BinOp::Greater => Ok(Value::Bool(is_greater(order(arena, place, left, right, steps)?))),
+        BinOp::AtMost => Ok(Value::Bool(!is_greater(order(arena, place, left, right, steps)?))),
+        BinOp::AtLeast => Ok(Value::Bool(!is_less(order(arena, place, left, right, steps)?))),
         _ => unreachable!(),
     }
 }
 
-/// What an operator of order says of one.
-fn told(op: BinOp, order: Ordering) -> bool
-    requires { IsTrue (is_order op) }
-    ensures { result ≡ order_test op (comparison_of order) }
+fn is_less(order: Ordering) -> bool
+    ensures { result ≡ is_below (comparison_of order) }
 {
-    match op {
-        BinOp::Less => matches!(order, Ordering::Less),
-        BinOp::Greater => matches!(order, Ordering::Greater),
-        BinOp::AtMost => !matches!(order, Ordering::Greater),
-        BinOp::AtLeast => !matches!(order, Ordering::Less),
-        _ => unreachable!(),
-    }
+    matches!(order, Ordering::Less)
+}
+
+fn is_greater(order: Ordering) -> bool
+    ensures { result ≡ is_above (comparison_of order) }
+{
+    matches!(order, Ordering::Greater)
 }
 
 /// What an assignment with an operator gives for what was there and a value: `+=` gives a list itself, with the members of the value
@@ -161,7 +126,7 @@ pub fn augment(
     left: Value,
     right: Value,
     place: Place,
-) -> Result<Value, Stop>
+) -> Given
     requires left { Owns (seen arena.old) left }
     requires right { Owns (seen arena.old) right }
     ensures row { Gives (augment_row place (binary_operator_of op) (value_of (seen arena.old) left) (value_of (seen arena.old) right) (state_in (seen arena.old) work.old.steps)) result (seen arena.old) (seen arena.new) work.new.steps }
@@ -189,34 +154,22 @@ pub fn compare(
     ensures meaning { Meets comparison_of result (state_in (seen arena.now) work.new.steps) (comparison place (value_of (seen arena.now) left) (value_of (seen arena.now) right) (state_in (seen arena.now) work.old.steps)) }
     ensures depth { work.new.depth ≡ work.old.depth }
 {
-    star_compare::compare(arena, place, left, right, &mut work.steps)
+    order(arena, place, left, right, &mut work.steps)
 }
 
 /// Whether two values are equal, each refusal at a place: `TooDeep`, `Steps`.
-pub fn equal(
-    arena: &Arena,
-    work: &mut Work,
-    left: Value,
-    right: Value,
-    place: Place,
-) -> Result<bool, Stop>
+pub fn equal(arena: &Arena, work: &mut Work, left: Value, right: Value, place: Place) -> Told
     requires left { Owns (seen arena.now) left }
     requires right { Owns (seen arena.now) right }
     ensures meaning { Meets as_is result (state_in (seen arena.now) work.new.steps) (equality place (value_of (seen arena.now) left) (value_of (seen arena.now) right) (state_in (seen arena.now) work.old.steps)) }
     ensures depth { work.new.depth ≡ work.old.depth }
 {
-    star_compare::equal(arena, place, left, right, &mut work.steps)
+    alike(arena, place, left, right, &mut work.steps)
 }
 
 /// What an index of a value gives, each refusal at a place: `ValueKind`, `IndexRange`, `KeyMissing` with the key's text, `CutsCharacter`, `TooDeep`,
 /// `Steps`.
-pub fn index(
-    arena: &mut Arena,
-    work: &mut Work,
-    value: Value,
-    index: Value,
-    place: Place,
-) -> Result<Value, Stop>
+pub fn index(arena: &mut Arena, work: &mut Work, value: Value, index: Value, place: Place) -> Given
     requires value { Owns (seen arena.old) value }
     requires index { Owns (seen arena.old) index }
     ensures row { Gives (index_row place (value_of (seen arena.old) value) (value_of (seen arena.old) index) (state_in (seen arena.old) work.old.steps)) result (seen arena.old) (seen arena.new) work.new.steps }
@@ -226,13 +179,7 @@ pub fn index(
 }
 
 /// What a slice of a value gives, each refusal at a place: `ValueKind`, `CutsCharacter`, `Steps`.
-pub fn slice(
-    arena: &mut Arena,
-    work: &mut Work,
-    value: Value,
-    cut: Cut,
-    place: Place,
-) -> Result<Value, Stop>
+pub fn slice(arena: &mut Arena, work: &mut Work, value: Value, cut: Cut, place: Place) -> Given
     requires { Owns (seen arena.old) value }
     ensures row { Gives (slice_row place (value_of (seen arena.old) value) (cut_in (seen arena.old).held cut) (state_in (seen arena.old) work.old.steps)) result (seen arena.old) (seen arena.new) work.new.steps }
     ensures depth { work.new.depth ≡ work.old.depth }

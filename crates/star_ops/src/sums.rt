@@ -1,59 +1,34 @@
 // Sums: one value behind the other.
-ghost use Rattle.std.specs.Prelude.{◌≡◌, ◌++◌, IfOk};
-ghost use Rattle.operator_spec.specs.Operators.{sum_row};
-ghost use Rattle.star_values.specs.Objects.{seen};
-ghost use Rattle.star_values.specs.Owns.{Owns};
-ghost use Rattle.star_values.specs.View.{value_of, values_of};
+ghost use Rattle.std.specs.Prelude.{◌≡◌, ◌++◌};
+ghost use Rattle.star_steps.specs.Names.{IfOk, sum_row, seen, Owns, value_of, values_of, Gives, state_in};
 ghost use Rattle.star_values.specs.declared.value.Value.TheVariants as value;
-ghost use Rattle.star_steps.specs.Meets.{Gives, state_in};
 
 use crate::integers::on_integers;
 use object_arena::{Arena, Ref, Value, Values};
 use sqlite_items::Items;
 use star_integers::IntegerOp;
-use star_steps::{pay, refusal, tuple_members};
+use star_steps::{Given, pay, refusal, tuple_members};
 use std::alloc::Global;
-use ytt_base::fault::{FaultKind, Place, Stop};
+use ytt_base::fault::{FaultKind, Place};
 use ytt_base::text::{Memory, Text};
 
 /// The sum of two integers; one text, tuple or list behind the other, as a new value; else `ValueKind`.
-pub(crate) fn add(
-    arena: &mut Arena,
-    place: Place,
-    left: Value,
-    right: Value,
-    steps: &mut u64,
-) -> Result<Value, Stop>
+pub fn add(arena: &mut Arena, place: Place, left: Value, right: Value, steps: &mut u64) -> Given
     requires left { Owns (seen arena.old) left }
     requires right { Owns (seen arena.old) right }
     ensures { Gives (sum_row place (value_of (seen arena.old) left) (value_of (seen arena.old) right) (state_in (seen arena.old) steps.old)) result (seen arena.old) (seen arena.new) steps.new }
 {
-    match left {
-        Value::Int(_) => on_integers(arena, place, IntegerOp::Add, left, right),
-        Value::Text(a) => match right {
-            Value::Text(b) => join_texts(arena, place, a, b, steps),
-            _ => Err(refusal(arena, FaultKind::ValueKind, place)),
-        },
-        Value::Tuple(a) => match right {
-            Value::Tuple(b) => join_tuples(arena, place, a, b, steps),
-            _ => Err(refusal(arena, FaultKind::ValueKind, place)),
-        },
-        Value::List(a) => match right {
-            Value::List(b) => join_lists(arena, place, a, b, steps),
-            _ => Err(refusal(arena, FaultKind::ValueKind, place)),
-        },
+    match (left, right) {
+        (Value::Int(_), _) => on_integers(arena, place, IntegerOp::Add, left, right),
+        (Value::Text(a), Value::Text(b)) => join_texts(arena, place, a, b, steps),
+        (Value::Tuple(a), Value::Tuple(b)) => join_tuples(arena, place, a, b, steps),
+        (Value::List(a), Value::List(b)) => join_lists(arena, place, a, b, steps),
         _ => Err(refusal(arena, FaultKind::ValueKind, place)),
     }
 }
 
 /// It takes a sixteenth of the bytes of both and of the result as steps.
-fn join_texts(
-    arena: &mut Arena,
-    place: Place,
-    left: Ref,
-    right: Ref,
-    steps: &mut u64,
-) -> Result<Value, Stop>
+fn join_texts(arena: &mut Arena, place: Place, left: Ref, right: Ref, steps: &mut u64) -> Given
     requires left { Owns (seen arena.old) (value.Text left) }
     requires right { Owns (seen arena.old) (value.Text right) }
     ensures { Gives (sum_row place (value_of (seen arena.old) (value.Text left)) (value_of (seen arena.old) (value.Text right)) (state_in (seen arena.old) steps.old)) result (seen arena.old) (seen arena.new) steps.new }
@@ -67,13 +42,7 @@ fn join_texts(
 }
 
 /// It takes the members of both and of the result as steps.
-fn join_tuples(
-    arena: &mut Arena,
-    place: Place,
-    left: Ref,
-    right: Ref,
-    steps: &mut u64,
-) -> Result<Value, Stop>
+fn join_tuples(arena: &mut Arena, place: Place, left: Ref, right: Ref, steps: &mut u64) -> Given
     requires left { Owns (seen arena.old) (value.Tuple left) }
     requires right { Owns (seen arena.old) (value.Tuple right) }
     ensures { Gives (sum_row place (value_of (seen arena.old) (value.Tuple left)) (value_of (seen arena.old) (value.Tuple right)) (state_in (seen arena.old) steps.old)) result (seen arena.old) (seen arena.new) steps.new }
@@ -87,13 +56,7 @@ fn join_tuples(
 }
 
 /// It takes the members of both and of the result as steps.
-fn join_lists(
-    arena: &mut Arena,
-    place: Place,
-    left: Ref,
-    right: Ref,
-    steps: &mut u64,
-) -> Result<Value, Stop>
+fn join_lists(arena: &mut Arena, place: Place, left: Ref, right: Ref, steps: &mut u64) -> Given
     requires left { Owns (seen arena.old) (value.List left) }
     requires right { Owns (seen arena.old) (value.List right) }
     ensures { Gives (sum_row place (value_of (seen arena.old) (value.List left)) (value_of (seen arena.old) (value.List right)) (state_in (seen arena.old) steps.old)) result (seen arena.old) (seen arena.new) steps.new }

@@ -1,10 +1,6 @@
 // What is true, and what it takes to say so.
 ghost use Rattle.std.specs.Prelude.{◌≡◌};
-ghost use Rattle.value_spec.specs.Members.{count_in, truth_in};
-ghost use Rattle.operator_spec.specs.Operators.{cost_in};
-ghost use Rattle.star_values.specs.Objects.{seen};
-ghost use Rattle.star_values.specs.Owns.{Owns};
-ghost use Rattle.star_values.specs.View.{value_of};
+ghost use Rattle.star_steps.specs.Names.{count_in, truth_in, cost_in, seen, Owns, value_of};
 ghost use Rattle.star_values.specs.declared.value.Value.TheVariants as value;
 
 use object_arena::{Arena, Ref, Value};
@@ -31,7 +27,7 @@ pub fn truth(arena: &Arena, value: Value) -> bool
 }
 
 /// The steps that turning the truth of a value takes: a sixteenth of a text's bytes, or the members that it has.
-pub(crate) fn turning_cost(arena: &Arena, value: Value) -> u128
+pub fn turning_cost(arena: &Arena, value: Value) -> u128
     requires { Owns (seen arena.now) value }
     ensures { result ≡ cost_in (seen arena.now).store (value_of (seen arena.now) value) }
 {
@@ -42,7 +38,7 @@ pub(crate) fn turning_cost(arena: &Arena, value: Value) -> u128
 }
 
 /// How many members a value has; 0 where it has none to have.
-pub(crate) fn member_count(arena: &Arena, value: Value) -> u128
+pub fn member_count(arena: &Arena, value: Value) -> u128
     requires { Owns (seen arena.now) value }
     ensures { result ≡ count_in (seen arena.now).store (value_of (seen arena.now) value) }
 {

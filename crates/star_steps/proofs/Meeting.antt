@@ -1,12 +1,14 @@
 -- How computations end that go on from others.
-use Rattle.std.proofs.Common.{◌≡◌, ℕ, List, [], ◌∷◌, Result, Err, refl, sym, ap, subst, ◌∙◌}
+use Rattle.std.proofs.Common.{◌≡◌, ℕ, List, [], ◌∷◌, Result, Err, IfOk, refl, sym, ap, subst, ◌∙◌}
 use Rattle.ytt_base.specs.declared.fault.Stop.{Stop}
 use Rattle.ytt_base.specs.declared.fault.Stop.TheVariants as stop
 use Rattle.value_spec.specs.Outcomes.{State, Ending, then_do, Computation}
 use Rattle.value_spec.specs.Values as plain
-use Rattle.star_values.specs.View.{View, members_in}
+use Rattle.star_values.specs.Owns.{Owns}
+use Rattle.star_values.specs.View.{View, members_in, value_of}
 use Rattle.star_values.specs.declared.value.Value.{Value}
-use Rattle.star_steps.specs.Meets.{Meets, Gives}
+use Rattle.star_values.proofs.Growing.{grows_same}
+use Rattle.star_steps.specs.Meets.{Meets, Gives, state_in}
 
 -- the same ending
 pub meets_same : {A B : Type 0} (view : A → B) (r : Result A Stop) (s : State (Unit {0})) (o p : Ending (Unit {0}) B) → p ≡ o → Meets view r s o → Meets view r s p
@@ -19,6 +21,14 @@ gives_same o p r a b n e g = subst (λ o. Gives o r a b n) (sym e) g
 pub meets_stop : {A B C D : Type 0} (view : A → B) (onto : C → D) (e : Stop) (s : State (Unit {0})) (o : Ending (Unit {0}) B) (k : B → Computation (Unit {0}) D) (r : Result C Stop) → Meets view (Err e) s o → r ≡ Err e → Meets onto r s (then_do o k)
 meets_stop view onto (stop.Fault f) s o k r m e = subst (λ r. Meets onto r s (then_do o k)) (sym e) (ap (λ o. then_do o k) m)
 meets_stop view onto stop.Memory s o k r m e = subst (λ r. Meets onto r s (then_do o k)) (sym e) tt
+
+pub gives_stop : {A B : Type 0} (view : A → B) (e : Stop) (a : View) (n : ℕ) (o : Ending (Unit {0}) B) (k : B → Computation (Unit {0}) plain.Value) (r : Result Value Stop) (p : Ending (Unit {0}) plain.Value) →
+    p ≡ then_do o k → Meets view (Err e) (state_in a n) o → r ≡ Err e → Gives p r a a n
+gives_stop view e a n o k r p same m is = subst (λ p. Gives p r a a n) (sym same) (record {
+  meaning = meets_stop view (value_of a) e (state_in a n) o k r m is;
+  owns = subst (λ r. IfOk r (Owns a)) (sym is) tt;
+  grows = grows_same a;
+})
 
 -- ---- tuples
 

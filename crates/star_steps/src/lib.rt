@@ -6,4 +6,4 @@
 
 mod steps;
 
-pub use steps::{pay, refusal, stop_at, tuple_members};
+pub use steps::{Depth, Given, Paid, Told, pay, refusal, stop_at, texts_equal, tuple_members};

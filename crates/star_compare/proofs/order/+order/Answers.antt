@@ -1,6 +1,4 @@
-use Rattle.std.proofs.Common.{◌-◌, sym, ◌∙◌}
-use Rattle.star_values.specs.Objects.{seen}
-use Rattle.star_values.specs.View.{values_of}
+use Rattle.star_steps.proofs.Names.{◌-◌, sym, ◌∙◌, seen, values_of}
 use Rattle.star_compare.proofs.Levels.{one_less, ordered_next}
 use Rattle.star_compare.proofs.order.+order.Goals as goal
 

@@ -1,8 +1,4 @@
-use Rattle.std.proofs.Common.{◌≡◌, ◌+◌, ◌*◌, length}
-use Rattle.operator_spec.specs.Order.{by_members}
-use Rattle.star_values.specs.Objects.{seen}
-use Rattle.star_values.specs.Owns.{OwnsAll}
-use Rattle.star_values.specs.View.{values_of}
+use Rattle.star_steps.proofs.Names.{◌≡◌, ◌+◌, ◌*◌, length, by_members, seen, OwnsAll, values_of}
 use Rattle.star_compare.specs.Alike.{ordered}
 use Rattle.star_compare.proofs.order.+order.Given as goal
 

@@ -1,10 +1,4 @@
-use Rattle.std.proofs.Common.{◌≡◌, true, Err, sym, ap, ◌∙◌, rules}
-use Rattle.operator_spec.specs.Order.{order}
-use Rattle.value_spec.specs.Outcomes.{done, then_do}
-use Rattle.star_values.specs.Objects.{seen}
-use Rattle.star_values.specs.View.{value_of}
-use Rattle.star_steps.specs.Meets.{as_is, state_in}
-use Rattle.star_steps.proofs.Meeting.{meets_same, meets_stop}
+use Rattle.star_steps.proofs.Names.{◌≡◌, true, Err, sym, ap, ◌∙◌, rules, order, done, then_do, seen, value_of, as_is, state_in, meets_same, meets_stop}
 use Rattle.star_compare.specs.Alike.{comparison_of}
 use Rattle.star_compare.proofs.Comparing.{comparing_steps, order_is}
 use Rattle.star_compare.proofs.order.compare.Goals as goal

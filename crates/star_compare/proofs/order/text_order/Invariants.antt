@@ -1,5 +1,4 @@
-use Rattle.std.proofs.Common.{◌≡◌, length}
-use Rattle.operator_spec.specs.Order.{by_members, by_number}
+use Rattle.star_steps.proofs.Names.{◌≡◌, length, by_members, by_number}
 use Rattle.star_compare.proofs.order.text_order.Given as goal
 
 -- what is left to compare decides

@@ -1,9 +1,4 @@
-use Rattle.std.proofs.Common.{◌≡◌, ◌+◌, ◌*◌, length}
-use Rattle.operator_spec.specs.Order.{each_sized}
-use Rattle.star_values.specs.Objects.{seen}
-use Rattle.star_values.specs.Owns.{OwnsAll}
-use Rattle.star_values.specs.View.{values_of}
-use Rattle.star_steps.specs.Meets.{state_in}
+use Rattle.star_steps.proofs.Names.{◌≡◌, ◌+◌, ◌*◌, length, each_sized, seen, OwnsAll, values_of, state_in}
 use Rattle.star_compare.specs.Alike.{measure}
 use Rattle.star_compare.proofs.sizes.+size.Given as goal
 
@@ -11,8 +6,8 @@ use Rattle.star_compare.proofs.sizes.+size.Given as goal
 abbrev pub invariant-pay_each-loop-rest : goal.invariant-pay_each-loop-rest
 invariant-pay_each-loop-rest l = record {
   owns : OwnsAll (seen l.arena) l.rest;
-  same : each_sized (measure l.ranks l.levels l.place) l.place (values_of (seen l.arena) l.values) (state_in (seen l.arena) l.initial.steps)
-      ≡ each_sized (measure l.ranks l.levels l.place) l.place (values_of (seen l.arena) l.rest) (state_in (seen l.arena) l.steps);
+  same : each_sized (measure l.ranks l.at.levels l.at.place) l.at.place (values_of (seen l.arena) l.values) (state_in (seen l.arena) l.initial.steps)
+      ≡ each_sized (measure l.ranks l.at.levels l.at.place) l.at.place (values_of (seen l.arena) l.rest) (state_in (seen l.arena) l.steps);
 }
 
 abbrev pub decreases-pay_each-loop-rest : goal.decreases-pay_each-loop-rest
@@ -20,13 +15,13 @@ decreases-pay_each-loop-rest l = length l.rest
 
 -- members have one level less
 abbrev pub decreases-pay_members : goal.decreases-pay_members
-decreases-pay_members l = 4 * l.levels
+decreases-pay_members l = 4 * l.at.levels
 
 abbrev pub decreases-pay_size : goal.decreases-pay_size
-decreases-pay_size l = 4 * l.levels + 1
+decreases-pay_size l = 4 * l.at.levels + 1
 
 abbrev pub decreases-pay_member : goal.decreases-pay_member
-decreases-pay_member l = 4 * l.levels + 2
+decreases-pay_member l = 4 * l.at.levels + 2
 
 abbrev pub decreases-pay_each : goal.decreases-pay_each
-decreases-pay_each l = 4 * l.levels + 3
+decreases-pay_each l = 4 * l.at.levels + 3

@@ -1,7 +1,4 @@
-use Rattle.star_values.specs.Objects.{seen}
-use Rattle.star_values.specs.View.{value_of}
-use Rattle.star_steps.specs.Meets.{as_is, state_in}
-use Rattle.star_steps.proofs.Meeting.{meets_same}
+use Rattle.star_steps.proofs.Names.{seen, value_of, as_is, state_in, meets_same}
 use Rattle.star_compare.proofs.Keys.{key_if_sized, sized_key}
 use Rattle.star_compare.proofs.sizes.key_size.Goals as goal
 

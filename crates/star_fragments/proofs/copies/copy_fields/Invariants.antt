@@ -1,4 +1,4 @@
-use Rattle.std.proofs.Common.{◌≡◌, take}
+use Rattle.star_steps.proofs.Names.{◌≡◌, take}
 use Rattle.star_fragments.proofs.copies.copy_fields.Given as goal
 
 abbrev pub invariant-loop-field : goal.invariant-loop-field

@@ -1,6 +1,5 @@
-use Rattle.std.proofs.Common.{◌≡◌, ◌==◌, List, []}
+use Rattle.star_steps.proofs.Names.{◌≡◌, ◌==◌, List, [], pair_count}
 use Rattle.value_spec.specs.Values as plain
-use Rattle.operator_spec.specs.Equality.{pair_count}
 use Rattle.star_fragments.specs.Nodes.{entries_in}
 use Rattle.star_fragments.proofs.equality.are_as_many.Given as goal
 

@@ -1,7 +1,4 @@
-use Rattle.std.proofs.Common.{drop}
-use Rattle.star_values.specs.Objects.{seen}
-use Rattle.star_values.specs.Owns.{Owns, OwnsPair}
-use Rattle.star_values.specs.View.{value_of}
+use Rattle.star_steps.proofs.Names.{drop, seen, Owns, OwnsPair, value_of}
 use Rattle.star_fragments.specs.Fresh.{pair_made, pair_of, value_made}
 use Rattle.star_fragments.proofs.Making.{MadeSoFar}
 use Rattle.star_fragments.proofs.fresh.+fresh.Given as goal

@@ -1,7 +1,5 @@
-use Rattle.std.proofs.Common.{◌≡◌, Err, rules}
-use Rattle.star_values.specs.Objects.{seen}
+use Rattle.star_steps.proofs.Names.{◌≡◌, Err, rules, seen, grows_then}
 use Rattle.star_values.specs.declared.value.Value.TheVariants as value
-use Rattle.star_values.proofs.Growing.{grows_then}
 use Rattle.star_fragments.proofs.Dicts.{pair_owned, put_done, put_more}
 use Rattle.star_fragments.proofs.Making.{none_built}
 use Rattle.star_fragments.proofs.fresh.dict_of.Goals as goal

@@ -1,5 +1,4 @@
-use Rattle.std.proofs.Common.{take}
-use Rattle.star_values.specs.Objects.{seen}
+use Rattle.star_steps.proofs.Names.{take, seen}
 use Rattle.star_fragments.proofs.Dicts.{PutSoFar}
 use Rattle.star_fragments.proofs.fresh.dict_of.Given as goal
 

@@ -1,4 +1,4 @@
-use Rattle.std.proofs.Common.{sym, ◌∙◌}
+use Rattle.star_steps.proofs.Names.{sym, ◌∙◌}
 use Rattle.star_fragments.specs.Nodes.{scalar_in}
 use Rattle.star_fragments.proofs.Held.{none_under, not_under, under_found}
 use Rattle.star_fragments.proofs.keys.place_among.Goals as goal

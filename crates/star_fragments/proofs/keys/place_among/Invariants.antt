@@ -1,7 +1,5 @@
-use Rattle.std.proofs.Common.{◌≡◌, List, drop}
+use Rattle.star_steps.proofs.Names.{◌≡◌, List, drop, body_under, built_in}
 use Rattle.value_spec.specs.Values as plain
-use Rattle.index_spec.specs.Index.{body_under}
-use Rattle.star_values.specs.View.{built_in}
 use Rattle.star_fragments.specs.Nodes.{scalar_in}
 use Rattle.star_fragments.proofs.keys.place_among.Given as goal
 

@@ -1,6 +1,4 @@
-use Rattle.index_spec.specs.Index.{as_scalar}
-use Rattle.star_values.specs.Objects.{seen}
-use Rattle.star_values.specs.View.{value_of}
+use Rattle.star_steps.proofs.Names.{as_scalar, seen, value_of}
 use Rattle.star_fragments.proofs.Held.{found_at}
 use Rattle.star_fragments.proofs.keys.place_of_key.Goals as goal
 

@@ -1,6 +1,4 @@
-use Rattle.std.proofs.Common.{ap, sym, ◌∙◌}
-use Rattle.index_spec.specs.Index.{child_count}
-use Rattle.star_values.specs.Objects.{seen}
+use Rattle.star_steps.proofs.Names.{ap, sym, ◌∙◌, child_count, seen}
 use Rattle.star_fragments.proofs.Held.{built_count}
 use Rattle.star_fragments.proofs.members.fragment_length.Goals as goal
 

@@ -1,8 +1,4 @@
-use Rattle.std.proofs.Common.{ap, sym, subst, ◌<◌, ◌∙◌}
-use Rattle.index_spec.specs.Index.{body_at, child_count}
-use Rattle.star_values.specs.Objects.{seen}
-use Rattle.star_values.specs.Owns.{OwnsItem}
-use Rattle.star_values.proofs.Growing.{each_at}
+use Rattle.star_steps.proofs.Names.{ap, sym, subst, ◌<◌, ◌∙◌, body_at, child_count, seen, OwnsItem, each_at}
 use Rattle.star_fragments.proofs.Held.{body_owned, built_count, held_here, there}
 use Rattle.star_fragments.proofs.members.held_at.Goals as goal
 

@@ -1,4 +1,4 @@
-use Rattle.star_values.specs.Objects.{seen}
+use Rattle.star_steps.proofs.Names.{seen}
 use Rattle.star_fragments.proofs.Held.{list_owned, map_owned}
 use Rattle.star_fragments.proofs.members.made.Goals as goal
 

@@ -1,4 +1,4 @@
-use Rattle.std.proofs.Common.{ap, ◌∙◌}
+use Rattle.star_steps.proofs.Names.{ap, ◌∙◌}
 use Rattle.star_fragments.specs.Nodes.{key_in}
 use Rattle.star_fragments.proofs.Pairs.{keyless_first}
 use Rattle.star_fragments.proofs.node.first_entry.Goals as goal

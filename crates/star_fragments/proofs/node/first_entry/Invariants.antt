@@ -1,6 +1,5 @@
-use Rattle.std.proofs.Common.{◌≡◌, List, []}
+use Rattle.star_steps.proofs.Names.{◌≡◌, List, [], child_count}
 use Rattle.value_spec.specs.Values as plain
-use Rattle.index_spec.specs.Index.{child_count}
 use Rattle.star_fragments.specs.Nodes.{entries_in, pairs_among, parts_in}
 use Rattle.star_fragments.proofs.node.first_entry.Given as goal
 

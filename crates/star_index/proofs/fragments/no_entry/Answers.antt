@@ -1,4 +1,4 @@
-use Rattle.std.proofs.Common.{◌≡◌, ◌∙◌}
+use Rattle.star_steps.proofs.Names.{◌≡◌, ◌∙◌}
 use Rattle.star_index.proofs.Names.{absent_scalar, gives_refused, missing, rules, seen, state_in, sym, true, value_of}
 use Rattle.star_index.proofs.fragments.no_entry.Goals as goal
 

@@ -1,4 +1,4 @@
-use Rattle.std.proofs.Common.{◌∙◌}
+use Rattle.star_steps.proofs.Names.{◌∙◌}
 use Rattle.star_index.proofs.Names.{FitsSigned, ap, as_is, character, character_found, length, meets_same, place_among, rules, seen, state_in, sym, to_z-of_z, value_of, w128}
 use Rattle.star_index.proofs.indexes.character.Goals as goal
 

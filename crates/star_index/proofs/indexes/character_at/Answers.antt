@@ -1,4 +1,4 @@
-use Rattle.std.proofs.Common.{◌≡◌, ◌∙◌}
+use Rattle.star_steps.proofs.Names.{◌≡◌, ◌∙◌}
 use Rattle.star_index.proofs.Names.{Err, ap, as_is, as_text_value, gives_made, gives_stop, rules, seen, state_in, sym, text_row, text_value, then_do, value_of}
 use Rattle.star_values.specs.declared.value.Value.TheVariants as value
 use Rattle.star_index.proofs.indexes.character_at.Goals as goal

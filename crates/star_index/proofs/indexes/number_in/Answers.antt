@@ -1,4 +1,4 @@
-use Rattle.std.proofs.Common.{◌∙◌}
+use Rattle.star_steps.proofs.Names.{◌∙◌}
 use Rattle.star_index.proofs.Names.{FitsSigned, number_passed, place_below, rules, sym, w128}
 use Rattle.star_index.proofs.indexes.number_in.Goals as goal
 

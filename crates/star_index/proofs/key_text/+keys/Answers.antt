@@ -1,4 +1,4 @@
-use Rattle.std.proofs.Common.{◌++◌, ◌∙◌}
+use Rattle.star_steps.proofs.Names.{◌++◌, ◌∙◌}
 use Rattle.star_index.proofs.Names.{ap, closed, key_texts, on_ok_as, seen, string_bytes, tuple_shown, values_from, values_of}
 use Rattle.star_index.proofs.key_text.+keys.Goals as goal
 

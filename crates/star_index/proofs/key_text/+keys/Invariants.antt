@@ -1,4 +1,4 @@
-use Rattle.std.proofs.Common.{◌≡◌, ◌+◌, ◌*◌, ◌++◌}
+use Rattle.star_steps.proofs.Names.{◌≡◌, ◌+◌, ◌*◌, ◌++◌}
 use Rattle.star_index.proofs.Names.{AreKeysWithin, OwnsAll, length, more_texts, seen, string_bytes, values_from, values_of}
 use Rattle.star_index.proofs.key_text.+keys.Given as goal
 

@@ -1,4 +1,4 @@
-use Rattle.std.proofs.Common.{◌≡◌, ◌∙◌}
+use Rattle.star_steps.proofs.Names.{◌≡◌, ◌∙◌}
 use Rattle.star_index.proofs.Names.{closed_more, closed_one, length, length-map, rules, sym, value_of, values_of}
 use Rattle.star_index.proofs.key_text.closed.Goals as goal
 

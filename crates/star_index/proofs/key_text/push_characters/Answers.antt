@@ -1,4 +1,4 @@
-use Rattle.std.proofs.Common.{◌++◌, ◌∙◌}
+use Rattle.star_steps.proofs.Names.{◌++◌, ◌∙◌}
 use Rattle.star_index.proofs.Names.{YieldsList-end, YieldsList-from_chars, ap, encode_utf8, encode_utf8_all, encodes-chars, map-id, quoted_bytes, quoted_next, string_bytes, sym}
 use Rattle.star_index.proofs.key_text.push_characters.Goals as goal
 

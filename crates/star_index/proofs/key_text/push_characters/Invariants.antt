@@ -1,4 +1,4 @@
-use Rattle.std.proofs.Common.{◌≡◌, ◌++◌}
+use Rattle.star_steps.proofs.Names.{◌≡◌, ◌++◌}
 use Rattle.star_index.proofs.Names.{encode_utf8_all, quoted_bytes, string_bytes}
 use Rattle.star_index.proofs.key_text.push_characters.Given as goal
 

@@ -1,4 +1,4 @@
-use Rattle.std.proofs.Common.{◌∙◌}
+use Rattle.star_steps.proofs.Names.{◌∙◌}
 use Rattle.star_index.proofs.Names.{None, Some, ap, field_row, fields_in, gives_refused, gives_same, gives_value, missing, other_field, seen, state_in, sym, text_value, value_of}
 use Rattle.star_values.specs.declared.value.Value.TheVariants as value
 use Rattle.star_index.proofs.keys.field_named.Goals as goal

@@ -1,4 +1,4 @@
-use Rattle.std.proofs.Common.{◌≤◌}
+use Rattle.star_steps.proofs.Names.{◌≤◌}
 use Rattle.star_index.proofs.Names.{cut_in, length, sliced_among, sliced_few, places_in, rules, seen}
 use Rattle.star_index.proofs.slices.bytes_slice.Goals as goal
 

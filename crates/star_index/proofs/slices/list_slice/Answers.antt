@@ -1,4 +1,4 @@
-use Rattle.std.proofs.Common.{◌∙◌}
+use Rattle.star_steps.proofs.Names.{◌∙◌}
 use Rattle.star_index.proofs.Names.{ap, cut_in, gives_object, list_cut, new_list, seen, state_in, sym, then_do, values_of}
 use Rattle.star_index.proofs.slices.list_slice.Goals as goal
 

@@ -1,4 +1,4 @@
-use Rattle.std.proofs.Common.{◌∷◌, ◌++◌, ◌∙◌, ◌<◌, []}
+use Rattle.star_steps.proofs.Names.{◌∷◌, ◌++◌, ◌∙◌, ◌<◌, []}
 use Rattle.star_index.proofs.Names.{ap, get_or, length, picked_next, rules, slice_get, slice_get-get_or, sym}
 use Rattle.star_values.specs.declared.value.Value.TheVariants as value
 use Rattle.star_index.proofs.slices.members_at.Goals as goal

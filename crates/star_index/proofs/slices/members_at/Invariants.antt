@@ -1,4 +1,4 @@
-use Rattle.std.proofs.Common.{◌≡◌}
+use Rattle.star_steps.proofs.Names.{◌≡◌}
 use Rattle.star_index.proofs.Names.{picked}
 use Rattle.star_index.proofs.slices.members_at.Given as goal
 

@@ -1,4 +1,4 @@
-use Rattle.std.proofs.Common.{◌≤◌}
+use Rattle.star_steps.proofs.Names.{◌≤◌}
 use Rattle.star_index.proofs.Names.{Owns, OwnsAll, cut_in, length, members_taken, picked_each, sliced_among, sliced_few, places_in, rules, seen, subst, sym}
 use Rattle.star_index.proofs.slices.members_slice.Goals as goal
 

@@ -1,4 +1,4 @@
-use Rattle.std.proofs.Common.{◌≡◌, ◌∙◌}
+use Rattle.star_steps.proofs.Names.{◌≡◌, ◌∙◌}
 use Rattle.star_index.proofs.Names.{Err, ap, as_is, as_text_value, cut_in, gives_made, gives_stop, rules, seen, state_in, sym, text_cut, text_value, then_do, value_of}
 use Rattle.star_values.specs.declared.value.Value.TheVariants as value
 use Rattle.star_index.proofs.slices.text_slice.Goals as goal

@@ -1,4 +1,4 @@
-use Rattle.std.proofs.Common.{◌≡◌, ◌∙◌}
+use Rattle.star_steps.proofs.Names.{◌≡◌, ◌∙◌}
 use Rattle.star_index.proofs.Names.{Err, ap, cut_in, done, give_tuple, gives_made, gives_stop, rules, seen, state_in, sym, then_do, tuple_cut, tuple_of, value_of, values_of}
 use Rattle.star_values.specs.declared.value.Value.TheVariants as value
 use Rattle.star_index.proofs.slices.tuple_slice.Goals as goal

@@ -1,4 +1,4 @@
-use Rattle.std.proofs.Common.{◌≡◌}
+use Rattle.star_steps.proofs.Names.{◌≡◌}
 use Rattle.star_index.proofs.Names.{as_is, cut_at_once, meets_same, places_in, pos, rules, seen, state_in}
 use Rattle.star_index.proofs.texts.bytes_cut.Goals as goal
 

@@ -1,4 +1,4 @@
-use Rattle.std.proofs.Common.{◌≡◌, ◌+◌, ◌<◌, ◌++◌, ◌∙◌}
+use Rattle.star_steps.proofs.Names.{◌≡◌, ◌+◌, ◌<◌, ◌++◌, ◌∙◌}
 use Rattle.star_index.proofs.Names.{BytesSoFar, ap, bytes_done, bytes_next, bytes_refused, done, drop, false, is_whole, place_count, places_in, rules, seen, state_in, string_bytes, subst, sym, take, true}
 use Rattle.star_index.proofs.texts.picked_bytes.Goals as goal
 

@@ -1,4 +1,4 @@
-use Rattle.std.proofs.Common.{◌≡◌, ◌<◌, ◌∙◌}
+use Rattle.star_steps.proofs.Names.{◌≡◌, ◌<◌, ◌∙◌}
 use Rattle.star_index.proofs.Names.{IsCharBoundary, length, min, rules, whole}
 use Rattle.star_index.proofs.texts.whole_cut.Goals as goal
 

@@ -1,7 +1,4 @@
-use Rattle.std.proofs.Common.{◌≡◌, true, sym, subst, ◌∙◌, rules}
-use Rattle.value_spec.specs.Store.{did, list_at, list_extend}
-use Rattle.star_values.specs.Objects.{seen}
-use Rattle.star_values.specs.View.{value_of, values_of}
+use Rattle.star_steps.proofs.Names.{◌≡◌, true, sym, subst, ◌∙◌, rules, did, list_at, list_extend, seen, value_of, values_of}
 use Rattle.star_ops.proofs.Changing.{both_counted, extend_done, extend_stopped, members_there}
 use Rattle.star_ops.proofs.in_place.extend.Goals as goal
 

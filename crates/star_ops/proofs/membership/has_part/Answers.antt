@@ -1,4 +1,4 @@
-use Rattle.std.proofs.lemmas.Str.Pattern.{contains_text}
+use Rattle.star_steps.proofs.Names.{contains_text}
 use Rattle.star_ops.proofs.Parts.{tests_part}
 use Rattle.star_ops.proofs.membership.has_part.Goals as goal
 

@@ -1,4 +1,4 @@
-use Rattle.std.proofs.Common.{◌++◌, ap, sym, ◌∙◌}
+use Rattle.star_steps.proofs.Names.{◌++◌, ap, sym, ◌∙◌}
 use Rattle.star_ops.proofs.Copies.{copies_more}
 use Rattle.star_ops.proofs.products.many.Goals as goal
 

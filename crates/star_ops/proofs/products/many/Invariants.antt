@@ -1,5 +1,4 @@
-use Rattle.std.proofs.Common.{◌≡◌, string_bytes}
-use Rattle.operator_spec.specs.Operators.{copies}
+use Rattle.star_steps.proofs.Names.{◌≡◌, string_bytes, copies}
 use Rattle.star_ops.proofs.products.many.Given as goal
 
 abbrev pub invariant-loop : goal.invariant-loop

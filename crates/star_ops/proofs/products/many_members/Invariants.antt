@@ -1,8 +1,4 @@
-use Rattle.std.proofs.Common.{◌≡◌}
-use Rattle.operator_spec.specs.Operators.{copies}
-use Rattle.star_values.specs.Objects.{seen}
-use Rattle.star_values.specs.Owns.{OwnsAll}
-use Rattle.star_values.specs.View.{values_of}
+use Rattle.star_steps.proofs.Names.{◌≡◌, copies, seen, OwnsAll, values_of}
 use Rattle.star_ops.proofs.products.many_members.Given as goal
 
 abbrev pub invariant-loop : goal.invariant-loop

@@ -1,8 +1,5 @@
-use Rattle.operator_spec.specs.Operators.{repeat_row}
-use Rattle.star_values.specs.Objects.{seen}
-use Rattle.star_values.specs.View.{value_of}
+use Rattle.star_steps.proofs.Names.{repeat_row, seen, value_of, Gives, state_in}
 use Rattle.star_values.specs.declared.value.Value.TheVariants as value
-use Rattle.star_steps.specs.Meets.{Gives, state_in}
 use Rattle.star_ops.proofs.IntegerRows.{one_passed}
 use Rattle.star_ops.proofs.products.repeat.Goals as goal
 

@@ -1,8 +1,5 @@
-use Rattle.star_values.specs.Objects.{seen}
-use Rattle.star_values.specs.View.{value_of}
+use Rattle.star_steps.proofs.Names.{seen, value_of, state_in, gives_same}
 use Rattle.star_integers.specs.declared.operators.IntegerOp.TheVariants as integer
-use Rattle.star_steps.specs.Meets.{state_in}
-use Rattle.star_steps.proofs.Meeting.{gives_same}
 use Rattle.star_ops.proofs.IntegerRows.{row_of_ints}
 use Rattle.star_ops.proofs.rows.binary.Goals as goal
 

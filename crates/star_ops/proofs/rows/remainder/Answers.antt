@@ -1,6 +1,4 @@
-use Rattle.star_values.specs.View.{value_of}
-use Rattle.star_steps.specs.Meets.{state_in}
-use Rattle.star_steps.proofs.Meeting.{gives_same}
+use Rattle.star_steps.proofs.Names.{value_of, state_in, gives_same}
 use Rattle.star_ops.proofs.IntegerRows.{rest_of_int}
 use Rattle.star_ops.proofs.rows.remainder.Goals as goal
 

@@ -1,4 +1,4 @@
-use Rattle.star_values.specs.Objects.{seen}
+use Rattle.star_steps.proofs.Names.{seen}
 use Rattle.star_ops.proofs.rows.unary.Goals as goal
 
 pub returns-in-Minus-clause-row : goal.returns-in-Minus-clause-row

@@ -1,9 +1,13 @@
-use Rattle.std.proofs.Common.{◌≡◌, ◌+◌, ◌≤◌, drop}
-use Rattle.value_spec.specs.Store.{pairs_at}
-use Rattle.operator_spec.specs.Operators.{new_keys}
-use Rattle.star_values.specs.Objects.{seen}
+use Rattle.star_steps.proofs.Names.{◌≡◌, ◌+◌, ◌≤◌, length, pairs_at, new_keys, seen}
+use Rattle.star_fragments.specs.Fresh.{OwnsPairs, pairs_of}
 use Rattle.star_ops.proofs.unions.new_keys.Given as goal
 
-abbrev pub invariant-loop-at : goal.invariant-loop-at
-invariant-loop-at l =
-    (l.fresh + new_keys (pairs_at l.left.at (seen l.arena).store) (drop l.at (pairs_at l.right.at (seen l.arena).store)) ≡ new_keys (pairs_at l.left.at (seen l.arena).store) (pairs_at l.right.at (seen l.arena).store)) × (l.fresh ≤ l.at)
+abbrev pub invariant-loop-key : goal.invariant-loop-key
+invariant-loop-key l = record {
+  owns : OwnsPairs (seen l.arena) l.rest;
+  counted : l.fresh + new_keys (pairs_at l.left.at (seen l.arena).store) (pairs_of (seen l.arena) l.rest) ≡ new_keys (pairs_at l.left.at (seen l.arena).store) (pairs_at l.fn.right.at (seen l.arena).store);
+  few : l.fresh + length l.rest ≤ length l.initial.rest;
+}
+
+abbrev pub decreases-loop-key : goal.decreases-loop-key
+decreases-loop-key l = length l.rest
