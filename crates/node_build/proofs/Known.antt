@@ -1,13 +1,16 @@
 -- The keys of a collection, and the set that has them.
-use Rattle.std.proofs.Common.{◌≡◌, ℕ, zero, suc, Bool, false, ◌||◌, List, [], ◌∷◌, ◌++◌, slice_set, Option, Some, None, refl, sym, ◌∙◌}
+use Rattle.std.proofs.Common.{◌≡◌, ℕ, zero, suc, Bool, false, ◌||◌, List, [], ◌∷◌, ◌++◌, slice_set, Option, Some, None, refl, sym, ap, ◌∙◌}
 use Rattle.std.proofs.lemmas.Bool.{or_from, or_parts}
 use Rattle.ytt_base.specs.Trees.{Scalar}
 use Rattle.ytt_laws.proofs.Keys.{same_key-sym}
 use Rattle.yaml_keys.specs.declared.seen.Seen.{Seen}
 use Rattle.yaml_keys.specs.Seen.{is_seen}
 use Rattle.template_meaning.specs.Adding.{keys_equal}
-use Rattle.node_build.specs.declared.built.BuiltItem.{BuiltItem}
-use Rattle.node_build.specs.Positions.{AreKnown, here_or, in_scalar_key, is_known, position_of, stands}
+use Rattle.star_values.specs.declared.value.BuiltItem.{BuiltItem}
+use Rattle.star_values.specs.View.{scalar_key}
+use Rattle.node_build.specs.Positions.{AreKnown, here_or, is_known, placed, position_of, stands}
+use Rattle.node_build.specs.declared.place.Spot.{Spot}
+use Rattle.node_build.specs.declared.place.Spot.TheVariants as spot
 
 -- ---- items of which none has a key
 
@@ -15,25 +18,25 @@ use Rattle.node_build.specs.Positions.{AreKnown, here_or, in_scalar_key, is_know
 stands_last : (x : Scalar) (is : List BuiltItem) (i : BuiltItem) → stands x (i ∷ is) ≡ false → stands x (is ++ i ∷ []) ≡ false
 stands_last x [] i h = h
 stands_last x (j ∷ is) i h =
-    let p = or_parts (keys_equal (in_scalar_key i.key) (Some x)) (stands x (j ∷ is)) h in
-    let q = or_parts (keys_equal (in_scalar_key j.key) (Some x)) (stands x is) p.1 in
+    let p = or_parts (keys_equal (scalar_key i.key) (Some x)) (stands x (j ∷ is)) h in
+    let q = or_parts (keys_equal (scalar_key j.key) (Some x)) (stands x is) p.1 in
     or_from _ _ q.0 (stands_last x is i (or_from _ _ p.0 q.1))
 
 -- so is one in the place of another
 stands_set : (x : Scalar) (is : List BuiltItem) (n : ℕ) (i : BuiltItem) → stands x (i ∷ is) ≡ false → stands x (slice_set is n i) ≡ false
 stands_set x [] n i h = refl
 stands_set x (j ∷ is) zero i h =
-    let p = or_parts (keys_equal (in_scalar_key i.key) (Some x)) (stands x (j ∷ is)) h in
-    or_from _ _ p.0 (or_parts (keys_equal (in_scalar_key j.key) (Some x)) (stands x is) p.1).1
+    let p = or_parts (keys_equal (scalar_key i.key) (Some x)) (stands x (j ∷ is)) h in
+    or_from _ _ p.0 (or_parts (keys_equal (scalar_key j.key) (Some x)) (stands x is) p.1).1
 stands_set x (j ∷ is) (suc n) i h =
-    let p = or_parts (keys_equal (in_scalar_key i.key) (Some x)) (stands x (j ∷ is)) h in
-    let q = or_parts (keys_equal (in_scalar_key j.key) (Some x)) (stands x is) p.1 in
+    let p = or_parts (keys_equal (scalar_key i.key) (Some x)) (stands x (j ∷ is)) h in
+    let q = or_parts (keys_equal (scalar_key j.key) (Some x)) (stands x is) p.1 in
     or_from _ _ q.0 (stands_set x is n i (or_from _ _ p.0 q.1))
 
-pub known_last : (keys : Seen) (is : List BuiltItem) (i : BuiltItem) → AreKnown keys (i ∷ is) → AreKnown keys (is ++ i ∷ [])
+known_last : (keys : Seen) (is : List BuiltItem) (i : BuiltItem) → AreKnown keys (i ∷ is) → AreKnown keys (is ++ i ∷ [])
 known_last keys is i h x unseen = stands_last x is i (h x unseen)
 
-pub known_set : (keys : Seen) (is : List BuiltItem) (n : ℕ) (i : BuiltItem) → AreKnown keys (i ∷ is) → AreKnown keys (slice_set is n i)
+known_set : (keys : Seen) (is : List BuiltItem) (n : ℕ) (i : BuiltItem) → AreKnown keys (i ∷ is) → AreKnown keys (slice_set is n i)
 known_set keys is n i h x unseen = stands_set x is n i (h x unseen)
 
 equal_turned : (x : Scalar) (k : Option Scalar) → keys_equal k (Some x) ≡ keys_equal (Some x) k
@@ -41,11 +44,11 @@ equal_turned x None = refl
 equal_turned x (Some y) = same_key-sym y x
 
 -- the set with one more key has that of an item
-pub known_with : (before after : Seen) (is : List BuiltItem) (i : BuiltItem) → AreKnown before is →
-    ((x : Scalar) → is_seen x after ≡ (keys_equal (Some x) (in_scalar_key i.key) || is_seen x before)) → AreKnown after (i ∷ is)
+known_with : (before after : Seen) (is : List BuiltItem) (i : BuiltItem) → AreKnown before is →
+    ((x : Scalar) → is_seen x after ≡ (keys_equal (Some x) (scalar_key i.key) || is_seen x before)) → AreKnown after (i ∷ is)
 known_with before after is i h seen x unseen =
-    let p = or_parts (keys_equal (Some x) (in_scalar_key i.key)) (is_seen x before) (sym (seen x) ∙ unseen) in
-    or_from _ _ (equal_turned x (in_scalar_key i.key) ∙ p.0) (h x p.1)
+    let p = or_parts (keys_equal (Some x) (scalar_key i.key)) (is_seen x before) (sym (seen x) ∙ unseen) in
+    or_from _ _ (equal_turned x (scalar_key i.key) ∙ p.0) (h x p.1)
 
 -- ---- a new key
 
@@ -58,15 +61,33 @@ no_key_stands (Some y) = refl
 
 without_key : (is : List BuiltItem) → position_of None is ≡ None
 without_key [] = refl
-without_key (i ∷ is) = nowhere _ _ (no_key_stands (in_scalar_key i.key)) (without_key is)
+without_key (i ∷ is) = nowhere _ _ (no_key_stands (scalar_key i.key)) (without_key is)
 
 with_key : (x : Scalar) (is : List BuiltItem) → stands x is ≡ false → position_of (Some x) is ≡ None
 with_key x [] h = refl
 with_key x (i ∷ is) h =
-    let p = or_parts (keys_equal (in_scalar_key i.key) (Some x)) (stands x is) h in
+    let p = or_parts (keys_equal (scalar_key i.key) (Some x)) (stands x is) h in
     nowhere _ _ p.0 (with_key x is p.1)
 
 -- no item has a key that isn't in the set
 pub new_key : (keys : Seen) (is : List BuiltItem) (k : Option Scalar) → AreKnown keys is → is_known k keys ≡ false → position_of k is ≡ None
 new_key keys is None h new = without_key is
 new_key keys is (Some x) h new = with_key x is (h x new)
+
+-- ---- the items with one more
+
+pub known_placed : (keys : Seen) (is : List BuiltItem) (s : Spot) (i : BuiltItem) → AreKnown keys (i ∷ is) → AreKnown keys (placed s i is)
+known_placed keys is spot.Behind i h = known_last keys is i h
+known_placed keys is (spot.At n) i h = known_set keys is n i h
+
+-- the set with one more key knows what it knew
+pub known_still : (before after : Seen) (k : Option Scalar) → ((x : Scalar) → is_seen x after ≡ (keys_equal (Some x) k || is_seen x before)) → (is : List BuiltItem) → AreKnown before is → AreKnown after is
+known_still before after k seen is h x unseen = h x (or_parts (keys_equal (Some x) k) (is_seen x before) (sym (seen x) ∙ unseen)).1
+
+pub known_kept : (before after : Seen) → ((x : Scalar) → is_seen x after ≡ is_seen x before) → (is : List BuiltItem) → AreKnown before is → AreKnown after is
+known_kept before after kept is h x unseen = h x (sym (kept x) ∙ unseen)
+
+-- and the key of an item
+pub known_key : (before after : Seen) (is : List BuiltItem) (k : Option Scalar) → AreKnown before is → ((x : Scalar) → is_seen x after ≡ (keys_equal (Some x) k || is_seen x before))
+    → (i : BuiltItem) → scalar_key i.key ≡ k → AreKnown after (i ∷ is)
+known_key before after is k h seen i e = known_with before after is i h (λ x. seen x ∙ ap (λ k. keys_equal (Some x) k || is_seen x before) (sym e))

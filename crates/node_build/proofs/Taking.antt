@@ -1,65 +1,73 @@
 -- Values that are taken over as trees.
-use Rattle.std.proofs.Common.{◌≡◌, ◌<◌, ◌≤◌, ◌+◌, ℕ, zero, suc, List, [], ◌∷◌, ◌++◌, length, drop, get_or, Result, Ok, Err, refl, sym, ap, subst, ◌∙◌}
+use Rattle.std.proofs.Common.{◌≡◌, ◌+◌, ℕ, zero, suc, List, [], ◌∷◌, ◌++◌, drop, Result, Err, Some, refl, sym, ap, subst, ◌∙◌, rules, arith}
 use Rattle.ytt_base.specs.declared.fault.Place.{Place}
 use Rattle.ytt_base.specs.declared.fault.Stop.{Stop}
 use Rattle.ytt_base.specs.declared.fault.Stop.TheVariants as stop
+use Rattle.ytt_base.specs.declared.tree.Key.{Key}
 use Rattle.ytt_base.specs.declared.tree.Tree.{Tree as Built}
-use Rattle.ytt_base.specs.Trees.{Tree, Trees, no_trees, tree, list}
-use Rattle.ytt_base.specs.View.{tree_of, trees_of}
-use Rattle.std.proofs.Math.ListN.{drop_of_length-le}
-use Rattle.ytt_laws.proofs.InTurn.{and_trees, trees-last, trees-none}
-use Rattle.ytt_laws.proofs.Lists.{dropped}
-use Rattle.value_spec.specs.Outcomes.{Computation, Ending, State, done, bad, give, paid, then_do, ◌>>=◌}
-use Rattle.code_spec.specs.Program.{ItemKind}
-use Rattle.value_spec.specs.Values as plain
-use Rattle.value_spec.specs.Values.{Taken, one, taken, tuple_value, text_value, values_from, values_in}
-use Rattle.plain_ops.specs.declared.value.Value.{Value, fold_out-Value, map-Value, out-Value}
-use Rattle.plain_ops.specs.declared.value.Value.TheOpen.{Value-F}
-use Rattle.plain_ops.specs.Meets.{Meets}
-use Rattle.plain_ops.specs.View.{value_of, value_step, values_of}
-use Rattle.plain_ops.proofs.Tuples.{members_again}
-use Rattle.template_meaning.specs.Take.{levels_at, take_over, tree_of_value, trees_by}
-use Rattle.node_build.specs.Taking.{list_taken, member_taken, members_taken, text_taken}
-use Rattle.node_build.proofs.Meeting.{meets_same, meets_stop}
+use Rattle.ytt_base.specs.Trees.{Scalar, Tree, Trees, Pairs, no_trees, tree, no_pairs, pair, list, map}
+use Rattle.ytt_base.specs.View.{key_of, pairs_of, tree_of, trees_of}
+use Rattle.std.specs.Prelude.{slice_get}
+use Rattle.ytt_laws.proofs.InTurn.{and_pairs, and_trees, pairs-last, pairs-none, trees-last, trees-none}
+use Rattle.value_spec.specs.Outcomes.{Ending, State, done, bad, give, paid, then_do, ◌>>=◌}
+use Rattle.value_spec.specs.Values.{Value}
+use Rattle.star_steps.proofs.Meeting.{meets_same, meets_stop}
+use Rattle.star_steps.specs.Meets.{Meets}
+use Rattle.template_meaning.specs.Take.{tree_of_value}
+use Rattle.node_build.specs.Taking.{Gives, key_paid_for, list_taken, map_taken, member_taken, members_taken, pair_seen, pair_taken, pairs_taken}
 
--- ---- forms of values
+-- ---- computations that go on
 
-pub text_form : (n : ℕ) (p : Place) (v : plain.Value) (t : List ℕ) → v ≡ text_value t → tree_of_value {H = Unit {0}} n p v ≡ text_taken p t
-text_form n p v t e = ap (tree_of_value n p) e
+-- a value is what follows goes on from
+pub meets_then : {B C D : Type 0} (onto : C → D) (s t : State (Unit {0})) (o : Ending (Unit {0}) B) (b : B) (k : B → Gives D) (r : Result C Stop) → o ≡ done b t → Meets onto r s (k b t) → Meets onto r s (then_do o k)
+meets_then onto s t o b k r e h = subst (λ o. Meets onto r s (then_do o k)) (sym e) h
 
-tuple_levels : (n : ℕ) (p : Place) (vs : List plain.Value) → tree_of_value {H = Unit {0}} n p (tuple_value (values_from vs)) ≡ list_taken n p vs
-unfolding members_taken
-tuple_levels zero p vs = refl
-tuple_levels (suc n) p vs = ap (λ ws. trees_by (λ v. tree_of_value n p v) p ws >>= λ ts. give (list ts)) (members_again vs)
+-- a refusal is the same whatever would have been given
+pub meets_err : {A B C : Type 0} (view : A → B) (onto : C → B) (e : Stop) (s : State (Unit {0})) (o : Ending (Unit {0}) B) (r : Result C Stop) → Meets view (Err e) s o → r ≡ Err e → Meets onto r s o
+meets_err view onto (stop.Fault f) s o r m e = subst (λ r. Meets onto r s o) (sym e) m
+meets_err view onto stop.Memory s o r m e = subst (λ r. Meets onto r s o) (sym e) tt
 
-pub tuple_form : (n : ℕ) (p : Place) (v : plain.Value) (vs : List plain.Value) → v ≡ tuple_value (values_from vs) → tree_of_value {H = Unit {0}} n p v ≡ list_taken n p vs
-tuple_form n p v vs e = ap (tree_of_value n p) e ∙ tuple_levels n p vs
+-- a value, and what follows from it
+pub done_then : {A B : Type 0} (o : Ending (Unit {0}) A) (a : A) (s : State (Unit {0})) (k : A → Gives B) (x : Ending (Unit {0}) B) → o ≡ done a s → k a s ≡ x → then_do o k ≡ x
+done_then o a s k x e h = ap (λ o. then_do o k) e ∙ h
 
-pub next_level : (n k : ℕ) (p : Place) (vs : List plain.Value) → n ≡ suc k → list_taken n p vs ≡ (members_taken k p vs >>= λ ts. give (list ts))
-next_level n k p vs e = ap (λ m. list_taken m p vs) e
+-- ---- one level
 
-pub member_form : (n : ℕ) (p : Place) (v : plain.Value) → member_taken n p v ≡ paid p (tree_of_value n p v)
+pub next_list : (n k : ℕ) (p : Place) (vs : List Value) → n ≡ suc k → list_taken n p vs ≡ (members_taken k p vs >>= λ ts. give (list ts))
+next_list n k p vs e = ap (λ m. list_taken m p vs) e
+
+pub next_map : (n k : ℕ) (p : Place) (ms : List (Value × Value)) → n ≡ suc k → map_taken n p ms ≡ (pairs_taken k p ms >>= λ ps. give (map ps))
+next_map n k p ms e = ap (λ m. map_taken m p ms) e
+
+pub member_form : (n : ℕ) (p : Place) (v : Value) → member_taken n p v ≡ paid p (tree_of_value n p v)
 unfolding member_taken
 member_form n p v = refl
 
+pub pair_form : (n : ℕ) (p : Place) (m : Value × Value) → pair_taken n p m ≡ (key_paid_for p m.0 >>= λ x. tree_of_value n p m.1 >>= λ t. give (x, t))
+unfolding pair_taken
+pair_form n p m = refl
+
 -- ---- members in turn
 
-abbrev before_them : List Built → Trees → Computation (Unit {0}) Trees
+abbrev before_them : List Built → Trees → Gives Trees
 before_them front ts = give (and_trees (trees_of front) ts)
+
+abbrev before_pairs : List (Key × Built) → Pairs → Gives Pairs
+before_pairs front ps = give (and_pairs (pairs_of front) ps)
 
 module _ (n : ℕ) (p : Place) where
   -- what all members give, where those before these gave this and left this state
-  abbrev pub SoFar : Ending (Unit {0}) Trees → List Built → List plain.Value → State (Unit {0}) → Type 0
+  abbrev pub SoFar : Ending (Unit {0}) Trees → List Built → List Value → State (Unit {0}) → Type 0
   SoFar all front vs s = all ≡ then_do (members_taken n p vs s) (before_them front)
 
   no_members : (s : State (Unit {0})) → members_taken n p [] s ≡ done no_trees s
   unfolding members_taken
   no_members s = refl
 
-  abbrev and_more : List plain.Value → Tree → Computation (Unit {0}) Trees
+  abbrev and_more : List Value → Tree → Gives Trees
   and_more vs t = members_taken n p vs >>= λ ts. give (tree t ts)
 
-  first_member : (v : plain.Value) (vs : List plain.Value) (s : State (Unit {0})) → members_taken n p (v ∷ vs) s ≡ then_do (member_taken n p v s) (and_more vs)
+  first_member : (v : Value) (vs : List Value) (s : State (Unit {0})) → members_taken n p (v ∷ vs) s ≡ then_do (member_taken n p v s) (and_more vs)
   unfolding members_taken member_taken
   first_member v vs s = refl
 
@@ -71,59 +79,95 @@ module _ (n : ℕ) (p : Place) where
   regrouped front t (done ts s) = ap (λ all. done all s) (sym (trees-last front t ts))
   regrouped front t (bad f s) = refl
 
-  module _ (all : Ending (Unit {0}) Trees) (front : List Built) where
-    split : (v : plain.Value) (vs : List plain.Value) (s : State (Unit {0})) → SoFar all front (v ∷ vs) s → all ≡ then_do (then_do (member_taken n p v s) (and_more vs)) (before_them front)
-    split v vs s h = h ∙ ap (λ o. then_do o (before_them front)) (first_member v vs s)
+  module _ (all : Ending (Unit {0}) Trees) (front : List Built) (v : Value) (vs : List Value) (s : State (Unit {0})) (h : SoFar all front (v ∷ vs) s) where
+    split : all ≡ then_do (then_do (member_taken n p v s) (and_more vs)) (before_them front)
+    split = h ∙ ap (λ o. then_do o (before_them front)) (first_member v vs s)
 
     -- one more tree
-    members_next : (v : plain.Value) (vs : List plain.Value) (t : Built) (s u : State (Unit {0})) → member_taken n p v s ≡ done (tree_of t) u → SoFar all front (v ∷ vs) s → SoFar all (front ++ t ∷ []) vs u
-    members_next v vs t s u e h =
-        split v vs s h ∙ ap (λ o. then_do (then_do o (and_more vs)) (before_them front)) e ∙ regrouped front t (members_taken n p vs u)
+    pub members_next : (t : Built) (u : State (Unit {0})) → member_taken n p v s ≡ done (tree_of t) u → SoFar all (front ++ t ∷ []) vs u
+    members_next t u e = split ∙ ap (λ o. then_do (then_do o (and_more vs)) (before_them front)) e ∙ regrouped front t (members_taken n p vs u)
 
     -- one is refused
-    members_stop : (v : plain.Value) (vs : List plain.Value) (x : Stop) (s u : State (Unit {0})) (r : Result (List Built) Stop) → Meets tree_of (Err x) u (member_taken n p v s) → SoFar all front (v ∷ vs) s → r ≡ Err x → Meets trees_of r u all
-    members_stop v vs x s u r m h e =
-        meets_same trees_of r u _ all (split v vs s h)
+    pub members_stop : (x : Stop) (u : State (Unit {0})) (r : Result (List Built) Stop) → Meets tree_of (Err x) u (member_taken n p v s) → r ≡ Err x → Meets trees_of r u all
+    members_stop x u r m e =
+        meets_same trees_of r u _ all split
         (meets_stop trees_of trees_of x u (then_do (member_taken n p v s) (and_more vs)) (before_them front) r (meets_stop tree_of trees_of x u (member_taken n p v s) (and_more vs) (Err x) m refl) e)
 
-    -- all are turned
-    members_all : (s : State (Unit {0})) → SoFar all front [] s → all ≡ done (trees_of front) s
-    members_all s h = h ∙ ap (λ o. then_do o (before_them front)) (no_members s) ∙ ap (λ ts. done ts s) (trees-none front)
+  -- all are turned
+  pub members_all : (all : Ending (Unit {0}) Trees) (front : List Built) (s : State (Unit {0})) → SoFar all front [] s → all ≡ done (trees_of front) s
+  members_all all front s h = h ∙ ap (λ o. then_do o (before_them front)) (no_members s) ∙ ap (λ ts. done ts s) (trees-none front)
 
-module _ (n : ℕ) (p : Place) (members : List Value) (j : ℕ) (all : Ending (Unit {0}) Trees) (front : List Built) (s : State (Unit {0})) where
-  module _ (m : Value) (lt : j < length members) (is : m ≡ get_or members j m) (h : SoFar n p all front (values_of (drop j members)) s) where
-    first : SoFar n p all front (value_of m ∷ values_of (drop (j + 1) members)) s
-    first = h ∙ ap (λ ms. then_do (members_taken n p (values_of ms) s) (before_them front)) (dropped members j m lt is)
+  -- ---- pairs in turn
 
-    pub trees_next : (t : Built) (u : State (Unit {0})) → member_taken n p (value_of m) s ≡ done (tree_of t) u → SoFar n p all (front ++ t ∷ []) (values_of (drop (j + 1) members)) u
-    trees_next t u e = members_next n p all front (value_of m) (values_of (drop (j + 1) members)) t s u e first
+  abbrev pub PairsSoFar : Ending (Unit {0}) Pairs → List (Key × Built) → List (Value × Value) → State (Unit {0}) → Type 0
+  PairsSoFar all front ms s = all ≡ then_do (pairs_taken n p ms s) (before_pairs front)
 
-    pub trees_stop : (x : Stop) (u : State (Unit {0})) (r : Result (List Built) Stop) → Meets tree_of (Err x) u (member_taken n p (value_of m) s) → r ≡ Err x → Meets trees_of r u all
-    trees_stop x u r d e = members_stop n p all front (value_of m) (values_of (drop (j + 1) members)) x s u r d first e
+  no_pairs_left : (s : State (Unit {0})) → pairs_taken n p [] s ≡ done no_pairs s
+  unfolding pairs_taken
+  no_pairs_left s = refl
 
-  pub trees_done : length members ≤ j → SoFar n p all front (values_of (drop j members)) s → all ≡ done (trees_of front) s
-  trees_done past h = members_all n p all front s (h ∙ ap (λ ms. then_do (members_taken n p (values_of ms) s) (before_them front)) (drop_of_length-le members past))
+  abbrev and_pairs_more : List (Value × Value) → Scalar × Tree → Gives Pairs
+  and_pairs_more ms e = pairs_taken n p ms >>= λ ps. give (pair e.0 e.1 ps)
 
--- ---- in a node
+  tree_between : (x : Scalar) (o : Ending (Unit {0}) Tree) (ms : List (Value × Value)) → then_do o (λ t. and_pairs_more ms (x, t)) ≡ then_do (then_do o (λ t. give (x, t))) (and_pairs_more ms)
+  tree_between x (done t s) ms = refl
+  tree_between x (bad f s) ms = refl
 
-abbrev shape : Value-F Value → plain.Value
-shape x = value_step (map-Value Value plain.Value value_of x)
+  key_between : (o : Ending (Unit {0}) Scalar) (convert : Gives Tree) (ms : List (Value × Value)) → then_do o (λ x. convert >>= λ t. and_pairs_more ms (x, t)) ≡ then_do (then_do o (λ x. convert >>= λ t. give (x, t))) (and_pairs_more ms)
+  key_between (done x s) convert ms = tree_between x (convert s) ms
+  key_between (bad f s) convert ms = refl
 
-abbrev IsTakenOver : Place → ItemKind → ℕ → plain.Value → Type 0
-IsTakenOver p k n v = take_over {H = Unit {0}} p k n v ≡ (tree_of_value (levels_at n) p v >>= λ t. give (taken (one t)))
+  first_pair : (m : Value × Value) (ms : List (Value × Value)) (s : State (Unit {0})) → pairs_taken n p (m ∷ ms) s ≡ then_do (pair_taken n p m s) (and_pairs_more ms)
+  unfolding pairs_taken pair_taken
+  first_pair m ms s = key_between (key_paid_for p m.0 s) (tree_of_value n p m.1) ms
 
-level_taken : (p : Place) (k : ItemKind) (n : ℕ) (x : Value-F Value) → IsTakenOver p k n (shape x)
-level_taken p k n Value-F.None = refl
-level_taken p k n (Value-F.Bool b) = refl
-level_taken p k n (Value-F.Int z) = refl
-level_taken p k n (Value-F.Text t) = refl
-level_taken p k n (Value-F.Tuple vs) = refl
+  pub pairs_start : (r : Ending (Unit {0}) Pairs) → r ≡ then_do r (before_pairs [])
+  pairs_start (done ts s) = refl
+  pairs_start (bad f s) = refl
 
--- these values are taken over as their trees
-pub taken_over : (p : Place) (k : ItemKind) (n : ℕ) (v : Value) → take_over {H = Unit {0}} p k n (value_of v) ≡ (tree_of_value (levels_at n) p (value_of v) >>= λ t. give (taken (one t)))
-taken_over p k n v = subst (IsTakenOver p k n) (sym (fold_out-Value plain.Value value_step v)) (level_taken p k n (out-Value v))
+  pairs_regrouped : (front : List (Key × Built)) (e : Key × Built) (r : Ending (Unit {0}) Pairs) → then_do (then_do r (λ ps. give (pair (key_of e.0) (tree_of e.1) ps))) (before_pairs front) ≡ then_do r (before_pairs (front ++ e ∷ []))
+  pairs_regrouped front e (done ps s) = ap (λ all. done all s) (sym (pairs-last front e ps))
+  pairs_regrouped front e (bad f s) = refl
 
-pub taken_as_one : (r : Result Built Stop) (s u : State (Unit {0})) (p : Place) (k : ItemKind) (n : ℕ) (v : Value) → Meets tree_of r u (tree_of_value (levels_at n) p (value_of v) s) → Meets (λ t. taken (one (tree_of t))) r u (take_over p k n (value_of v) s)
-taken_as_one (Ok t) s u p k n v m = ap (λ (f : Computation (Unit {0}) Taken). f s) (taken_over p k n v) ∙ ap (λ o. then_do o (λ t. give (taken (one t)))) m
-taken_as_one (Err (stop.Fault f)) s u p k n v m = ap (λ (f : Computation (Unit {0}) Taken). f s) (taken_over p k n v) ∙ ap (λ o. then_do o (λ t. give (taken (one t)))) m
-taken_as_one (Err stop.Memory) s u p k n v m = tt
+  module _ (all : Ending (Unit {0}) Pairs) (front : List (Key × Built)) (m : Value × Value) (ms : List (Value × Value)) (s : State (Unit {0})) (h : PairsSoFar all front (m ∷ ms) s) where
+    pairs_split : all ≡ then_do (then_do (pair_taken n p m s) (and_pairs_more ms)) (before_pairs front)
+    pairs_split = h ∙ ap (λ o. then_do o (before_pairs front)) (first_pair m ms s)
+
+    pub pairs_next : (e : Key × Built) (u : State (Unit {0})) → pair_taken n p m s ≡ done (pair_seen e) u → PairsSoFar all (front ++ e ∷ []) ms u
+    pairs_next e u d = pairs_split ∙ ap (λ o. then_do (then_do o (and_pairs_more ms)) (before_pairs front)) d ∙ pairs_regrouped front e (pairs_taken n p ms u)
+
+    pub pairs_stop : (x : Stop) (u : State (Unit {0})) (r : Result (List (Key × Built)) Stop) → Meets pair_seen (Err x) u (pair_taken n p m s) → r ≡ Err x → Meets pairs_of r u all
+    pairs_stop x u r d e =
+        meets_same pairs_of r u _ all pairs_split
+        (meets_stop pairs_of pairs_of x u (then_do (pair_taken n p m s) (and_pairs_more ms)) (before_pairs front) r (meets_stop pair_seen pairs_of x u (pair_taken n p m s) (and_pairs_more ms) (Err x) d refl) e)
+
+  pub pairs_done : (all : Ending (Unit {0}) Pairs) (front : List (Key × Built)) (s : State (Unit {0})) → PairsSoFar all front [] s → all ≡ done (pairs_of front) s
+  pairs_done all front s h = h ∙ ap (λ o. then_do o (before_pairs front)) (no_pairs_left s) ∙ ap (λ ps. done ps s) (pairs-none front)
+
+-- ---- those that are left of members
+
+pub drop_get : {X : Type 0} (xs : List X) (i : ℕ) (x : X) → slice_get xs i ≡ Some x → drop i xs ≡ x ∷ drop (i + 1) xs
+drop_get [] i x e = absurd (search (rules, e))
+drop_get (y ∷ ys) zero x e = let same : y ≡ x = search (rules, e) in ap (λ z. z ∷ ys) same
+drop_get (y ∷ ys) (suc i) x e =
+    let next : suc (i + 1) ≡ suc i + 1 = omega arith in
+    drop_get ys i x e ∙ ap (λ j. x ∷ drop j (y ∷ ys)) next
+
+module _ (n : ℕ) (p : Place) where
+  pub left_members : (all : Ending (Unit {0}) Trees) (front : List Built) (vs ws : List Value) (s : State (Unit {0})) → vs ≡ ws → SoFar n p all front vs s → SoFar n p all front ws s
+  left_members all front vs ws s e h = subst (λ vs. SoFar n p all front vs s) e h
+
+  pub left_pairs : (all : Ending (Unit {0}) Pairs) (front : List (Key × Built)) (ms ns : List (Value × Value)) (s : State (Unit {0})) → ms ≡ ns → PairsSoFar n p all front ms s → PairsSoFar n p all front ns s
+  left_pairs all front ms ns s e h = subst (λ ms. PairsSoFar n p all front ms s) e h
+
+  -- the key and the tree of a pair
+  pub pair_done : (m : Value × Value) (e : Key × Built) (s t u : State (Unit {0})) → key_paid_for p m.0 s ≡ done (key_of e.0) t → tree_of_value n p m.1 t ≡ done (tree_of e.1) u → pair_taken n p m s ≡ done (pair_seen e) u
+  pair_done m e s t u k h = ap (λ (m : Gives (Scalar × Tree)). m s) (pair_form n p m) ∙ done_then _ _ _ _ _ k (done_then _ _ _ _ _ h refl)
+
+  pub pair_key_stop : {K : Type 0} (view : K → Scalar) (m : Value × Value) (x : Stop) (s u : State (Unit {0})) (r : Result (Key × Built) Stop) → Meets view (Err x) u (key_paid_for p m.0 s) → r ≡ Err x → Meets pair_seen r u (pair_taken n p m s)
+  pair_key_stop view m x s u r d e = meets_same pair_seen r u _ _ (ap (λ (m : Gives (Scalar × Tree)). m s) (pair_form n p m)) (meets_stop view pair_seen x u _ _ r d e)
+
+  pub pair_tree_stop : (m : Value × Value) (k : Scalar) (x : Stop) (s t u : State (Unit {0})) (r : Result (Key × Built) Stop) → key_paid_for p m.0 s ≡ done k t → Meets tree_of (Err x) u (tree_of_value n p m.1 t) → r ≡ Err x → Meets pair_seen r u (pair_taken n p m s)
+  pair_tree_stop m k x s t u r h d e =
+      meets_same pair_seen r u _ _ (ap (λ (m : Gives (Scalar × Tree)). m s) (pair_form n p m))
+      (meets_then pair_seen u t _ k _ r h (meets_stop tree_of pair_seen x u _ _ r d e))

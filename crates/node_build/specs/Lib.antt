@@ -1,3 +1,4 @@
+pub mod Ends
 pub mod Parts
 pub mod Positions
 pub mod Taking

@@ -1,74 +1,229 @@
 // The nodes that are open while a program runs.
+ghost use Rattle.std.specs.Prelude.{◌≡◌, ◌≤◌, ◌+◌, ◌∷◌, [], IfOk, OnErr, length};
+ghost use Rattle.ytt_base.specs.declared.fault.Stop.TheVariants as stop;
+ghost use Rattle.ytt_base.specs.declared.fault.FaultKind.TheVariants as fault_kind;
+ghost use Rattle.ytt_base.specs.Outcomes.{fault_of};
+ghost use Rattle.ytt_base.specs.View.{key_of, trees_of};
+ghost use Rattle.star_spec.specs.Flow.{on};
+ghost use Rattle.star_tree.specs.View.{holds_of, item_kind_of};
+ghost use Rattle.star_values.specs.Objects.{seen};
+ghost use Rattle.star_values.specs.Owns.{Each, Owns, OwnsAll, OwnsBuilt, note_values};
+ghost use Rattle.star_values.specs.View.{View, arguments_in, built_in, value_of};
+ghost use Rattle.template_meaning.specs.Calls.{bottom, bottom_children};
+ghost use Rattle.template_meaning.specs.Meaning.{documents};
+ghost use Rattle.node_build.specs.Parts.{Changes, Does, Spends, Tells, IsOnTopAt, cut_to, ending, finished, has_two, keying, noting, starting, taking, valuing};
 
-use crate::node::Stack;
-use crate::stack::{at_start, documents_in, fill, step};
-use plain_ops::Value;
-use star_tree::code::NodeOp;
+use crate::documents::documents_of;
+use crate::end::ended;
+use crate::fill::{scalar_tree, taken_over};
+use crate::list::push;
+use crate::node::{Filled, OpenNode};
+use object_arena::{Arena, Built, BuiltNote, BuiltValue, Value, Work};
+use star_tree::{Holds, ItemKind};
 use std::alloc::Global;
-use ytt_base::fault::Stop;
-use ytt_base::text::Memory;
-use ytt_base::tree::Trees;
+use std::mem;
+use ytt_base::fault::{Fault, FaultKind, Place, Stop};
+use ytt_base::text::{Memory, Text};
+use ytt_base::tree::{Key, Trees};
 
-/// Open nodes, the innermost one last. After an error it may only be dropped.
+/// The refusal of what is in no proper form, of no place.
+fn ill_formed(alloc: Global) -> Stop
+    ensures { result ≡ stop.Fault (fault_of fault_kind.CodeForm) }
+{
+    Stop::Fault(Fault {
+        kind: FaultKind::CodeForm,
+        place: None,
+        detail: Text::new(alloc),
+    })
+}
+
+/// Open nodes: the innermost one, and those below it, the outermost one first, around which so many collections stand.
 #[derive(Drop)]
 pub struct Builder {
-    nodes: Stack,
+    alloc: Global,
+    around: u32,
+    top: OpenNode,
+    below: Vec<OpenNode>,
 }
 
 impl Builder {
-    ghost use Rattle.std.specs.Prelude.{◌≡◌, ◌≤◌, ◌∷◌, [], ℕ, IfOk};
-    ghost use Rattle.ytt_base.specs.View.{trees_of};
-    ghost use Rattle.plain_ops.specs.Meets.{Spends};
-    ghost use Rattle.plain_ops.specs.View.{value_of};
-    ghost use Rattle.node_build.specs.Parts.{taking, written_part};
-    ghost use Rattle.node_build.specs.View.{has_two, nodes_of};
-    ghost use Rattle.star_spec.specs.Flow.{on};
-    ghost use Rattle.star_tree.specs.Whole.{part_of};
-    ghost use Rattle.template_meaning.specs.Calls.{bottom, bottom_children};
-    ghost use Rattle.template_meaning.specs.Meaning.{documents};
+    ghost use Rattle.node_build.specs.View.{OwnsNode, OwnsNodes, Takes, nodes_from, nodes_of};
 
-    /// The place under all nodes, alone.
-    pub fn new(alloc: Global) -> Result<Builder, Memory>
-        ensures { IfOk result (λ b. nodes_of b ≡ bottom 0 ∷ []) }
+    /// The place under all nodes, alone. It takes no memory.
+    pub fn new(alloc: Global) -> Builder
+        ensures meaning { (a : View) → nodes_of a result ≡ bottom 0 ∷ [] }
+        ensures owned { (a : View) → OwnsNodes a result }
     {
-        Ok(Builder {
-            nodes: at_start(alloc)?,
-        })
+        Builder::within(alloc, 0)
     }
 
-    /// One part of a node: a start, which takes a step at its place, a key, a written value or an end.
-    ///
-    /// A start without a step left is `Steps`, and an end whose key stands already in the map is `KeyTwice` with the
-    /// key, unless its notes override. A note and a value from code are no such parts, and are `CodeForm` at no place,
-    /// as is a part where no node is open, or an end of the outermost one.
-    pub fn part(&mut self, alloc: Global, op: &NodeOp, steps: &mut u64) -> Result<(), Stop>
-        ensures meaning { (file : ℕ) → Spends (λ u. on (nodes_of self.new)) result steps.new steps.old (written_part (part_of file op.now) (nodes_of self.old)) }
-        ensures spent { steps.new ≤ steps.old }
+    /// The same, where so many collections stand around what is built.
+    pub fn within(alloc: Global, around: u32) -> Builder
+        ensures meaning { (a : View) → nodes_of a result ≡ bottom around ∷ [] }
+        ensures owned { (a : View) → OwnsNodes a result }
     {
-        step(alloc, &mut self.nodes, op, steps)
+        let start = Place { file: 1, line: 1 };
+        Builder {
+            alloc,
+            around,
+            top: OpenNode::new(alloc, start, ItemKind::Document, Holds::List),
+            below: Vec::new(alloc),
+        }
     }
 
-    /// A value of code, taken over into the innermost node as a tree, each refusal at the node's place: `Steps`, and
-    /// `TooDeep` where more than 100 collections would stand in one another. Where no node is open but the outermost
-    /// one, it is `CodeForm` at no place.
-    pub fn value(&mut self, alloc: Global, value: &Value, steps: &mut u64) -> Result<(), Stop>
-        ensures meaning { Spends (λ u. on (nodes_of self.new)) result steps.new steps.old (taking (value_of value.now) (nodes_of self.old)) }
-        ensures spent { steps.new ≤ steps.old }
+    /// Opens a node. Its caller takes the step.
+    pub fn start(&mut self, kind: ItemKind, holds: Holds, at: Place) -> Result<(), Memory>
+        ensures meaning { (a : View) → Changes (starting at (item_kind_of kind) (holds_of holds)) result (nodes_of a self.old) (nodes_of a self.new) }
+        ensures owned { (a : View) → OwnsNodes a self.old → OwnsNodes a self.new }
     {
-        fill(alloc, &mut self.nodes, value, steps)
+        let node = OpenNode::new(self.alloc, at, kind, holds);
+        let under = mem::replace(&mut self.top, node);
+        match self.below.push(under) {
+            Ok(()) => Ok(()),
+            Err(failed) => {
+                self.top = failed.value;
+                Err(Memory)
+            }
+        }
+    }
+
+    /// Gives the node on top this key.
+    pub fn key(&mut self, key: Key)
+        ensures meaning { (a : View) → Does (keying (key_of key)) (nodes_of a self.old) (nodes_of a self.new) }
+        ensures owned { (a : View) → OwnsNodes a self.old → OwnsNodes a self.new }
+    {
+        self.top.key = Some(key);
+    }
+
+    /// Gives the node on top this written value.
+    pub fn scalar(&mut self, value: &Key) -> Result<(), Memory>
+        ensures meaning { (a : View) → Changes (valuing (key_of value.now)) result (nodes_of a self.old) (nodes_of a self.new) }
+        ensures owned { (a : View) → OwnsNodes a self.old → OwnsNodes a self.new }
+    {
+        self.top.value = Filled::One(BuiltValue::One(scalar_tree(value)?));
+        Ok(())
+    }
+
+    /// Puts a note behind those of the node on top.
+    pub fn note(&mut self, note: BuiltNote) -> Result<(), Memory>
+        ensures meaning { (a : View) → Changes (noting note.name (arguments_in a.held note.args)) result (nodes_of a self.old) (nodes_of a self.new) }
+        ensures owned { (a : View) → OwnsAll a (note_values (note ∷ [])) → OwnsNodes a self.old → OwnsNodes a self.new }
+    {
+        push(&mut self.top.notes, note)?;
+        Ok(())
+    }
+
+    /// Takes a value of code over into the node on top, each refusal at the node's place: what has no tree is `NotYaml`, and what
+    /// would stand deeper than 100 collections `TooDeep`. Where no node is open but the outermost one, it is `CodeForm`.
+    pub fn value(&mut self, arena: &Arena, work: &mut Work, value: Value) -> Result<(), Stop>
+        requires { Owns (seen arena.now) value }
+        ensures meaning { Takes (seen arena.now) value self.old self.new result work.old.steps work.new.steps }
+        ensures err { OnErr result (self.new ≡ self.old) }
+        ensures owned { OwnsNodes (seen arena.now) self.old → OwnsNodes (seen arena.now) self.new }
+        ensures depth { work.new.depth ≡ work.old.depth }
+    {
+        match self.below.len().checked_sub(1) {
+            None => Err(ill_formed(self.alloc)),
+            Some(last) => {
+                let around = self.around as usize + last;
+                let (place, kind) = (self.top.place, self.top.kind);
+                self.top.value = taken_over(arena, place, kind, around, value, &mut work.steps)?;
+                Ok(())
+            }
+        }
+    }
+
+    /// Closes the node on top, which is added to the children of the one below. A key that stands there already is `KeyTwice`
+    /// with the key, unless the notes override. What `template.replace` gave is added one by one.
+    pub fn end(&mut self) -> Result<(), Stop>
+        ensures meaning { (a : View) → Tells (λ u. on (nodes_of a self.new)) result (ending (nodes_of a self.old)) }
+        ensures err { (a : View) → OnErr result (nodes_of a self.new ≡ nodes_of a self.old) }
+        ensures owned { (a : View) → OwnsNodes a self.old → OwnsNodes a self.new }
+    {
+        match self.below.len().checked_sub(1) {
+            None => Err(ill_formed(self.alloc)),
+            Some(last) => {
+                ended(self.alloc, &mut self.below[last], &mut self.top)?;
+                self.drop_top();
+                Ok(())
+            }
+        }
+    }
+
+    /// Drops the node on top, over which one is open.
+    fn drop_top(&mut self)
+        requires { 1 ≤ length self.old.below.items }
+        ensures meaning { (a : View) → nodes_of a self.new ≡ nodes_from a.held self.old.around self.old.below.items [] }
+        ensures owned { (a : View) → Each (OwnsNode a) self.old.below.items → OwnsNodes a self.new }
+    {
+        match self.below.pop() {
+            Some(node) => self.top = node,
+            None => unreachable!(),
+        }
+    }
+
+    /// How many nodes are open above the outermost one.
+    pub fn height(&self) -> u64
+        ensures { (a : View) → result + 1 ≡ length (nodes_of a self.now) }
+    {
+        self.below.len() as u64
+    }
+
+    /// Drops the nodes above so many.
+    pub fn cut_back(&mut self, height: u64)
+        ensures meaning { (a : View) → nodes_of a self.new ≡ cut_to height (nodes_of a self.old) }
+        ensures owned { (a : View) → OwnsNodes a self.old → OwnsNodes a self.new }
+    {
+        if height < self.below.len() as u64 {
+            self.below.truncate(height as usize + 1);
+            self.drop_top();
+        }
     }
 
     /// Whether a node is open that isn't the outermost one.
     pub fn holds_two(&self) -> bool
-        ensures { result ≡ has_two (nodes_of self.now) }
+        ensures { (a : View) → result ≡ has_two (nodes_of a self.now) }
     {
-        self.nodes.len() >= 2
+        !self.below.is_empty()
     }
 
-    /// The trees of what stands in the innermost node, without the null ones.
-    pub fn documents(self, alloc: Global) -> Result<Trees, Memory>
-        ensures { IfOk result (λ ts. trees_of ts ≡ documents (bottom_children (nodes_of self))) }
+    /// Where the node on top stands.
+    pub fn place(&self) -> Place
+        ensures { (a : View) → IsOnTopAt result (nodes_of a self.now) }
     {
-        documents_in(alloc, self.nodes)
+        self.top.place
+    }
+
+    /// The finished children of the outermost node. No node is open then but a new outermost one.
+    pub fn take(&mut self) -> Built
+        ensures children { (a : View) → built_in a.held result ≡ finished (nodes_of a self.old) }
+        ensures owned { (a : View) → OwnsNodes a self.old → OwnsBuilt a result }
+        ensures empty { (a : View) → nodes_of a self.new ≡ bottom 0 ∷ [] }
+        ensures fresh { (a : View) → OwnsNodes a self.new }
+    {
+        let alloc = self.alloc;
+        mem::replace(self, Builder::new(alloc))
+            .outermost()
+            .into_items()
+    }
+
+    /// The outermost node.
+    fn outermost(self) -> OpenNode
+        ensures children { (a : View) → built_in a.held result.children.items.items ≡ finished (nodes_of a self) }
+        ensures owned { (a : View) → OwnsNodes a self → OwnsNode a result }
+    {
+        let mut below = self.below;
+        if below.is_empty() {
+            self.top
+        } else {
+            below.swap_remove(0)
+        }
+    }
+
+    /// The trees of what stands in the node on top, without the null ones.
+    pub fn documents(&self, alloc: Global) -> Result<Trees, Memory>
+        ensures { (a : View) → IfOk result (λ ts. trees_of ts ≡ documents (bottom_children (nodes_of a self.now))) }
+    {
+        documents_of(alloc, self.top.children.items.as_slice())
     }
 }

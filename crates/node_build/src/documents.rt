@@ -1,13 +1,14 @@
 // The trees of what was built.
-ghost use Rattle.std.specs.Prelude.{◌≡◌, ◌∷◌, ◌++◌, [], IfOk, OnOk, if◌then◌else◌};
+ghost use Rattle.std.specs.Prelude.{◌≡◌, ◌∷◌, ◌++◌, [], List, IfOk, OnOk, if◌then◌else◌};
 ghost use Rattle.ytt_base.specs.Trees.{is_null};
 ghost use Rattle.ytt_base.specs.View.{pairs_of, tree_of, trees_of};
-ghost use Rattle.node_build.specs.View.{body_of, children_of};
+ghost use Rattle.star_values.specs.View.{body_in, built_in};
 ghost use Rattle.template_meaning.specs.Meaning.{documents};
 ghost use Rattle.value_spec.specs.Built.{body_tree, children_pairs, children_trees};
+ghost use Rattle.value_spec.specs.Values as plain;
 
-use crate::built::{Built, BuiltValue};
 use crate::list::push;
+use object_arena::{BuiltItem, BuiltValue};
 use sqlite_items::Items;
 use std::alloc::Global;
 use ytt_base::text::Memory;
@@ -16,34 +17,35 @@ use ytt_base::tree::{Pairs, Tree, Trees};
 /// The tree of what an item holds.
 #[cycle(trees)]
 fn tree_of_value(alloc: Global, value: &BuiltValue) -> Result<Tree, Memory>
-    ensures { IfOk result (λ t. tree_of t ≡ body_tree (body_of value.now)) }
+    ensures { (held : List plain.Value) → IfOk result (λ t. tree_of t ≡ body_tree (body_in held value.now)) }
 {
     match value {
         BuiltValue::One(tree) => tree.copy(alloc),
-        BuiltValue::Map(items) => Ok(Tree::Map(pairs_of_items(alloc, items)?)),
-        BuiltValue::List(items) => Ok(Tree::List(trees_of_items(alloc, items)?)),
+        BuiltValue::Map(items) => Ok(Tree::Map(pairs_of_items(alloc, items.as_slice())?)),
+        BuiltValue::List(items) => Ok(Tree::List(trees_of_items(alloc, items.as_slice())?)),
     }
 }
 
+/// The trees of items.
 #[cycle(trees)]
-fn trees_of_items(alloc: Global, items: &Built) -> Result<Trees, Memory>
-    ensures { IfOk result (λ ts. trees_of ts ≡ children_trees (children_of items.now)) }
+pub(crate) fn trees_of_items(alloc: Global, items: &[BuiltItem]) -> Result<Trees, Memory>
+    ensures { (held : List plain.Value) → IfOk result (λ ts. trees_of ts ≡ children_trees (built_in held items.now)) }
 {
     let mut trees = Items::new(alloc);
-    for item in items.as_slice() {
+    for item in items {
         let tree = tree_of_value(alloc, &item.value)?;
         push(&mut trees, tree)?;
     }
     Ok(trees)
 }
 
-/// The pairs of a map. An item without a key is no pair. No key stands twice, as `add_item` sees to it.
+/// The pairs of a map. An item without a key is no pair. No key stands twice, as `spot_for` sees to it.
 #[cycle(trees)]
-fn pairs_of_items(alloc: Global, items: &Built) -> Result<Pairs, Memory>
-    ensures { IfOk result (λ ps. pairs_of ps ≡ children_pairs (children_of items.now)) }
+pub(crate) fn pairs_of_items(alloc: Global, items: &[BuiltItem]) -> Result<Pairs, Memory>
+    ensures { (held : List plain.Value) → IfOk result (λ ps. pairs_of ps ≡ children_pairs (built_in held items.now)) }
 {
     let mut pairs = Items::new(alloc);
-    for item in items.as_slice() {
+    for item in items {
         match &item.key {
             None => {}
             Some(key) => {
@@ -79,11 +81,11 @@ fn put_document(trees: &mut Trees, tree: Tree) -> Result<(), Memory>
 }
 
 /// The trees of documents, without the null ones.
-pub(crate) fn documents_of(alloc: Global, items: &Built) -> Result<Trees, Memory>
-    ensures { IfOk result (λ ts. trees_of ts ≡ documents (children_of items.now)) }
+pub(crate) fn documents_of(alloc: Global, items: &[BuiltItem]) -> Result<Trees, Memory>
+    ensures { (held : List plain.Value) → IfOk result (λ ts. trees_of ts ≡ documents (built_in held items.now)) }
 {
     let mut trees = Items::new(alloc);
-    for item in items.as_slice() {
+    for item in items {
         let tree = tree_of_value(alloc, &item.value)?;
         put_document(&mut trees, tree)?;
     }

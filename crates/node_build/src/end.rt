@@ -1,32 +1,56 @@
 // Nodes that end.
-ghost use Rattle.std.specs.Prelude.{◌≡◌, ◌+◌, ◌∷◌, [], ℕ, List};
-ghost use Rattle.ytt_base.specs.declared.fault.Place.{Place};
-ghost use Rattle.ytt_base.specs.View.{tree_of};
-ghost use Rattle.plain_ops.specs.Meets.{Tells};
-ghost use Rattle.node_build.specs.Parts.{written_part};
-ghost use Rattle.node_build.specs.Positions.{in_scalar_key};
-ghost use Rattle.node_build.specs.View.{body_of, built_notes_of, child_of, children_of, node_at};
-ghost use Rattle.star_spec.specs.Flow.{on};
-ghost use Rattle.code_spec.specs.Program.{node_end};
-ghost use Rattle.value_spec.specs.Values.{Children, one, taken};
+ghost use Rattle.std.specs.Prelude.{◌≡◌, List, OnErr, false};
 ghost use Rattle.star_tree.specs.View.{holds_of};
-ghost use Rattle.template_meaning.specs.Adding.{add_child, add_taken};
-ghost use Rattle.template_meaning.specs.Run.{Node, closed_with};
+ghost use Rattle.star_fragments.specs.Fresh.{OwnsBody};
+ghost use Rattle.star_values.specs.Owns.{OwnsBuilt, OwnsItem};
+ghost use Rattle.star_values.specs.View.{View, body_in, built_in};
+ghost use Rattle.node_build.specs.Ends.{SameButChildren, added, closing, gives_many};
+ghost use Rattle.node_build.specs.Positions.{AreKnown, Leaves};
+ghost use Rattle.node_build.specs.View.{OwnsFilled, OwnsNode, filled_in};
+ghost use Rattle.template_meaning.specs.Run.{closed_with};
+ghost use Rattle.value_spec.specs.Values as plain;
+ghost use Rattle.value_spec.specs.Values.{taken};
 
-use crate::add::add_item;
-use crate::built::{Built, BuiltItem, BuiltValue};
-use crate::node::OpenNode;
+use crate::add::{add_many, spot_for};
+use crate::list::make_room;
+use crate::members::Members;
+use crate::node::{Filled, OpenNode};
+use crate::place::place;
+use object_arena::{Built, BuiltItem, BuiltValue};
+use sqlite_items::Items;
 use star_tree::Holds;
 use std::alloc::Global;
+use std::mem;
+use yaml_keys::Seen;
 use ytt_base::fault::Stop;
 use ytt_base::tree::Tree;
 
-/// What a node holds at its end.
-fn held(holds: Holds, value: Tree, children: Built) -> BuiltValue
-    ensures { closed_with (holds_of holds) (taken (one (tree_of value))) (children_of children) ≡ taken (body_of result) }
+/// Whether a node gives items in its place.
+fn gives_many(node: &OpenNode) -> bool
+    ensures { result ≡ gives_many node.now.holds node.now.value }
+{
+    match node.holds {
+        Holds::One => match &node.value {
+            Filled::One(_) => false,
+            Filled::Many(_) => true,
+        },
+        Holds::Map => false,
+        Holds::List => false,
+        Holds::Void => false,
+    }
+}
+
+/// What a node holds at its end that gives one item.
+fn body(holds: Holds, value: Filled, children: Built) -> BuiltValue
+    requires { gives_many holds value ≡ false }
+    ensures meaning { (held : List plain.Value) → closed_with (holds_of holds) (filled_in held value) (built_in held children) ≡ taken (body_in held result) }
+    ensures owned { (a : View) → OwnsFilled a value → OwnsBuilt a children → OwnsBody a result }
 {
     match holds {
-        Holds::One => BuiltValue::One(value),
+        Holds::One => match value {
+            Filled::One(body) => body,
+            Filled::Many(_) => unreachable!(),
+        },
         Holds::Map => BuiltValue::Map(children),
         Holds::List => BuiltValue::List(children),
         Holds::Void => BuiltValue::One(Tree::Null),
@@ -35,20 +59,80 @@ fn held(holds: Holds, value: Tree, children: Built) -> BuiltValue
 
 /// The item that a node is built into.
 fn closed(node: OpenNode) -> BuiltItem
-    ensures { (children : Children) → add_taken {H = Unit {0}} children node.place (built_notes_of node.notes) (in_scalar_key node.key) (closed_with (holds_of node.holds) (taken (one (tree_of node.value))) (children_of node.children.items)) ≡ add_child children (child_of result) }
+    requires { gives_many node.holds node.value ≡ false }
+    ensures place { result.place ≡ node.place }
+    ensures key { result.key ≡ node.key }
+    ensures notes { result.notes ≡ node.notes }
+    ensures body { (held : List plain.Value) → closing held node ≡ taken (body_in held result.value) }
+    ensures owned { (a : View) → OwnsNode a node → OwnsItem a result }
 {
     BuiltItem {
         place: node.place,
-        notes: node.notes,
         key: node.key,
-        value: held(node.holds, node.value, node.children.items),
+        notes: node.notes,
+        value: body(node.holds, node.value, Items::from_vec(node.children.items)),
     }
 }
 
-/// The node under one that ends, which is added to its items.
-pub(crate) fn ended(alloc: Global, node: OpenNode, mut under: OpenNode) -> Result<OpenNode, Stop>
-    ensures { (place : Place) (level : ℕ) (below : List Node) → Tells (λ u. on (node_at level u ∷ below)) result (written_part (node_end place) (node_at (level + 1) node ∷ node_at level under ∷ below)) }
+/// Adds a node to items as one, and leaves nothing in it.
+fn add_one(
+    alloc: Global,
+    items: &mut Vec<BuiltItem>,
+    keys: &mut Seen,
+    node: &mut OpenNode,
+) -> Result<(), Stop>
+    requires known { AreKnown keys.old items.old.items }
+    requires one { gives_many node.old.holds node.old.value ≡ false }
+    ensures known { AreKnown keys.new items.new.items }
+    ensures meaning { Leaves result items.new.items (λ held. added held (built_in held items.old.items) node.old) }
+    ensures err { OnErr result (items.new.items ≡ items.old.items) }
+    ensures kept { OnErr result (node.new ≡ node.old) }
+    ensures owned { (a : View) → OwnsNode a node.old → OwnsBuilt a items.old.items → OwnsBuilt a items.new.items }
 {
-    under.children = add_item(alloc, under.children, closed(node))?;
-    Ok(under)
+    let spot = spot_for(alloc, keys, items, node.place, &node.key, &node.notes)?;
+    make_room(items)?;
+    let empty = OpenNode::new(alloc, node.place, node.kind, node.holds);
+    let item = closed(mem::replace(node, empty));
+    place(items, spot, item);
+    Ok(())
+}
+
+/// Adds what a node gives to items.
+fn add(
+    alloc: Global,
+    items: &mut Vec<BuiltItem>,
+    keys: &mut Seen,
+    node: &mut OpenNode,
+) -> Result<(), Stop>
+    requires { AreKnown keys.old items.old.items }
+    ensures known { AreKnown keys.new items.new.items }
+    ensures meaning { Leaves result items.new.items (λ held. added held (built_in held items.old.items) node.old) }
+    ensures err { OnErr result (items.new.items ≡ items.old.items) }
+    ensures kept { OnErr result (node.new ≡ node.old) }
+    ensures owned { (a : View) → OwnsNode a node.old → OwnsBuilt a items.old.items → OwnsBuilt a items.new.items }
+{
+    if !gives_many(node) {
+        return add_one(alloc, items, keys, node);
+    }
+    match &node.value {
+        Filled::Many(more) => add_many(alloc, items, keys, more.as_slice()),
+        Filled::One(_) => unreachable!(),
+    }
+}
+
+/// Adds a node that ends to the one under it. A refusal leaves both as they were.
+pub(crate) fn ended(alloc: Global, under: &mut OpenNode, node: &mut OpenNode) -> Result<(), Stop>
+    ensures meaning { Leaves result under.new.children.items.items (λ held. added held (built_in held under.old.children.items.items) node.old) }
+    ensures rest { SameButChildren under.old under.new }
+    ensures err { OnErr result (under.new.children.items.items ≡ under.old.children.items.items) }
+    ensures kept { OnErr result (node.new ≡ node.old) }
+    ensures owned { (a : View) → OwnsNode a node.old → OwnsNode a under.old → OwnsNode a under.new }
+{
+    let Members {
+        mut items,
+        mut keys,
+    } = mem::replace(&mut under.children, Members::new(alloc));
+    let answer = add(alloc, &mut items, &mut keys, node);
+    under.children = Members { items, keys };
+    answer
 }

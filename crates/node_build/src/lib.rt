@@ -1,22 +1,21 @@
-//! What parts of nodes build, apart from what runs code.
+//! What parts of nodes build, over an arena, apart from what runs code.
 //!
-//! A `Builder` has the open nodes. `part` and `value` do exactly what the definitions say of parts that are written and of
-//! values of code that are taken over, or refuse as they do, and take exactly their steps, whatever objects there are; they
-//! never give steps back. `documents` are those of what was built. Keys of an open map are looked up in a set, so the time
-//! grows as the length.
+//! A `Builder` has the open nodes. Each call does exactly what the definitions say of its part, or refuses as they do, and takes
+//! exactly their steps but for that of a start, which its caller takes. After each refusal, want of memory included, the open nodes
+//! are as they were. What the notes and items have of values is seen by what the arena holds, and stays owned as it grows.
+//! `to_tree` is the tree of a value. Keys of an open map are looked up in a set, so the time grows as the length.
 #![tactic(auto)]
 
 mod add;
 mod builder;
-mod built;
 mod documents;
 mod end;
 mod fill;
 mod list;
 mod members;
 mod node;
-mod stack;
-mod steps;
+mod place;
 mod take;
 
 pub use builder::Builder;
+pub use take::to_tree;

@@ -1,10 +1,11 @@
 // Dicts and their keys. A change refuses a frozen dict with `Frozen`, and then one that a loop walks with `Iterating`.
-ghost use Rattle.std.specs.Prelude.{◌≡◌};
-ghost use Rattle.object_arena.specs.Names.{IfOk, Some, get_by, IsKey, dict_at, dict_get, dict_put, dict_remove, Answers, TakesNone, pair_in, seen, Grows, OneKey, Owns, OwnsPair, object_at, value_of};
+ghost use Rattle.std.specs.Prelude.{◌≡◌, ◌<◌, ◌^◌, length};
+ghost use Rattle.object_arena.specs.Names.{IfOk, Some, get_by, IsKey, dict_at, dict_get, dict_put, dict_remove, Answers, TakesNone, pair_in, seen, pairs_at, pairs_in, Each, Grows, OneKey, Owns, OwnsPair, object_at, value_of};
 ghost use Rattle.star_values.specs.declared.value.Sort.TheVariants as sort;
 
 use crate::arena::Arena;
 use indexmap::IndexMap;
+use indexmap::map::Slice;
 use star_values::{ArenaStop, Contents, Ref, Value, equal_values_are_one};
 
 /// The value under a key.
@@ -40,6 +41,19 @@ impl Arena {
                 None => Err(ArenaStop::KeyMissing),
                 Some(value) => Ok(value),
             },
+            _ => unreachable!(),
+        }
+    }
+
+    /// The pairs of a dict, in the order in which the keys came.
+    pub fn pairs(&self, dict: Ref) -> Slice<'_, Value, Value>
+        requires { object_at (seen self.now) dict.at ≡ Some sort.Dict }
+        ensures pairs { pairs_at dict.at (seen self.now).store ≡ pairs_in (seen self.now).held result }
+        ensures owns { Each (OwnsPair (seen self.now)) result }
+        ensures fits { length result < 2 ^ 63 }
+    {
+        match &self.object(dict.at).contents {
+            Contents::Dict(pairs) => pairs.as_slice(),
             _ => unreachable!(),
         }
     }

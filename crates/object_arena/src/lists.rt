@@ -1,7 +1,7 @@
 // Changes of lists, and of boxes, which are lists of at most one member. Each refuses a frozen object with `Frozen`, and then
 // one that a loop walks with `Iterating`.
 ghost use Rattle.std.specs.Prelude.{◌≡◌};
-ghost use Rattle.object_arena.specs.Names.{IfOk, IsTrue, Some, slice_get, clear, list_extend, list_insert, list_push, list_remove, list_set, Answers, TakesNone, seen, Grows, Owns, OwnsAll, object_at, value_of, values_of};
+ghost use Rattle.object_arena.specs.Names.{IfOk, IsTrue, Some, change, of_box, slice_get, with_contents, clear, list_extend, list_insert, list_push, list_remove, list_set, Answers, TakesNone, seen, Grows, Owns, OwnsAll, object_at, value_of, values_of};
 ghost use Rattle.star_values.specs.declared.value.Sort.TheVariants as sort;
 ghost use Rattle.object_arena.specs.Stands.{has_members, has_room, is_walked};
 
@@ -79,6 +79,19 @@ impl Arena {
         let answer = object.remove(at as usize);
         self.put_back(list.at, object);
         answer
+    }
+
+    /// A box has this value from now on, whatever its marks say.
+    pub fn set_box(&mut self, at: Ref, v: Value)
+        requires at { object_at (seen self.old) at.at ≡ Some sort.Box }
+        requires value { Owns (seen self.old) v }
+        ensures store { (seen self.new).store ≡ change (with_contents (of_box (Some (value_of (seen self.old) v)))) at.at (seen self.old).store }
+        ensures held { (seen self.new).held ≡ (seen self.old).held }
+        ensures grows { Grows (seen self.old) (seen self.new) }
+    {
+        let mut object = self.take(at.at);
+        object.fill(v);
+        self.put_back(at.at, object);
     }
 
     /// Takes all members of a list, or all pairs of a dict, out.

@@ -11,7 +11,7 @@ use Rattle.code_spec.specs.Program.{NodePart, node_start, node_note, node_key, n
 use Rattle.value_spec.specs.Values.{Env}
 use Rattle.star_blocks.specs.declared.block.Op.{Op}
 use Rattle.plain_ops.specs.Meets.{Meets}
-use Rattle.node_build.specs.Parts.{written_part}
+use Rattle.plain_build.specs.Parts.{written_part}
 use Rattle.star_eval.specs.Meets.{Here}
 use Rattle.star_eval.specs.PartsSoFar.{Nodes, is_written, part_done, parts_so_far}
 use Rattle.star_eval.specs.Written.{BuildsOn}

@@ -18,8 +18,8 @@ use Rattle.plain_ops.specs.declared.value.Value.{Value}
 use Rattle.plain_ops.specs.View.{value_of, values_of}
 use Rattle.star_blocks.specs.declared.block.Op.{Op}
 use Rattle.star_blocks.specs.Nested.{arms_of, ops_of}
-use Rattle.node_build.specs.Parts.{taking}
-use Rattle.node_build.specs.View.{nodes_of}
+use Rattle.plain_build.specs.Parts.{taking}
+use Rattle.plain_build.specs.View.{nodes_of}
 use Rattle.star_eval.specs.declared.frame.Control.{Control}
 use Rattle.star_eval.specs.declared.frame.Control.TheVariants as control
 use Rattle.star_eval.specs.declared.frame.Flow as held

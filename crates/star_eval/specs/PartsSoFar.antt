@@ -15,7 +15,7 @@ use Rattle.star_spec.specs.Flow.{on, out, Part, in_turn, over_members}
 use Rattle.code_spec.specs.Program.{NodePart, node_start, node_note, node_key, node_key_from, node_value, node_value_from, node_end}
 use Rattle.code_spec.specs.Blocks.{Op, op_part, op_statement, op_if, op_for, op_def, Ops, no_ops, an_op, Arms, no_arm, else_arm, arm}
 use Rattle.template_meaning.specs.Run.{Node, on_top}
-use Rattle.node_build.specs.Parts.{taking, written_part}
+use Rattle.plain_build.specs.Parts.{taking, written_part}
 use Rattle.star_eval.specs.SoFar.{value_so_far}
 
 abbrev pub Nodes : Type 0

@@ -5,7 +5,7 @@ ghost use Rattle.ytt_base.specs.declared.fault.Stop.TheVariants as stop;
 ghost use Rattle.ytt_base.specs.Outcomes.{fault_of};
 ghost use Rattle.code_spec.specs.Scopes.{program_names};
 ghost use Rattle.star_tree.specs.Whole.{program_of};
-ghost use Rattle.node_build.specs.View.{nodes_of};
+ghost use Rattle.plain_build.specs.View.{nodes_of};
 ghost use Rattle.star_resolve.specs.Frames.{unset_boxes};
 ghost use Rattle.star_resolve.specs.Variables.{each_once};
 ghost use Rattle.star_eval.specs.FileRun.{LeftBy, RunsAs};
@@ -13,7 +13,7 @@ ghost use Rattle.star_eval.specs.View.{store_of};
 
 use crate::looped::{Finished, run_block};
 use crate::session::{Session, Slot};
-use node_build::Builder;
+use plain_build::Builder;
 use sqlite_items::Items;
 use star_blocks::nest;
 use star_resolve::Resolved;

@@ -1,7 +1,7 @@
 // Frames, and the state of the loop.
 
 use crate::session::Session;
-use node_build::Builder;
+use plain_build::Builder;
 use plain_ops::Value;
 use sqlite_items::Items;
 use star_blocks::{Arm, Op};

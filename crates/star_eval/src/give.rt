@@ -3,7 +3,7 @@ ghost use Rattle.std.specs.Prelude.{◌≡◌, ◌∷◌, [], reverse, IfOk, Lis
 ghost use Rattle.operator_spec.specs.Operators.{binary_row, unary_row};
 ghost use Rattle.star_tree.specs.Whole.{binary_operator_of, unary_operator_of};
 ghost use Rattle.plain_ops.specs.View.{value_of};
-ghost use Rattle.node_build.specs.Parts.{taking};
+ghost use Rattle.plain_build.specs.Parts.{taking};
 ghost use Rattle.star_eval.specs.declared.frame.Control.TheVariants as control;
 ghost use Rattle.star_eval.specs.Frames.{Goes, GoesToFlow, GoesToValue, around_flow, around_value, budget, env_in, inside, nodes_in, statement_goes, value_goes};
 ghost use Rattle.star_eval.specs.Meets.{state_of};

@@ -3,7 +3,7 @@
 //!
 //! `run_flat` gives the documents that a program means and the steps that are left, or the fault that it ends with, where all of the
 //! program is built. What each frame waits for is the definitions' continuation: each step keeps what the machine stands for
-//! (`specs/Frames`) and leaves less to do. What parts of nodes build is `node_build`'s.
+//! (`specs/Frames`) and leaves less to do. What parts of nodes build is `plain_build`'s.
 #![tactic(auto)]
 
 mod assign;

@@ -8,7 +8,7 @@ ghost use Rattle.star_eval.specs.declared.frame.Control.TheVariants as control;
 ghost use Rattle.star_eval.specs.Frames.{GoesToFlowBy, Goes, GoesToFlow, around_flow, budget, env_in, means, nodes_in, statement_goes, work};
 ghost use Rattle.star_eval.specs.Meets.{state_of};
 ghost use Rattle.star_blocks.specs.Nested.{arms_of, ops_of, statement_of};
-ghost use Rattle.node_build.specs.View.{nodes_of};
+ghost use Rattle.plain_build.specs.View.{nodes_of};
 ghost use Rattle.star_eval.specs.PartsSoFar.{arms_so_far, augmented, done_after, op_place, part_so_far, parts_so_far};
 ghost use Rattle.star_eval.specs.SoFar.{value_so_far};
 ghost use Rattle.star_eval.specs.Written.{begins_written};

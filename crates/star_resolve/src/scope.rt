@@ -1,5 +1,5 @@
 // The names of a scope, as a set in their order.
-ghost use Rattle.std.specs.Prelude.{◌≡◌, [], bytes_eq, length, position, IfOk, OnOk};
+ghost use Rattle.std.specs.Prelude.{◌≡◌, [], bytes_eq, length, position, slice_get, IfNone, IfOk, IfSome, None, OnOk, Some};
 ghost use Rattle.star_spec.specs.Names.{box_of};
 ghost use Rattle.star_resolve.specs.Frames.{boxed};
 ghost use Rattle.star_resolve.specs.Variables.{each_once, with_name};
@@ -58,6 +58,17 @@ impl Scope {
         ensures { result ≡ length self.now }
     {
         self.names.len()
+    }
+
+    /// The name with a number, if there is one.
+    pub fn name(&self, number: usize) -> Option<&str>
+        ensures found { IfSome result (λ name. slice_get self.now number ≡ Some name.now) }
+        ensures none { IfNone result (slice_get self.now number ≡ None) }
+    {
+        match self.names.get_index(number) {
+            None => None,
+            Some(name) => Some(name.as_str()),
+        }
     }
 
     /// The number of a name, by its place among the names, if it is one of them. It is that of the name's box

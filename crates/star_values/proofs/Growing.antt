@@ -111,7 +111,7 @@ pair_kept a b p g o =
     let v = kept a b p.1 g o.1 in
     ((k.0, v.0, subst IsKey (sym k.1) o.2), λ i. (k.1 i, v.1 i))
 
-variable_kept : (a b : View) (x : NamedBox) → Grows a b → OwnsVariable a x → OwnsVariable b x × (variable_in b.held x ≡ variable_in a.held x)
+pub variable_kept : (a b : View) (x : NamedBox) → Grows a b → OwnsVariable a x → OwnsVariable b x × (variable_in b.held x ≡ variable_in a.held x)
 variable_kept a b x g o =
     let name = held_ref_kept a b sort.Text x.name (λ v. plain.text_value (text_in v)) g o.0 in
     ((name.0, (object_ref_kept a b sort.Box x.at none_value g o.1).0), ap (λ v. (text_in v, x.at.at)) name.1)
@@ -122,7 +122,7 @@ fields_owned : (a : View) (fs : List NamedValue) → OwnsAll a (field_values fs)
 fields_owned a [] h = tt
 fields_owned a (f ∷ fs) h = (h.0, fields_owned a fs h.1)
 
-notes_kept : (a b : View) (ns : List BuiltNote) → Grows a b → OwnsAll a (note_values ns) → notes_in b.held ns ≡ notes_in a.held ns
+pub notes_kept : (a b : View) (ns : List BuiltNote) → Grows a b → OwnsAll a (note_values ns) → notes_in b.held ns ≡ notes_in a.held ns
 notes_kept a b [] g o = refl
 notes_kept a b (n ∷ ns) g o =
     let first = each_parted (Owns a) n.args.positional (field_values n.args.named ++ note_values ns) o in
@@ -195,7 +195,7 @@ child_kept a b g = ind-BuiltItem (BodyKept a b) (ItemKept a b)
     (λ x y e. subst (λ x. BodyKept a b (roll-BuiltValue x)) e (body_kept a b y))
     (λ x y e. subst (λ x. ItemKept a b (roll-BuiltItem x)) e (item_kept a b g y))
 
-built_kept : (a b : View) (is : List BuiltItem) → Grows a b → OwnsBuilt a is → OwnsBuilt b is × (built_in b.held is ≡ built_in a.held is)
+pub built_kept : (a b : View) (is : List BuiltItem) → Grows a b → OwnsBuilt a is → OwnsBuilt b is × (built_in b.held is ≡ built_in a.held is)
 built_kept a b is g o =
     let k = each_kept (OwnsItem a) (OwnsItem b) (child_in b.held) (child_in a.held) is (λ i o. (owns_all_kept a b (values_of_item i) g o, child_kept a b g i o)) o in
     (k.0, ap in_children k.1)

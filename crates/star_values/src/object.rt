@@ -1,9 +1,10 @@
 // Objects: what can be changed.
-ghost use Rattle.std.specs.Prelude.{◌≡◌, ◌<◌, ◌^◌, ◌+◌, ◌-◌, List, true, false, slice_get};
+ghost use Rattle.std.specs.Prelude.{◌≡◌, ◌<◌, ◌^◌, ◌+◌, ◌-◌, List, Some, true, false, slice_get};
 ghost use Rattle.value_spec.specs.Store.{count_of, list_of_contents};
 ghost use Rattle.value_spec.specs.Values as plain;
 ghost use Rattle.star_values.specs.Changing.{Unlocks, contents_kind};
 ghost use Rattle.star_values.specs.Objects.{contents_in};
+ghost use Rattle.star_values.specs.declared.object.Contents.TheVariants as contents;
 ghost use Rattle.star_values.specs.Owns.{OwnsContents, OwnsOption};
 ghost use Rattle.star_values.specs.View.{View, option_in};
 
@@ -139,6 +140,13 @@ impl Object {
         ensures { self.new ≡ record self.old { frozen = true } }
     {
         self.frozen = true;
+    }
+
+    /// A box has this value from now on, whatever the marks say.
+    pub fn fill(&mut self, value: Value)
+        ensures { self.new ≡ record self.old { contents = contents.Box (Some value) } }
+    {
+        self.contents = Contents::Box(Some(value));
     }
 
     /// One more loop walks it.

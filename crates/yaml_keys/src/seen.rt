@@ -17,7 +17,7 @@ pub struct Seen {
 }
 
 impl Seen {
-    ghost use Rattle.std.specs.Prelude.{◌≡◌, ◌||◌, not, false, IfOk, OnOk};
+    ghost use Rattle.std.specs.Prelude.{◌≡◌, ◌||◌, not, false, IfOk, OnErr, OnOk};
     ghost use Rattle.ytt_base.specs.Trees.{Scalar, same_key};
     ghost use Rattle.ytt_base.specs.View.{key_of};
     ghost use Rattle.yaml_keys.specs.Seen.{is_seen};
@@ -39,6 +39,7 @@ impl Seen {
     pub fn add(&mut self, alloc: Global, key: &Key) -> Result<bool, Memory>
         ensures told { IfOk result (λ is_new. is_new ≡ not (is_seen (key_of key.now) self.old)) }
         ensures seen { OnOk result ((other : Scalar) → is_seen other self.new ≡ (same_key other (key_of key.now) || is_seen other self.old)) }
+        ensures kept { OnErr result ((other : Scalar) → is_seen other self.new ≡ is_seen other self.old) }
     {
         match key {
             Key::Null => Ok(!mem::replace(&mut self.null, true)),

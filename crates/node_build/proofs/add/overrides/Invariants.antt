@@ -1,7 +1,8 @@
-use Rattle.std.proofs.Common.{◌≡◌, drop}
+use Rattle.std.proofs.Common.{◌≡◌, List, drop}
 use Rattle.template_meaning.specs.Adding.{overrides}
-use Rattle.node_build.specs.View.{built_notes_of}
+use Rattle.star_values.specs.View.{notes_in}
+use Rattle.value_spec.specs.Values as plain
 use Rattle.node_build.proofs.add.overrides.Given as goal
 
 abbrev pub invariant-loop-note : goal.invariant-loop-note
-invariant-loop-note l = overrides (built_notes_of l.notes) ≡ overrides (built_notes_of (drop l.note-index l.notes))
+invariant-loop-note l = (held : List plain.Value) → overrides (notes_in held l.notes) ≡ overrides (notes_in held (drop l.note-index l.notes))

@@ -1,67 +1,177 @@
-use Rattle.std.proofs.Common.{◌≡◌, suc, ◌-◌, Err, ap, sym, ◌∙◌, arith, rules}
-use Rattle.ytt_base.specs.View.{tree_of, trees_of}
-use Rattle.ytt_base.proofs.Views.{tree_of-List}
-use Rattle.value_spec.specs.Outcomes.{done}
-use Rattle.plain_ops.specs.Meets.{as_is, in_store}
-use Rattle.plain_ops.specs.View.{value_of, values_of}
-use Rattle.plain_ops.proofs.Views.{value_of-Text, value_of-Tuple}
-use Rattle.node_build.proofs.Meeting.{done_then, meets_same, meets_stop, meets_then}
-use Rattle.node_build.proofs.Taking.{member_form, next_level, text_form, trees_done, trees_next, trees_stop, tuple_form}
+use Rattle.std.proofs.Common.{◌≡◌, ◌≤◌, length, Err, ap, subst, ◌∙◌, arith, rules}
+use Rattle.std.proofs.Math.ListN.{drop_of_length-le}
+use Rattle.std.proofs.lemmas.List.{drop_more}
+use Rattle.star_values.specs.declared.value.Value.TheVariants as value
+use Rattle.ytt_base.specs.View.{key_of, tree_of}
+use Rattle.ytt_base.specs.Trees.{string}
+use Rattle.ytt_base.specs.declared.tree.Key.TheVariants as key
+use Rattle.star_steps.proofs.Meeting.{meets_same, meets_stop}
+use Rattle.star_steps.specs.Meets.{as_is, state_in}
+use Rattle.star_values.specs.Objects.{pair_in, seen}
+use Rattle.star_values.specs.Owns.{Owns}
+use Rattle.star_values.specs.View.{value_of, values_of}
+use Rattle.template_meaning.specs.Take.{tree_of_value}
+use Rattle.value_spec.specs.Store.{pairs_at}
+use Rattle.ytt_laws.proofs.Lists.{dropped}
+use Rattle.node_build.proofs.Forms.{dict_form, list_form, struct_form, tuple_form}
+use Rattle.node_build.proofs.Taking.{drop_get, left_members, left_pairs, member_form, members_all, members_next, members_stop, meets_then, pair_done, pair_key_stop, pair_tree_stop, pairs_done, pairs_next, pairs_stop}
+use Rattle.node_build.specs.Taking.{field_pair, field_pairs}
 use Rattle.node_build.proofs.take.+taken.Goals as goal
 
-pub taken_tree-returns-in-Text-clause-meaning : goal.taken_tree-returns-in-Text-clause-meaning
-taken_tree-returns-in-Text-clause-meaning t c = λ store.
-    meets_same tree_of c.text_tree.result (in_store store c.text_tree.new.steps) _ _
-    (ap (λ m. m (in_store store c.args.steps.now)) (text_form c.args.levels c.args.place _ _ (value_of-Text _ c.in-Text.text c.in-Text.is))) (c.text_tree.ensures.meaning store)
+-- ---- values by their form
 
-pub taken_tree-returns-in-Tuple-clause-meaning : goal.taken_tree-returns-in-Tuple-clause-meaning
-taken_tree-returns-in-Tuple-clause-meaning t c = λ store.
-    meets_same tree_of c.list_tree.result (in_store store c.list_tree.new.steps) _ _
-    (ap (λ m. m (in_store store c.args.steps.now)) (tuple_form c.args.levels c.args.place _ _ (value_of-Tuple _ c.in-Tuple.tuple c.in-Tuple.is))) (rw c.members.ensures at c.list_tree.ensures.meaning store)
+pub taken_tree-returns-in-List : goal.taken_tree-returns-in-List
+taken_tree-returns-in-List t c =
+    let a = seen c.args.arena.now in
+    let s = state_in a c.args.steps.now in
+    let owned = subst (Owns a) c.in-List.is c.requires in
+    meets_same tree_of c.list_tree.result (state_in a c.list_tree.new.steps) _ _
+    (ap (λ v. tree_of_value c.args.levels c.args.place (value_of a v) s) c.in-List.is ∙ list_form c.args.place s c.args.levels c.in-List.list.at _ owned.1 c.list.ensures.members)
+    c.list_tree.ensures
 
-pub list_tree-returns-in_err-member_trees-clause-meaning : goal.list_tree-returns-in_err-member_trees-clause-meaning
-list_tree-returns-in_err-member_trees-clause-meaning t c = λ store.
-    let stopped : c.from_residual.result ≡ Err c.in_err-member_trees.field-0.0 = search rules in
-    let less : c.args.levels ≡ suc (c.args.levels - 1) = grind (arith, c.if-levels-eq0.false) in
-    meets_same tree_of c.from_residual.result (in_store store c.member_trees.new.steps) _ _
-    (ap (λ m. m (in_store store c.args.steps.now)) (next_level c.args.levels (c.args.levels - 1) c.args.place (values_of c.args.members.now) less))
-    (meets_stop trees_of tree_of c.in_err-member_trees.field-0.0 _ _ _ _ (c.in_err-member_trees.ensures.meaning store) stopped)
+pub taken_tree-returns-in-Tuple : goal.taken_tree-returns-in-Tuple
+taken_tree-returns-in-Tuple t c =
+    let a = seen c.args.arena.now in
+    let s = state_in a c.args.steps.now in
+    meets_same tree_of c.list_tree-in-Tuple.result (state_in a c.list_tree-in-Tuple.new.steps) _ _
+    (ap (λ v. tree_of_value c.args.levels c.args.place (value_of a v) s) c.in-Tuple.is ∙ tuple_form c.args.place s c.args.levels _ _ c.tuple_members.ensures.members)
+    c.list_tree-in-Tuple.ensures
 
-pub list_tree-returns-clause-meaning : goal.list_tree-returns-clause-meaning
-list_tree-returns-clause-meaning t c = λ store.
-    let less : c.args.levels ≡ suc (c.args.levels - 1) = grind (arith, c.if-levels-eq0.false) in
-    ap (λ m. m (in_store store c.args.steps.now)) (next_level c.args.levels (c.args.levels - 1) c.args.place (values_of c.args.members.now) less)
-    ∙ done_then _ _ _ _ _ (c.in_ok-member_trees.ensures.meaning store) (ap (λ x. done x (in_store store c.member_trees.new.steps)) (sym (tree_of-List c.in_ok-member_trees.field-0)))
+pub taken_tree-returns-in-Dict : goal.taken_tree-returns-in-Dict
+taken_tree-returns-in-Dict t c =
+    let a = seen c.args.arena.now in
+    let s = state_in a c.args.steps.now in
+    let owned = subst (Owns a) c.in-Dict.is c.requires in
+    meets_same tree_of c.dict_tree.result (state_in a c.dict_tree.new.steps) _ _
+    (ap (λ v. tree_of_value c.args.levels c.args.place (value_of a v) s) c.in-Dict.is ∙ dict_form c.args.place s c.args.levels c.in-Dict.dict.at owned.1)
+    c.dict_tree.ensures
 
-pub member_tree-returns-in_err-pay-clause-meaning : goal.member_tree-returns-in_err-pay-clause-meaning
-member_tree-returns-in_err-pay-clause-meaning t c = λ store.
+pub taken_tree-returns-in-Struct : goal.taken_tree-returns-in-Struct
+taken_tree-returns-in-Struct t c =
+    let a = seen c.args.arena.now in
+    let s = state_in a c.args.steps.now in
+    meets_same tree_of c.struct_tree.result (state_in a c.struct_tree.new.steps) _ _
+    (ap (λ v. tree_of_value c.args.levels c.args.place (value_of a v) s) c.in-Struct.is ∙ struct_form c.args.place s c.args.levels _ _ c.fields_of.ensures.fields)
+    c.struct_tree.ensures
+
+-- ---- members
+
+pub member_tree-returns-in_err-pay : goal.member_tree-returns-in_err-pay
+member_tree-returns-in_err-pay t c =
+    let a = seen c.args.arena.now in
     let stopped : c.from_residual.result ≡ Err c.in_err-pay.field-0.0 = search rules in
-    meets_same tree_of c.from_residual.result (in_store store c.pay.new.steps) _ _
-    (ap (λ m. m (in_store store c.args.steps.now)) (member_form c.args.levels c.args.place (value_of c.args.value.now)))
-    (meets_stop {A = Unit {0}} as_is tree_of c.in_err-pay.field-0.0 _ _ _ _ (c.in_err-pay.ensures.meaning store) stopped)
+    meets_same tree_of c.from_residual.result (state_in a c.pay.new.steps) _ _
+    (ap (λ m. m (state_in a c.args.steps.now)) (member_form c.args.levels c.args.place (value_of a c.args.value)))
+    (meets_stop {A = Unit {0}} as_is tree_of c.in_err-pay.field-0.0 _ _ _ _ c.in_err-pay.ensures stopped)
 
-pub member_tree-returns-clause-meaning : goal.member_tree-returns-clause-meaning
-member_tree-returns-clause-meaning t c = λ store.
-    meets_same tree_of c.taken_tree.result (in_store store c.taken_tree.new.steps) _ _
-    (ap (λ m. m (in_store store c.args.steps.now)) (member_form c.args.levels c.args.place (value_of c.args.value.now)))
-    (meets_then tree_of (in_store store c.taken_tree.new.steps) (in_store store c.pay.new.steps) _ _ _ c.taken_tree.result (c.in_ok-pay.ensures.meaning store) (c.taken_tree.ensures.meaning store))
+pub member_tree-returns : goal.member_tree-returns
+member_tree-returns t c =
+    let a = seen c.args.arena.now in
+    meets_same tree_of c.taken_tree.result (state_in a c.taken_tree.new.steps) _ _
+    (ap (λ m. m (state_in a c.args.steps.now)) (member_form c.args.levels c.args.place (value_of a c.args.value)))
+    (meets_then tree_of (state_in a c.taken_tree.new.steps) (state_in a c.pay.new.steps) _ _ _ c.taken_tree.result c.in_ok-pay.ensures c.taken_tree.ensures)
 
-pub member_trees-returns-in_err-tree-clause-meaning : goal.member_trees-returns-in_err-tree-clause-meaning
-member_trees-returns-in_err-tree-clause-meaning t c = λ store.
+pub member_trees-returns-in_err-tree : goal.member_trees-returns-in_err-tree
+member_trees-returns-in_err-tree t c =
+    let a = seen c.args.arena.now in
     let stopped : c.from_residual.result ≡ Err c.in_err-tree.field-0.0 = search rules in
-    trees_stop c.args.levels c.args.place c.args.members.now c.loop-member.member-index _ c.loop-member.trees (in_store store c.loop-member.steps)
-    c.member-item.result c.loop-member-test.true c.member-item.is (c.loop-member.invariant.0 store)
-    c.in_err-tree.field-0.0 (in_store store c.member_tree.new.steps) c.from_residual.result (c.in_err-tree.ensures.meaning store) stopped
+    let left = ap (values_of a) (drop_more c.args.members.now c.loop-member.member-index value.None c.loop-member-test.true) in
+    members_stop c.args.levels c.args.place _ c.loop-member.trees _ _ (state_in a c.loop-member.steps) (left_members c.args.levels c.args.place _ _ _ _ _ left c.loop-member.invariant)
+    c.in_err-tree.field-0.0 (state_in a c.member_tree.new.steps) c.from_residual.result c.in_err-tree.ensures stopped
 
 pub member_trees-loop-member-preserved : goal.member_trees-loop-member-preserved
-member_trees-loop-member-preserved t c = (
-  (λ store. rw c.in_ok-push.ensures
-      (trees_next c.args.levels c.args.place c.args.members.now c.loop-member.member-index _ c.loop-member.trees (in_store store c.loop-member.steps)
-      c.member-item.result c.loop-member-test.true c.member-item.is (c.loop-member.invariant.0 store)
-      c.in_ok-tree.tree (in_store store c.member_tree.new.steps) (c.in_ok-tree.ensures.meaning store))),
-  omega (arith, c.loop-member.invariant.1, c.in_ok-tree.ensures.spent),
-)
+member_trees-loop-member-preserved t c =
+    let a = seen c.args.arena.now in
+    let left = ap (values_of a) (drop_more c.args.members.now c.loop-member.member-index value.None c.loop-member-test.true) in
+    rw c.in_ok-push.ensures.ok
+    (members_next c.args.levels c.args.place _ c.loop-member.trees _ _ (state_in a c.loop-member.steps) (left_members c.args.levels c.args.place _ _ _ _ _ left c.loop-member.invariant)
+    c.in_ok-tree.tree (state_in a c.member_tree.new.steps) c.in_ok-tree.ensures)
 
-pub member_trees-returns-clause-meaning : goal.member_trees-returns-clause-meaning
-member_trees-returns-clause-meaning t c = λ store.
-    trees_done c.args.levels c.args.place c.args.members.now c.loop-member.member-index _ c.loop-member.trees (in_store store c.loop-member.steps) c.loop-member-test.false (c.loop-member.invariant.0 store)
+pub member_trees-returns : goal.member_trees-returns
+member_trees-returns t c =
+    let a = seen c.args.arena.now in
+    members_all c.args.levels c.args.place _ c.loop-member.trees (state_in a c.loop-member.steps)
+    (left_members c.args.levels c.args.place _ _ _ _ _ (ap (values_of a) (drop_of_length-le c.args.members.now c.loop-member-test.false)) c.loop-member.invariant)
+
+-- ---- the pairs of a dict
+
+pub dict_pair-returns-in_err-key : goal.dict_pair-returns-in_err-key
+dict_pair-returns-in_err-key t c =
+    let a = seen c.args.arena.now in
+    let stopped : c.from_residual.result ≡ Err c.in_err-key.field-0.0 = search rules in
+    pair_key_stop c.args.levels c.args.place key_of (pair_in a.held c.args.pair) c.in_err-key.field-0.0 _ _ c.from_residual.result c.in_err-key.ensures stopped
+
+pub dict_pair-returns-in_err-tree : goal.dict_pair-returns-in_err-tree
+dict_pair-returns-in_err-tree t c =
+    let a = seen c.args.arena.now in
+    let stopped : c.from_residual-in_err-tree.result ≡ Err c.in_err-tree.field-0.0 = search rules in
+    pair_tree_stop c.args.levels c.args.place (pair_in a.held c.args.pair) _ c.in_err-tree.field-0.0 _ _ _ c.from_residual-in_err-tree.result c.in_ok-key.ensures c.in_err-tree.ensures stopped
+
+pub dict_pair-returns : goal.dict_pair-returns
+dict_pair-returns t c =
+    let a = seen c.args.arena.now in
+    pair_done c.args.levels c.args.place (pair_in a.held c.args.pair) (c.in_ok-key.key, c.in_ok-tree.tree) _ _ _ c.in_ok-key.ensures c.in_ok-tree.ensures
+
+pub dict_pairs-returns-in_err-pair : goal.dict_pairs-returns-in_err-pair
+dict_pairs-returns-in_err-pair t c =
+    let a = seen c.args.arena.now in
+    let stopped : c.from_residual.result ≡ Err c.in_err-pair.field-0.0 = search rules in
+    let left = drop_get (pairs_at c.args.dict.at a.store) c.loop-i.i _ c.pair_at.ensures.pair in
+    pairs_stop c.args.levels c.args.place _ c.loop-i.pairs _ _ (state_in a c.loop-i.steps) (left_pairs c.args.levels c.args.place _ _ _ _ _ left c.loop-i.invariant)
+    c.in_err-pair.field-0.0 (state_in a c.dict_pair.new.steps) c.from_residual.result c.in_err-pair.ensures stopped
+
+pub dict_pairs-loop-i-preserved : goal.dict_pairs-loop-i-preserved
+dict_pairs-loop-i-preserved t c =
+    let a = seen c.args.arena.now in
+    let left = drop_get (pairs_at c.args.dict.at a.store) c.loop-i.i _ c.pair_at.ensures.pair in
+    rw c.in_ok-push.ensures.ok
+    (pairs_next c.args.levels c.args.place _ c.loop-i.pairs _ _ (state_in a c.loop-i.steps) (left_pairs c.args.levels c.args.place _ _ _ _ _ left c.loop-i.invariant)
+    c.in_ok-pair.pair (state_in a c.dict_pair.new.steps) c.in_ok-pair.ensures)
+
+pub dict_pairs-returns : goal.dict_pairs-returns
+dict_pairs-returns t c =
+    let a = seen c.args.arena.now in
+    let past : length (pairs_at c.args.dict.at a.store) ≤ c.loop-i.i = omega (arith, c.loop-i-test.false, c.pair_count-i-end.ensures) in
+    pairs_done c.args.levels c.args.place _ c.loop-i.pairs (state_in a c.loop-i.steps)
+    (left_pairs c.args.levels c.args.place _ _ _ _ _ (drop_of_length-le (pairs_at c.args.dict.at a.store) past) c.loop-i.invariant)
+
+-- ---- the fields of a struct
+
+pub struct_pair-returns-in_err-name : goal.struct_pair-returns-in_err-name
+struct_pair-returns-in_err-name t c =
+    let a = seen c.args.arena.now in
+    let stopped : c.from_residual.result ≡ Err c.in_err-name.field-0.0 = search rules in
+    pair_key_stop c.args.levels c.args.place string (field_pair a.held c.args.field.now) c.in_err-name.field-0.0 _ _ c.from_residual.result c.in_err-name.ensures stopped
+
+pub struct_pair-returns-in_err-tree : goal.struct_pair-returns-in_err-tree
+struct_pair-returns-in_err-tree t c =
+    let a = seen c.args.arena.now in
+    let stopped : c.from_residual-in_err-tree.result ≡ Err c.in_err-tree.field-0.0 = search rules in
+    pair_tree_stop c.args.levels c.args.place (field_pair a.held c.args.field.now) _ c.in_err-tree.field-0.0 _ _ _ c.from_residual-in_err-tree.result c.in_ok-name.ensures c.in_err-tree.ensures stopped
+
+pub struct_pair-returns : goal.struct_pair-returns
+struct_pair-returns t c =
+    let a = seen c.args.arena.now in
+    pair_done c.args.levels c.args.place (field_pair a.held c.args.field.now) (key.Str c.in_ok-name.name, c.in_ok-tree.tree) _ _ _ c.in_ok-name.ensures c.in_ok-tree.ensures
+
+pub struct_pairs-returns-in_err-pair : goal.struct_pairs-returns-in_err-pair
+struct_pairs-returns-in_err-pair t c =
+    let a = seen c.args.arena.now in
+    let stopped : c.from_residual.result ≡ Err c.in_err-pair.field-0.0 = search rules in
+    let left = ap (field_pairs a.held) (dropped c.args.fields.now c.loop-field.field-index c.field-item.result c.loop-field-test.true c.field-item.is) in
+    pairs_stop c.args.levels c.args.place _ c.loop-field.pairs _ _ (state_in a c.loop-field.steps) (left_pairs c.args.levels c.args.place _ _ _ _ _ left c.loop-field.invariant)
+    c.in_err-pair.field-0.0 (state_in a c.struct_pair.new.steps) c.from_residual.result c.in_err-pair.ensures stopped
+
+pub struct_pairs-loop-field-preserved : goal.struct_pairs-loop-field-preserved
+struct_pairs-loop-field-preserved t c =
+    let a = seen c.args.arena.now in
+    let left = ap (field_pairs a.held) (dropped c.args.fields.now c.loop-field.field-index c.field-item.result c.loop-field-test.true c.field-item.is) in
+    rw c.in_ok-push.ensures.ok
+    (pairs_next c.args.levels c.args.place _ c.loop-field.pairs _ _ (state_in a c.loop-field.steps) (left_pairs c.args.levels c.args.place _ _ _ _ _ left c.loop-field.invariant)
+    c.in_ok-pair.pair (state_in a c.struct_pair.new.steps) c.in_ok-pair.ensures)
+
+pub struct_pairs-returns : goal.struct_pairs-returns
+struct_pairs-returns t c =
+    let a = seen c.args.arena.now in
+    pairs_done c.args.levels c.args.place _ c.loop-field.pairs (state_in a c.loop-field.steps)
+    (left_pairs c.args.levels c.args.place _ _ _ _ _ (ap (field_pairs a.held) (drop_of_length-le c.args.fields.now c.loop-field-test.false)) c.loop-field.invariant)

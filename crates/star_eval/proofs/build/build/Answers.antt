@@ -2,7 +2,7 @@ use Rattle.std.proofs.Common.{◌≡◌, Err, rules, arith, ◌∙◌}
 use Rattle.star_spec.specs.Flow.{on}
 use Rattle.star_tree.specs.Whole.{part_of}
 use Rattle.star_blocks.specs.Nested.{ops_of}
-use Rattle.node_build.specs.View.{nodes_of}
+use Rattle.plain_build.specs.View.{nodes_of}
 use Rattle.star_eval.specs.Meets.{state_of}
 use Rattle.star_eval.specs.View.{store_of}
 use Rattle.star_eval.proofs.Fronts.{part_on, part_stops}

@@ -1,7 +1,7 @@
 use Rattle.std.proofs.Common.{◌≡◌, ◌≤◌, ℕ, length}
 use Rattle.star_blocks.specs.Nested.{ops_of}
 use Rattle.value_spec.specs.Values.{Env}
-use Rattle.node_build.specs.View.{nodes_of}
+use Rattle.plain_build.specs.View.{nodes_of}
 use Rattle.star_eval.specs.Meets.{state_of}
 use Rattle.star_eval.specs.PartsSoFar.{parts_so_far}
 use Rattle.star_eval.proofs.build.build.Given as goal

@@ -4,8 +4,8 @@ use Rattle.value_spec.specs.Outcomes.{then_do, ◌>>=◌}
 use Rattle.code_spec.specs.Program.{node_value_from}
 use Rattle.star_tree.specs.Whole.{expr_of, part_of}
 use Rattle.star_blocks.specs.Nested.{ops_of}
-use Rattle.node_build.specs.Parts.{taking}
-use Rattle.node_build.specs.View.{has_two}
+use Rattle.plain_build.specs.Parts.{taking}
+use Rattle.plain_build.specs.View.{has_two}
 use Rattle.star_eval.specs.declared.frame.InBlock.TheVariants as in_block
 use Rattle.star_eval.specs.declared.frame.InStatement.TheVariants as in_statement
 use Rattle.star_eval.specs.Frames.{around_flow, env_in, nodes_in}

@@ -10,7 +10,7 @@ use Rattle.star_blocks.specs.Nested.{ops_of}
 use Rattle.plain_ops.specs.Meets.{in_store}
 use Rattle.star_resolve.specs.Frames.{boxed, unset_boxes}
 use Rattle.star_resolve.specs.Variables.{each_once}
-use Rattle.node_build.specs.View.{nodes_of}
+use Rattle.plain_build.specs.View.{nodes_of}
 use Rattle.template_meaning.specs.Calls.{program_calls}
 use Rattle.template_meaning.specs.Run.{runs}
 use Rattle.star_eval.specs.FileRun.{Shows}

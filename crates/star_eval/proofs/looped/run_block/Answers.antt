@@ -1,6 +1,6 @@
 use Rattle.std.proofs.Common.{◌≡◌, rules, ◌∙◌}
 use Rattle.star_blocks.specs.Nested.{ops_of}
-use Rattle.node_build.specs.View.{nodes_of}
+use Rattle.plain_build.specs.View.{nodes_of}
 use Rattle.star_eval.specs.Frames.{flow_ending_of}
 use Rattle.star_eval.specs.Meets.{state_of}
 use Rattle.star_eval.specs.PartsSoFar.{parts_so_far}

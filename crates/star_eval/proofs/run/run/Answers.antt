@@ -1,7 +1,7 @@
 use Rattle.std.proofs.Common.{◌≡◌, reverse, sym, ap, arith}
 use Rattle.value_spec.specs.Outcomes.{bad}
 use Rattle.star_blocks.specs.Nested.{ops_of}
-use Rattle.node_build.specs.View.{nodes_of}
+use Rattle.plain_build.specs.View.{nodes_of}
 use Rattle.star_eval.specs.Frames.{around_flow, env_in, nodes_in}
 use Rattle.star_eval.specs.Meets.{state_of}
 use Rattle.star_eval.specs.PartsSoFar.{parts_so_far}
