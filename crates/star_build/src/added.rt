@@ -62,7 +62,7 @@ fn add_list_for(alloc: Global, parts: &mut Parts) -> Result<(), Memory>
 {
     let clauses = parts.pop_clauses(alloc);
     let value = parts.pop_boxed(alloc)?;
-    let _members = parts.pop();
+    parts.drop_last();
     parts.push(Part::ListFor(value, clauses))
 }
 
@@ -72,7 +72,7 @@ fn add_dict_for(alloc: Global, parts: &mut Parts) -> Result<(), Memory>
     let clauses = parts.pop_clauses(alloc);
     let value = parts.pop_boxed(alloc)?;
     let key = parts.pop_boxed(alloc)?;
-    let _entries = parts.pop();
+    parts.drop_last();
     parts.push(Part::DictFor(key, value, clauses))
 }
 

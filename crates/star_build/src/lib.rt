@@ -5,7 +5,6 @@
 mod added;
 mod ends;
 mod made;
-mod operators;
 mod params;
 mod parts;
 mod stated;
@@ -13,3 +12,4 @@ mod values;
 
 pub use ends::{build, put_token};
 pub use parts::Parts;
+pub use values::{expr_of, no_items};

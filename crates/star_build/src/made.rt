@@ -3,11 +3,10 @@ ghost use Rattle.std.specs.Prelude.{◌≡◌, OnOk, IfOk};
 ghost use Rattle.star_grammar.specs.Trees as spec;
 ghost use Rattle.star_grammar.specs.declared.table.Made.TheVariants as made;
 
-use crate::operators::{operation, unary_of};
 use crate::parts::Parts;
 use crate::values::{boxed_of, name_of, no_items, optional_of};
 use sqlite_items::Boxed;
-use star_grammar::{Made, Mark, Part};
+use star_grammar::{Made, Mark, Part, operation, unary_of};
 use star_tree::code::Expr;
 use std::alloc::Global;
 use ytt_base::text::Memory;

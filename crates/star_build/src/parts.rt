@@ -58,6 +58,13 @@ impl Parts {
             None => Part::Missing,
         }
     }
+
+    /// Lets the last part fall.
+    pub(crate) fn drop_last(&mut self)
+        ensures { self.new ≡ spec.under self.old }
+    {
+        drop(self.pop());
+    }
 }
 
 fn is_name(part: &Part) -> bool
@@ -147,6 +154,16 @@ impl Parts {
             None => 0,
         }
     }
+
+    /// The token that it keeps.
+    fn mark(&self) -> Mark
+        ensures { result ≡ spec.mark_in (spec.top self.now) }
+    {
+        match self.parts.last() {
+            Some(part) => mark_of(part),
+            None => Mark::Comma,
+        }
+    }
 }
 
 // Takes the last part, as what is wanted there.
@@ -155,16 +172,18 @@ impl Parts {
         ensures value { result ≡ spec.line_in (spec.top self.old) }
         ensures rest { self.new ≡ spec.under self.old }
     {
-        let part = self.pop();
-        line_of(&part)
+        let line = self.line();
+        self.drop_last();
+        line
     }
 
     pub(crate) fn pop_mark(&mut self) -> Mark
         ensures value { result ≡ spec.mark_in (spec.top self.old) }
         ensures rest { self.new ≡ spec.under self.old }
     {
-        let part = self.pop();
-        mark_of(&part)
+        let mark = self.mark();
+        self.drop_last();
+        mark
     }
 
     pub(crate) fn pop_expr(&mut self, alloc: Global) -> Expr

@@ -4,11 +4,10 @@ ghost use Rattle.star_grammar.specs.Parts.{top, under};
 ghost use Rattle.star_grammar.specs.Trees as spec;
 ghost use Rattle.star_grammar.specs.declared.table.Stated.TheVariants as stated;
 
-use crate::operators::augmented_of;
 use crate::parts::Parts;
 use crate::values::{name_of, text_of, with};
 use sqlite_items::Boxed;
-use star_grammar::{Mark, Part, Stated};
+use star_grammar::{Mark, Part, Stated, augmented_of};
 use star_tree::code::{Expr, Stmt};
 use std::alloc::Global;
 use ytt_base::text::Memory;

@@ -39,77 +39,77 @@ pub(crate) fn number_expr(
             Ok(Expr::Dict(*line, entries))
         }
         Expr::Unary(line, op, a) => {
-            let a = number_boxed(alloc, file, a.get(), next)?;
+            let a = number_boxed(alloc, file, a, next)?;
             Ok(Expr::Unary(*line, *op, a))
         }
         Expr::Binary(line, op, a, b) => {
-            let a = number_boxed(alloc, file, a.get(), next)?;
-            let b = number_boxed(alloc, file, b.get(), next)?;
+            let a = number_boxed(alloc, file, a, next)?;
+            let b = number_boxed(alloc, file, b, next)?;
             Ok(Expr::Binary(*line, *op, a, b))
         }
         Expr::And(line, a, b) => {
-            let a = number_boxed(alloc, file, a.get(), next)?;
-            let b = number_boxed(alloc, file, b.get(), next)?;
+            let a = number_boxed(alloc, file, a, next)?;
+            let b = number_boxed(alloc, file, b, next)?;
             Ok(Expr::And(*line, a, b))
         }
         Expr::Or(line, a, b) => {
-            let a = number_boxed(alloc, file, a.get(), next)?;
-            let b = number_boxed(alloc, file, b.get(), next)?;
+            let a = number_boxed(alloc, file, a, next)?;
+            let b = number_boxed(alloc, file, b, next)?;
             Ok(Expr::Or(*line, a, b))
         }
         Expr::If(line, test, a, b) => {
-            let a = number_boxed(alloc, file, a.get(), next)?;
-            let test = number_boxed(alloc, file, test.get(), next)?;
-            let b = number_boxed(alloc, file, b.get(), next)?;
+            let a = number_boxed(alloc, file, a, next)?;
+            let test = number_boxed(alloc, file, test, next)?;
+            let b = number_boxed(alloc, file, b, next)?;
             Ok(Expr::If(*line, test, a, b))
         }
         Expr::Call(line, function, args) => {
-            let function = number_boxed(alloc, file, function.get(), next)?;
+            let function = number_boxed(alloc, file, function, next)?;
             let args = number_exprs(alloc, file, args, next)?;
             Ok(Expr::Call(*line, function, args))
         }
         Expr::Named(line, name, a) => {
-            let a = number_boxed(alloc, file, a.get(), next)?;
+            let a = number_boxed(alloc, file, a, next)?;
             Ok(Expr::Named(*line, name.copy()?, a))
         }
         Expr::Star(line, a) => {
-            let a = number_boxed(alloc, file, a.get(), next)?;
+            let a = number_boxed(alloc, file, a, next)?;
             Ok(Expr::Star(*line, a))
         }
         Expr::Stars(line, a) => {
-            let a = number_boxed(alloc, file, a.get(), next)?;
+            let a = number_boxed(alloc, file, a, next)?;
             Ok(Expr::Stars(*line, a))
         }
         Expr::Index(line, a, b) => {
-            let a = number_boxed(alloc, file, a.get(), next)?;
-            let b = number_boxed(alloc, file, b.get(), next)?;
+            let a = number_boxed(alloc, file, a, next)?;
+            let b = number_boxed(alloc, file, b, next)?;
             Ok(Expr::Index(*line, a, b))
         }
         Expr::Slice(line, a, low, high, step) => {
-            let a = number_boxed(alloc, file, a.get(), next)?;
+            let a = number_boxed(alloc, file, a, next)?;
             let low = number_optional(alloc, file, low, next)?;
             let high = number_optional(alloc, file, high, next)?;
             let step = number_optional(alloc, file, step, next)?;
             Ok(Expr::Slice(*line, a, low, high, step))
         }
         Expr::Dot(line, a, name) => {
-            let a = number_boxed(alloc, file, a.get(), next)?;
+            let a = number_boxed(alloc, file, a, next)?;
             Ok(Expr::Dot(*line, a, name.copy()?))
         }
         Expr::Lambda(line, _, params, body) => {
             let number = take(next)?;
             let params = number_params(alloc, file, params, next)?;
-            let body = number_boxed(alloc, file, body.get(), next)?;
+            let body = number_boxed(alloc, file, body, next)?;
             Ok(Expr::Lambda(*line, number, params, body))
         }
         Expr::ListFor(line, element, clauses) => {
-            let element = number_boxed(alloc, file, element.get(), next)?;
+            let element = number_boxed(alloc, file, element, next)?;
             let clauses = number_clauses(alloc, file, clauses, next)?;
             Ok(Expr::ListFor(*line, element, clauses))
         }
         Expr::DictFor(line, key, value, clauses) => {
-            let key = number_boxed(alloc, file, key.get(), next)?;
-            let value = number_boxed(alloc, file, value.get(), next)?;
+            let key = number_boxed(alloc, file, key, next)?;
+            let value = number_boxed(alloc, file, value, next)?;
             let clauses = number_clauses(alloc, file, clauses, next)?;
             Ok(Expr::DictFor(*line, key, value, clauses))
         }
@@ -125,13 +125,13 @@ pub(crate) fn number_expr(
 pub(crate) fn number_boxed(
     alloc: Global,
     file: u32,
-    expr: &Expr,
+    expr: &Boxed<Expr>,
     next: &mut usize,
 ) -> Result<Boxed<Expr>, Memory>
     ensures result { IfOk result (λ e. expr_of file e ≡ (number_expr (expr_of file expr.now) next.old).result) }
     ensures next { OnOk result (next.new ≡ (number_expr (expr_of file expr.now) next.old).next) }
 {
-    let numbered = number_expr(alloc, file, expr, next)?;
+    let numbered = number_expr(alloc, file, expr.get(), next)?;
     Ok(Boxed::new(alloc, numbered)?)
 }
 
@@ -164,7 +164,10 @@ fn number_optional(
     ensures next { OnOk result (next.new ≡ (number_optional (optional_of file part.now) next.old).next) }
 {
     match part {
-        Some(expr) => Ok(Some(number_boxed(alloc, file, expr.get(), next)?)),
+        Some(expr) => {
+            let numbered = number_expr(alloc, file, expr.get(), next)?;
+            Ok(Some(Boxed::new(alloc, numbered)?))
+        }
         None => Ok(None),
     }
 }
@@ -176,8 +179,8 @@ fn number_entry(alloc: Global, file: u32, entry: &Entry, next: &mut usize) -> Re
 {
     match entry {
         Entry::Pair(key, value) => {
-            let key = number_boxed(alloc, file, key.get(), next)?;
-            let value = number_boxed(alloc, file, value.get(), next)?;
+            let key = number_boxed(alloc, file, key, next)?;
+            let value = number_boxed(alloc, file, value, next)?;
             Ok(Entry::Pair(key, value))
         }
     }
@@ -212,12 +215,12 @@ fn number_clause(
 {
     match clause {
         Clause::ForIn(target, members) => {
-            let target = number_boxed(alloc, file, target.get(), next)?;
-            let members = number_boxed(alloc, file, members.get(), next)?;
+            let target = number_boxed(alloc, file, target, next)?;
+            let members = number_boxed(alloc, file, members, next)?;
             Ok(Clause::ForIn(target, members))
         }
         Clause::OnlyIf(test) => {
-            let test = number_boxed(alloc, file, test.get(), next)?;
+            let test = number_boxed(alloc, file, test, next)?;
             Ok(Clause::OnlyIf(test))
         }
     }
@@ -248,7 +251,7 @@ fn number_piece(alloc: Global, file: u32, piece: &Piece, next: &mut usize) -> Re
     match piece {
         Piece::Written(text) => Ok(Piece::Written(text.copy()?)),
         Piece::Shown(expr) => {
-            let expr = number_boxed(alloc, file, expr.get(), next)?;
+            let expr = number_boxed(alloc, file, expr, next)?;
             Ok(Piece::Shown(expr))
         }
     }
@@ -279,7 +282,7 @@ fn number_param(alloc: Global, file: u32, param: &Param, next: &mut usize) -> Re
     match param {
         Param::Required(name) => Ok(Param::Required(name.copy()?)),
         Param::Defaulted(name, default) => {
-            let default = number_boxed(alloc, file, default.get(), next)?;
+            let default = number_boxed(alloc, file, default, next)?;
             Ok(Param::Defaulted(name.copy()?, default))
         }
         Param::BareStar => Ok(Param::BareStar),

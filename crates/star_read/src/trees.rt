@@ -1,23 +1,13 @@
 // The trees that stand in parts.
 ghost use Rattle.std.specs.Prelude.{◌≡◌};
-ghost use Rattle.star_grammar.specs.Parts.{expr_in, exprs_in, code_in};
+ghost use Rattle.star_grammar.specs.Parts.{exprs_in, code_in};
 ghost use Rattle.star_grammar.specs.Reading as spec;
 
 use sqlite_items::Items;
+use star_build::no_items;
 use star_grammar::Part;
-use star_tree::code::{Args, Expr, Header, Stmt};
+use star_tree::code::{Args, Header, Stmt};
 use std::alloc::Global;
-
-/// The expression that stands in a part. Several without brackets are a tuple.
-pub fn expr_of(alloc: Global, part: Part) -> Expr
-    ensures { result ≡ expr_in part }
-{
-    match part {
-        Part::Expr(_, expr) => expr.into_inner(),
-        Part::Exprs(line, exprs) => Expr::Tuple(line, exprs),
-        _ => Expr::Tuple(0, Items::new(alloc)),
-    }
-}
 
 /// The expressions that stand in a part.
 pub fn args_of(alloc: Global, part: Part) -> Args
@@ -25,7 +15,7 @@ pub fn args_of(alloc: Global, part: Part) -> Args
 {
     match part {
         Part::Exprs(_, exprs) => exprs,
-        _ => Items::new(alloc),
+        other => no_items(alloc, other),
     }
 }
 
@@ -35,8 +25,16 @@ pub fn code_of(alloc: Global, part: Part) -> Items<Stmt>
 {
     match part {
         Part::Code(code) => code,
-        _ => Items::new(alloc),
+        other => no_items(alloc, other),
     }
+}
+
+/// The end of a block, for a statement that is no head of one.
+fn no_head(stmt: Stmt) -> Header
+    ensures { result ≡ Header.End }
+{
+    drop(stmt);
+    Header::End
 }
 
 fn header_of(stmt: Stmt) -> Header
@@ -48,7 +46,7 @@ fn header_of(stmt: Stmt) -> Header
         Stmt::Else(_) => Header::Else,
         Stmt::For(_, target, members) => Header::For(target, members),
         Stmt::Def(_, _, _, name, params) => Header::Def(name, params),
-        _ => Header::End,
+        other => no_head(other),
     }
 }
 

@@ -1,5 +1,5 @@
 // Copies of code, each equal to what it is a copy of.
-ghost use Rattle.std.specs.Prelude.{◌≡◌, IfOk};
+ghost use Rattle.std.specs.Prelude.{◌≡◌, IfOk, Ok};
 
 use crate::code::{Clause, Entry, Expr, Loaded, Param, Params, Piece};
 use sqlite_items::{Boxed, Items};
@@ -48,6 +48,18 @@ impl Expr {
     }
 }
 
+/// Both, where both are there.
+fn both<A: Drop, B: Drop>(
+    first: Result<A, Memory>,
+    second: Result<B, Memory>,
+) -> Result<(A, B), Memory>
+    ensures { IfOk result (λ two. (first ≡ Ok two.0) × (second ≡ Ok two.1)) }
+{
+    let a = first?;
+    let b = second?;
+    Ok((a, b))
+}
+
 #[cycle(copies)]
 fn copy_expr(alloc: Global, expr: &Expr) -> Result<Expr, Memory>
     ensures { IfOk result (λ e. e ≡ expr.now) }
@@ -61,58 +73,58 @@ fn copy_expr(alloc: Global, expr: &Expr) -> Result<Expr, Memory>
         Expr::Dict(line, entries) => Ok(Expr::Dict(*line, copy_entries(alloc, entries)?)),
         Expr::Unary(line, op, a) => Ok(Expr::Unary(*line, *op, copy_boxed(alloc, a)?)),
         Expr::Binary(line, op, a, b) => {
-            let left = copy_boxed(alloc, a)?;
-            Ok(Expr::Binary(*line, *op, left, copy_boxed(alloc, b)?))
+            let (left, right) = both(copy_boxed(alloc, a), copy_boxed(alloc, b))?;
+            Ok(Expr::Binary(*line, *op, left, right))
         }
         Expr::And(line, a, b) => {
-            let left = copy_boxed(alloc, a)?;
-            Ok(Expr::And(*line, left, copy_boxed(alloc, b)?))
+            let (left, right) = both(copy_boxed(alloc, a), copy_boxed(alloc, b))?;
+            Ok(Expr::And(*line, left, right))
         }
         Expr::Or(line, a, b) => {
-            let left = copy_boxed(alloc, a)?;
-            Ok(Expr::Or(*line, left, copy_boxed(alloc, b)?))
+            let (left, right) = both(copy_boxed(alloc, a), copy_boxed(alloc, b))?;
+            Ok(Expr::Or(*line, left, right))
         }
         Expr::If(line, test, a, b) => {
-            let condition = copy_boxed(alloc, test)?;
-            let then = copy_boxed(alloc, a)?;
-            Ok(Expr::If(*line, condition, then, copy_boxed(alloc, b)?))
+            let branches = both(copy_boxed(alloc, a), copy_boxed(alloc, b));
+            let (condition, (then, other)) = both(copy_boxed(alloc, test), branches)?;
+            Ok(Expr::If(*line, condition, then, other))
         }
         Expr::Call(line, function, args) => {
-            let called = copy_boxed(alloc, function)?;
-            Ok(Expr::Call(*line, called, copy_exprs(alloc, args)?))
+            let (called, copied) = both(copy_boxed(alloc, function), copy_exprs(alloc, args))?;
+            Ok(Expr::Call(*line, called, copied))
         }
         Expr::Named(line, name, a) => {
-            let copied = name.copy()?;
-            Ok(Expr::Named(*line, copied, copy_boxed(alloc, a)?))
+            let (copied, value) = both(name.copy(), copy_boxed(alloc, a))?;
+            Ok(Expr::Named(*line, copied, value))
         }
         Expr::Star(line, a) => Ok(Expr::Star(*line, copy_boxed(alloc, a)?)),
         Expr::Stars(line, a) => Ok(Expr::Stars(*line, copy_boxed(alloc, a)?)),
         Expr::Index(line, a, index) => {
-            let indexed = copy_boxed(alloc, a)?;
-            Ok(Expr::Index(*line, indexed, copy_boxed(alloc, index)?))
+            let (indexed, at) = both(copy_boxed(alloc, a), copy_boxed(alloc, index))?;
+            Ok(Expr::Index(*line, indexed, at))
         }
         Expr::Slice(line, a, low, high, step) => {
-            let cut = copy_boxed(alloc, a)?;
-            let from = copy_optional(alloc, low)?;
-            let to = copy_optional(alloc, high)?;
-            Ok(Expr::Slice(*line, cut, from, to, copy_optional(alloc, step)?))
+            let front = both(copy_boxed(alloc, a), copy_optional(alloc, low));
+            let back = both(copy_optional(alloc, high), copy_optional(alloc, step));
+            let ((cut, from), (to, by)) = both(front, back)?;
+            Ok(Expr::Slice(*line, cut, from, to, by))
         }
         Expr::Dot(line, a, name) => {
-            let owner = copy_boxed(alloc, a)?;
-            Ok(Expr::Dot(*line, owner, name.copy()?))
+            let (owner, copied) = both(copy_boxed(alloc, a), name.copy())?;
+            Ok(Expr::Dot(*line, owner, copied))
         }
         Expr::Lambda(line, number, params, body) => {
-            let parameters = copy_params(alloc, params)?;
-            Ok(Expr::Lambda(*line, *number, parameters, copy_boxed(alloc, body)?))
+            let (bound, value) = both(copy_params(alloc, params), copy_boxed(alloc, body))?;
+            Ok(Expr::Lambda(*line, *number, bound, value))
         }
         Expr::ListFor(line, element, clauses) => {
-            let each = copy_boxed(alloc, element)?;
-            Ok(Expr::ListFor(*line, each, copy_clauses(alloc, clauses)?))
+            let (each, among) = both(copy_boxed(alloc, element), copy_clauses(alloc, clauses))?;
+            Ok(Expr::ListFor(*line, each, among))
         }
         Expr::DictFor(line, key, value, clauses) => {
-            let name = copy_boxed(alloc, key)?;
-            let each = copy_boxed(alloc, value)?;
-            Ok(Expr::DictFor(*line, name, each, copy_clauses(alloc, clauses)?))
+            let pair = both(copy_boxed(alloc, key), copy_boxed(alloc, value));
+            let ((name, each), among) = both(pair, copy_clauses(alloc, clauses))?;
+            Ok(Expr::DictFor(*line, name, each, among))
         }
         Expr::Template(line, pieces) => Ok(Expr::Template(*line, copy_pieces(alloc, pieces)?)),
     }
@@ -135,8 +147,8 @@ fn copy_entry(alloc: Global, entry: &Entry) -> Result<Entry, Memory>
 {
     match entry {
         Entry::Pair(key, value) => {
-            let name = copy_boxed(alloc, key)?;
-            Ok(Entry::Pair(name, copy_boxed(alloc, value)?))
+            let (name, each) = both(copy_boxed(alloc, key), copy_boxed(alloc, value))?;
+            Ok(Entry::Pair(name, each))
         }
     }
 }
@@ -158,8 +170,8 @@ fn copy_clause(alloc: Global, clause: &Clause) -> Result<Clause, Memory>
 {
     match clause {
         Clause::ForIn(target, members) => {
-            let bound = copy_boxed(alloc, target)?;
-            Ok(Clause::ForIn(bound, copy_boxed(alloc, members)?))
+            let (bound, among) = both(copy_boxed(alloc, target), copy_boxed(alloc, members))?;
+            Ok(Clause::ForIn(bound, among))
         }
         Clause::OnlyIf(test) => Ok(Clause::OnlyIf(copy_boxed(alloc, test)?)),
     }
@@ -184,8 +196,8 @@ fn copy_param(alloc: Global, param: &Param) -> Result<Param, Memory>
     match param {
         Param::Required(name) => Ok(Param::Required(name.copy()?)),
         Param::Defaulted(name, value) => {
-            let copied = name.copy()?;
-            Ok(Param::Defaulted(copied, copy_boxed(alloc, value)?))
+            let (copied, default) = both(name.copy(), copy_boxed(alloc, value))?;
+            Ok(Param::Defaulted(copied, default))
         }
         Param::BareStar => Ok(Param::BareStar),
         Param::Starred(name) => Ok(Param::Starred(name.copy()?)),

@@ -74,6 +74,17 @@ fn read_start<R: std::rt::Files>(
     Ok(bytes)
 }
 
+/// Puts the name of an entry among the others.
+fn put_name<R: std::rt::Files + Alloc + Clone + Drop>(
+    alloc: Global,
+    names: &mut BTreeSet<String>,
+    entry: io::Result<fs::DirEntry<R, R::A>>,
+) -> io::Result<()> {
+    let entry = entry?;
+    names.insert(String::from_str(alloc, entry.file_name())?)?;
+    Ok(())
+}
+
 /// The names in the folder. The standard library leaves out `.` and `..`, and refuses a name that
 /// isn't UTF-8.
 fn read_names<R: std::rt::Files + Alloc + Clone + Drop>(
@@ -83,8 +94,7 @@ fn read_names<R: std::rt::Files + Alloc + Clone + Drop>(
 ) -> io::Result<BTreeSet<String>> {
     let mut names = BTreeSet::new(alloc);
     for entry in fs::read_dir(rt, path)? {
-        let entry = entry?;
-        names.insert(String::from_str(alloc, entry.file_name())?)?;
+        put_name(alloc, &mut names, entry)?;
     }
     Ok(names)
 }

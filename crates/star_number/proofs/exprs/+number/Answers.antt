@@ -1,8 +1,7 @@
-use Rattle.std.proofs.Common.{ap, sym, ◌∙◌, map as each}
+use Rattle.std.proofs.Common.{ap, map as each}
 use Rattle.code_spec.specs.Numbering.{number_expr}
 use Rattle.star_tree.specs.Listed.{clause_of, entry_of, piece_of}
 use Rattle.star_tree.specs.Whole.{clauses_from, entries_from, expr_of, exprs_from, parameter_of, parameters_from, pieces_from}
-use Rattle.star_tree.specs.declared.code.Expr as held
 use Rattle.star_number.specs.Rows.{number_clause, number_entry, number_parameter, number_piece}
 use Rattle.star_number.proofs.Rows.{clauses_row, entries_row, exprs_row, parameters_row, pieces_row, row_whole}
 use Rattle.star_number.proofs.Slices.{slice_numbered}
@@ -82,7 +81,7 @@ pub number_expr-returns-in_ok-step-in-Slice-clause-result : goal.number_expr-ret
 number_expr-returns-in_ok-step-in-Slice-clause-result t c =
     ap (λ p. p.result)
     (slice_numbered c.args.file c.in-Slice.line c.args.next.now _ _ _ _ c.args.expr.now _ _ _ _ _ _ _ _
-    (c.in-Slice.is ∙ ap (λ a. held.Slice c.in-Slice.line a c.in-Slice.low c.in-Slice.high c.in-Slice.step) (sym c.get-in-Slice.ensures))
+    c.in-Slice.is
     c.in_ok-a-in-Slice.ensures.result c.in_ok-a-in-Slice.ensures.next c.in_ok-low-in-Slice.ensures.result c.in_ok-low-in-Slice.ensures.next
     c.in_ok-high-in-Slice.ensures.result c.in_ok-high-in-Slice.ensures.next c.in_ok-step-in-Slice.ensures.result c.in_ok-step-in-Slice.ensures.next)
 
@@ -90,6 +89,6 @@ pub number_expr-returns-in_ok-step-in-Slice-clause-next : goal.number_expr-retur
 number_expr-returns-in_ok-step-in-Slice-clause-next t c =
     ap (λ p. p.next)
     (slice_numbered c.args.file c.in-Slice.line c.args.next.now _ _ _ _ c.args.expr.now _ _ _ _ _ _ _ _
-    (c.in-Slice.is ∙ ap (λ a. held.Slice c.in-Slice.line a c.in-Slice.low c.in-Slice.high c.in-Slice.step) (sym c.get-in-Slice.ensures))
+    c.in-Slice.is
     c.in_ok-a-in-Slice.ensures.result c.in_ok-a-in-Slice.ensures.next c.in_ok-low-in-Slice.ensures.result c.in_ok-low-in-Slice.ensures.next
     c.in_ok-high-in-Slice.ensures.result c.in_ok-high-in-Slice.ensures.next c.in_ok-step-in-Slice.ensures.result c.in_ok-step-in-Slice.ensures.next)

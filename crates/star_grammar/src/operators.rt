@@ -2,10 +2,11 @@
 ghost use Rattle.std.specs.Prelude.{◌≡◌};
 ghost use Rattle.star_grammar.specs.Trees as spec;
 
+use crate::token::Mark;
 use sqlite_items::Boxed;
-use star_grammar::Mark;
 use star_tree::code::{BinOp, Expr, UnOp};
 
+/// An operator before its operand.
 pub fn unary_of(mark: Mark) -> UnOp
     ensures { result ≡ spec.unary_of mark }
 {
@@ -18,7 +19,7 @@ pub fn unary_of(mark: Mark) -> UnOp
 }
 
 /// An operator between two operands, where `not` is the first word of `not in`.
-pub fn binary_of(mark: Mark) -> BinOp
+fn binary_of(mark: Mark) -> BinOp
     ensures { result ≡ spec.binary_of mark }
 {
     match mark {
