@@ -1,0 +1,67 @@
+-- A text that stands in another.
+use Rattle.std.proofs.Common.{◌≡◌, ℕ, Bool, true, false, ◌==◌, ◌&&◌, ◌||◌, ◌⊎◌, inl, inr, List, [], ◌∷◌, ◌++◌, refl, sym, ap, subst}
+use Rattle.std.proofs.Common.{eq-eqb, eqb-true}
+use Rattle.std.specs.Str.Iter.{HasSubslice}
+use Rattle.operator_spec.specs.Operators.{begins_with, is_part}
+
+same_head : (a b : Bool) → (a && b) ≡ true → (a ≡ true) × (b ≡ true)
+same_head true b h = (refl, h)
+same_head false b h = cc
+
+either : (a b : Bool) → (a || b) ≡ true → (a ≡ true) ⊎ (b ≡ true)
+either true b h = inl refl
+either false b h = inr h
+
+both : (a b : Bool) → a ≡ true → b ≡ true → (a && b) ≡ true
+both true b e f = f
+both false b e f = cc
+
+left : (a b : Bool) → a ≡ true → (a || b) ≡ true
+left true b e = refl
+left false b e = cc
+
+right : (a b : Bool) → b ≡ true → (a || b) ≡ true
+right true b e = refl
+right false b e = e
+
+-- what begins with a text is that text and a rest
+rest_of : (x t : List ℕ) → begins_with x t ≡ true → (b : List ℕ) × (t ≡ x ++ b)
+rest_of [] t h = (t, refl)
+rest_of (x ∷ xs) [] h = cc
+rest_of (x ∷ xs) (b ∷ t) h =
+    let p = same_head (x == b) (begins_with xs t) h in
+    let more = rest_of xs t p.1 in
+    (more.0, (λ i. sym (eqb-true x b p.0) i ∷ more.1 i))
+
+begins : (x b : List ℕ) → begins_with x (x ++ b) ≡ true
+begins [] b = refl
+begins (x ∷ xs) b = both (x == x) (begins_with xs (xs ++ b)) (eq-eqb x x refl) (begins xs b)
+
+pub shown : (x t : List ℕ) → is_part x t ≡ true → HasSubslice t x
+shown [] [] h = ([], [], refl)
+shown (x ∷ xs) [] h = cc
+shown x (b ∷ t) h = elim (either (begins_with x (b ∷ t)) (is_part x t) h) [
+  | inl e ↦ let r = rest_of x (b ∷ t) e in ([], r.0, r.1)
+  | inr e ↦ let r = shown x t e in (b ∷ r.0, r.1, ap (λ l. b ∷ l) r.2)
+]
+
+part_at_front : (x b : List ℕ) → is_part x (x ++ b) ≡ true
+part_at_front [] [] = refl
+part_at_front [] (c ∷ b) = refl
+part_at_front (x ∷ xs) b = left (begins_with (x ∷ xs) (x ∷ xs ++ b)) (is_part (x ∷ xs) (xs ++ b)) (begins (x ∷ xs) b)
+
+part_behind : (x a b : List ℕ) → is_part x (a ++ (x ++ b)) ≡ true
+part_behind x [] b = part_at_front x b
+part_behind x (c ∷ a) b = right (begins_with x (c ∷ a ++ (x ++ b))) (is_part x (a ++ (x ++ b))) (part_behind x a b)
+
+pub found : (x t : List ℕ) → HasSubslice t x → is_part x t ≡ true
+found x t h = subst (λ t. is_part x t ≡ true) (sym h.2) (part_behind x h.0 h.1)
+
+-- a test that holds just where the text stands there
+pub tests_part : (r : Bool) (x t : List ℕ) → (r ≡ true → HasSubslice t x) → (HasSubslice t x → r ≡ true) → r ≡ is_part x t
+tests_part true x t h k = sym (found x t (h refl))
+tests_part false x t h k = as_false (is_part x t) (λ e. k (shown x t e))
+  where
+    as_false : (b : Bool) → (b ≡ true → false ≡ true) → false ≡ b
+    as_false true h = h refl
+    as_false false h = refl

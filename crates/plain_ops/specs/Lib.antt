@@ -1,0 +1,4 @@
+pub mod Acts
+pub mod Alike
+pub mod Meets
+pub mod View
