@@ -1,5 +1,5 @@
 -- The run of a file that loads nothing: a box for each of its names, and then its blocks.
-use Rattle.std.proofs.Common.{◌≡◌, ℕ, zero, suc, ◌+◌, List, [], ◌∷◌, ◌++◌, length, Some, None, Result, Ok, Err, refl, sym, ap, ◌∙◌, subst, arith}
+use Rattle.std.proofs.Common.{◌≡◌, ℕ, List, [], ◌∷◌, ◌++◌, length, Some, None, Result, Ok, Err, refl, sym, ap, ◌∙◌, subst}
 use Rattle.ytt_base.specs.declared.fault.Fault.{Fault}
 use Rattle.ytt_base.specs.declared.fault.FaultKind.TheVariants as kind
 use Rattle.ytt_base.specs.declared.fault.Stop.{Stop}
@@ -16,11 +16,9 @@ use Rattle.value_spec.specs.Outcomes.{State, Ending, bad, give, then_do}
 use Rattle.code_spec.specs.Program.{Instruction}
 use Rattle.code_spec.specs.Scopes.{ops_names}
 use Rattle.code_spec.specs.Unbuilt.{unbuilt_op, unbuilt_ops}
-use Rattle.value_spec.specs.Store.{object}
-use Rattle.value_spec.specs.Values.{Env, of_box}
+use Rattle.value_spec.specs.Values.{Env}
 use Rattle.code_spec.proofs.UnbuiltBlocks.{none_in_both}
-use Rattle.plain_ops.specs.Meets.{in_store}
-use Rattle.star_resolve.specs.Frames.{boxed, unset_boxes, with_unset}
+use Rattle.star_resolve.specs.Frames.{boxed, with_unset}
 use Rattle.star_resolve.specs.Variables.{each_once}
 use Rattle.star_resolve.proofs.Frames.{new_frames}
 use Rattle.template_meaning.specs.Build.{built}
@@ -29,13 +27,12 @@ use Rattle.template_meaning.specs.Files.{FileResult, File, Loader, ended, op_loa
 use Rattle.template_meaning.specs.Meaning.{RunFile, documents, loads_in, names_in, run_blocks}
 use Rattle.template_meaning.specs.Run.{runs}
 use Rattle.star_eval.specs.declared.file.FlatResult.{FlatResult}
-use Rattle.star_eval.specs.declared.session.Slot.{Slot}
-use Rattle.star_eval.specs.View.{box_object, held_of, store_of}
+use Rattle.star_values.specs.View.{View}
 use Rattle.star_eval.specs.declared.frame.Flow.{Flow as Held}
 use Rattle.star_eval.specs.declared.frame.Flow.TheVariants as held
 use Rattle.star_eval.specs.FileRun.{LeftBy, Shows}
 use Rattle.star_eval.specs.Frames.{flow_ending_of}
-use Rattle.star_eval.specs.Meets.{Here}
+use Rattle.star_eval.specs.Meets.{Here, in_store}
 use Rattle.star_eval.specs.PartsSoFar.{Nodes}
 
 -- ---- nothing is loaded
@@ -77,53 +74,34 @@ module _ (host : Host Here) (loader : Loader Here) (files : ℕ → List Instruc
 
   -- ---- what is shown
 
-  pub shows_documents : (bound : List Name) (os : Ops) (g : List Name) (w : Held) (k : Nodes) (s : State Here) (r : FlatResult) → blocks is ≡ Some os → unbuilt_ops bound os ≡ [] → g ≡ Scope os →
-      flow_ending_of (Ok w) k s ≡ runs starlark (program_calls starlark host files depth) os (boxed 0 g []) (bottom 0 ∷ []) (with_unset (length g) (in_store [] n)) →
+  pub shows_documents : (a : View) (bound : List Name) (os : Ops) (g : List Name) (w : Held) (k : Nodes) (s : State Here) (r : FlatResult) → blocks is ≡ Some os → unbuilt_ops bound os ≡ [] → g ≡ Scope os →
+      flow_ending_of a (Ok w) k s ≡ runs starlark (program_calls starlark host files depth) os (boxed 0 g []) (bottom 0 ∷ []) (with_unset (length g) (in_store [] n)) →
       trees_of r.documents ≡ documents (bottom_children k) → r.steps_left ≡ s.steps → Shows (Ok r) (RunFile starlark host loader files depth is (in_store [] n))
-  shows_documents bound os g w k s r e h same ran d left =
+  shows_documents a bound os g w k s r e h same ran d left =
       subst (Shows (Ok r))
       (sym (run_from bound os e h ∙ (λ i. after_run (boxed 0 (sym same i) []) (runs starlark (program_calls starlark host files depth) os (boxed 0 (sym same i) []) (bottom 0 ∷ []) (with_unset (length (sym same i)) (in_store [] n)))) ∙ ap (after_run (boxed 0 g [])) (sym ran)))
       (by w)
     where
-      by : (w : Held) → Shows (Ok r) (after_run (boxed 0 g []) (flow_ending_of (Ok w) k s))
+      by : (w : Held) → Shows (Ok r) (after_run (boxed 0 g []) (flow_ending_of a (Ok w) k s))
       by held.On = (sym d, sym left)
       by held.Break = (sym d, sym left)
       by held.Continue = (sym d, sym left)
       by (held.Return v) = (sym d, sym left)
 
-  pub shows_fault : (bound : List Name) (os : Ops) (g : List Name) (f : Fault) (k : Nodes) (s : State Here) → blocks is ≡ Some os → unbuilt_ops bound os ≡ [] → g ≡ Scope os →
-      flow_ending_of (Err f) k s ≡ runs starlark (program_calls starlark host files depth) os (boxed 0 g []) (bottom 0 ∷ []) (with_unset (length g) (in_store [] n)) →
+  pub shows_fault : (a : View) (bound : List Name) (os : Ops) (g : List Name) (f : Fault) (k : Nodes) (s : State Here) → blocks is ≡ Some os → unbuilt_ops bound os ≡ [] → g ≡ Scope os →
+      flow_ending_of a (Err f) k s ≡ runs starlark (program_calls starlark host files depth) os (boxed 0 g []) (bottom 0 ∷ []) (with_unset (length g) (in_store [] n)) →
       Shows (Err (stop.Fault f)) (RunFile starlark host loader files depth is (in_store [] n))
-  shows_fault bound os g f k s e h same ran =
+  shows_fault a bound os g f k s e h same ran =
       subst (Shows (Err (stop.Fault f)))
       (sym (run_from bound os e h ∙ (λ i. after_run (boxed 0 (sym same i) []) (runs starlark (program_calls starlark host files depth) os (boxed 0 (sym same i) []) (bottom 0 ∷ []) (with_unset (length (sym same i)) (in_store [] n)))) ∙ ap (after_run (boxed 0 g [])) (sym ran)))
       refl
 
   -- what a block left is what its run shows
-  pub shows_left : (bound : List Name) (os : Ops) (g : List Name) (w : Result Held Fault) (k : Nodes) (s : State Here) (r : Result FlatResult Stop) → blocks is ≡ Some os → unbuilt_ops bound os ≡ [] → g ≡ Scope os →
-      flow_ending_of w k s ≡ runs starlark (program_calls starlark host files depth) os (boxed 0 g []) (bottom 0 ∷ []) (with_unset (length g) (in_store [] n)) → LeftBy w k s.steps r → Shows r (RunFile starlark host loader files depth is (in_store [] n))
-  shows_left bound os g (Ok w) k s (Ok r) e h same ran left = shows_documents bound os g w k s r e h same ran left.0 left.1
-  shows_left bound os g (Ok w) k s (Err (stop.Fault f)) e h same ran left = elim left [ ]
-  shows_left bound os g (Ok w) k s (Err stop.Memory) e h same ran left = tt
-  shows_left bound os g (Err f) k s (Ok r) e h same ran left = elim left [ ]
-  shows_left bound os g (Err f) k s (Err (stop.Fault d)) e h same ran left = subst (λ d. Shows (Err (stop.Fault d)) (RunFile starlark host loader files depth is (in_store [] n))) (sym left) (shows_fault bound os g f k s e h same ran)
-  shows_left bound os g (Err f) k s (Err stop.Memory) e h same ran left = tt
-
--- ---- boxes
-
-pub one_unset : (slots : List Slot) (n : ℕ) (slot : Slot) → store_of slots ≡ unset_boxes n → slot.value ≡ None → store_of (slots ++ slot ∷ []) ≡ unset_boxes (n + 1)
-one_unset slots n slot e v = all_unset slots n e ∙ sym (ap unset_boxes (next n) ∙ more n)
-  where
-    next : (n : ℕ) → n + 1 ≡ suc n
-    next n = omega arith
-
-    more : (n : ℕ) → unset_boxes (suc n) ≡ unset_boxes n ++ object (of_box None) ∷ []
-    more zero = refl
-    more (suc n) = ap (λ l. object (of_box None) ∷ l) (more n)
-
-    both : (slots : List Slot) → store_of (slots ++ slot ∷ []) ≡ store_of slots ++ object (of_box None) ∷ []
-    both [] = ap (λ o. object (of_box (held_of o)) ∷ []) v
-    both (s ∷ slots) = ap (λ l. box_object s ∷ l) (both slots)
-
-    all_unset : (slots : List Slot) (n : ℕ) → store_of slots ≡ unset_boxes n → store_of (slots ++ slot ∷ []) ≡ unset_boxes n ++ object (of_box None) ∷ []
-    all_unset slots n e = both slots ∙ ap (λ l. l ++ object (of_box None) ∷ []) e
+  pub shows_left : (a : View) (bound : List Name) (os : Ops) (g : List Name) (w : Result Held Fault) (k : Nodes) (s : State Here) (r : Result FlatResult Stop) → blocks is ≡ Some os → unbuilt_ops bound os ≡ [] → g ≡ Scope os →
+      flow_ending_of a w k s ≡ runs starlark (program_calls starlark host files depth) os (boxed 0 g []) (bottom 0 ∷ []) (with_unset (length g) (in_store [] n)) → LeftBy w k s.steps r → Shows r (RunFile starlark host loader files depth is (in_store [] n))
+  shows_left a bound os g (Ok w) k s (Ok r) e h same ran left = shows_documents a bound os g w k s r e h same ran left.0 left.1
+  shows_left a bound os g (Ok w) k s (Err (stop.Fault f)) e h same ran left = elim left [ ]
+  shows_left a bound os g (Ok w) k s (Err stop.Memory) e h same ran left = tt
+  shows_left a bound os g (Err f) k s (Ok r) e h same ran left = elim left [ ]
+  shows_left a bound os g (Err f) k s (Err (stop.Fault d)) e h same ran left = subst (λ d. Shows (Err (stop.Fault d)) (RunFile starlark host loader files depth is (in_store [] n))) (sym left) (shows_fault a bound os g f k s e h same ran)
+  shows_left a bound os g (Err f) k s (Err stop.Memory) e h same ran left = tt

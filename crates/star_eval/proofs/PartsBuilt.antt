@@ -16,7 +16,7 @@ use Rattle.code_spec.specs.Unbuilt.{unbuilt_expr, unbuilt_target, unbuilt_target
 use Rattle.value_spec.specs.Values.{Value, Env}
 use Rattle.code_spec.proofs.UnbuiltBlocks.{none_in_both}
 use Rattle.template_meaning.specs.Run.{node_part, run, runs, run_arms}
-use Rattle.plain_build.specs.Parts.{taking}
+use Rattle.node_build.specs.Parts.{taking}
 use Rattle.star_eval.specs.PartsSoFar.{Nodes, assigned, assigned_each, augmented, stated, statement_place, part_done, part_so_far, parts_so_far, arms_so_far}
 use Rattle.star_eval.proofs.Built.{one_unbuilt, value_is}
 use Rattle.star_eval.proofs.Chaining.{in_a_row}

@@ -10,13 +10,12 @@ use Rattle.star_spec.specs.Eval.{starlark}
 use Rattle.value_spec.specs.Outcomes.{Ending, done, bad}
 use Rattle.code_spec.specs.Program.{Instruction}
 use Rattle.code_spec.specs.Unbuilt.{unbuilt_code}
-use Rattle.plain_ops.specs.Meets.{in_store}
+use Rattle.star_eval.specs.Meets.{Here, in_store}
 use Rattle.template_meaning.specs.Calls.{bottom_children}
 use Rattle.template_meaning.specs.Files.{FileResult, Loader}
 use Rattle.template_meaning.specs.Meaning.{RunFile, documents}
 use Rattle.star_eval.specs.declared.file.FlatResult.{FlatResult}
 use Rattle.star_eval.specs.declared.frame.Flow.{Flow}
-use Rattle.star_eval.specs.Meets.{Here}
 use Rattle.star_eval.specs.PartsSoFar.{Nodes}
 
 -- What a call returned is how a run ends: the same documents and as many steps left, or the same fault; want of memory

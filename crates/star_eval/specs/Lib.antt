@@ -1,8 +1,10 @@
-pub mod View
-pub mod Meets
-pub mod SoFar
-pub mod Frames
-pub mod PartsSoFar
-pub mod Written
-pub mod Targets
 pub mod FileRun
+pub mod Frames
+pub mod Meets
+pub mod PartsSoFar
+pub mod Scope
+pub mod Settled
+pub mod SoFar
+pub mod Sources
+pub mod View
+pub mod Waiting

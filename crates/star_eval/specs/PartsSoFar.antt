@@ -1,6 +1,6 @@
 -- Parts of nodes, statements and blocks as far as the machine runs them, with the nodes that are open. What they do where all
 -- of a program is built is what the language says; each other form is NotBuilt.
-use Rattle.std.specs.Prelude.{Bool, true, false, ◌==◌, length, List, [], ◌∷◌, Option, Some, None, if◌then◌else◌}
+use Rattle.std.specs.Prelude.{suc, ◌==◌, length, List, [], ◌∷◌, Option, Some, None, if◌then◌else◌}
 use Rattle.ytt_base.specs.declared.fault.FaultKind.TheVariants as kind
 use Rattle.ytt_base.specs.declared.fault.Place.{Place}
 use Rattle.code_spec.specs.Code as plain
@@ -14,8 +14,8 @@ use Rattle.star_spec.specs.Language.{breaks, continues, returns}
 use Rattle.star_spec.specs.Flow.{on, out, Part, in_turn, over_members}
 use Rattle.code_spec.specs.Program.{NodePart, node_start, node_note, node_key, node_key_from, node_value, node_value_from, node_end}
 use Rattle.code_spec.specs.Blocks.{Op, op_part, op_statement, op_if, op_for, op_def, Ops, no_ops, an_op, Arms, no_arm, else_arm, arm}
-use Rattle.template_meaning.specs.Run.{Node, on_top}
-use Rattle.plain_build.specs.Parts.{taking, written_part}
+use Rattle.template_meaning.specs.Run.{Node, on_top, opened}
+use Rattle.node_build.specs.Parts.{ending, keying, taking, valuing}
 use Rattle.star_eval.specs.SoFar.{value_so_far}
 
 abbrev pub Nodes : Type 0
@@ -36,6 +36,10 @@ abbrev mutual
   assigned_each p no_exprs vs env = give tt
   assigned_each p (an_expr e es) [] env = give tt
   assigned_each p (an_expr e es) (v ∷ vs) env = assigned p e v env >>= λ u. assigned_each p es vs env
+
+-- the members of a value, which has as many, to these targets
+abbrev pub spread_over : {H : Type 0} → Place → Exprs → Value → Env → Computation H (Unit {0})
+spread_over p es v env = members_of p v >>= λ vs. need kind.ValueKind p (length vs == count_exprs es) >>= λ u. assigned_each p es vs env
 
 -- the end of a statement after what it does
 abbrev pub concluded : {H K : Type 0} → Computation H (Unit {0}) → Part H K
@@ -80,14 +84,15 @@ looped p x env part v k = over_members p (members_of p v) (λ w. assigned p x w 
 abbrev pub with_two : {H A : Type 0} → Nodes → Computation H A → Computation H A
 with_two ns m = on_top (λ n ms. on_top (λ o ls. m) ms) ns
 
-abbrev pub is_written : NodePart → Bool
-is_written (node_start p k h) = true
-is_written (node_key p x) = true
-is_written (node_value p x) = true
-is_written (node_end p) = true
-is_written (node_note p x es) = false
-is_written (node_key_from p e) = false
-is_written (node_value_from p e) = false
+-- a start, a key, a written value and an end
+abbrev pub written_part : {H : Type 0} → NodePart → Part H Nodes
+written_part (node_start p k h) ns = on_top (λ m ms. paid p (give (on (opened p k h (suc m.level) ∷ m ∷ ms)))) ns
+written_part (node_key p x) ns = keying x ns
+written_part (node_value p x) ns = valuing x ns
+written_part (node_end p) ns = ending ns
+written_part (node_note p x es) ns = ill_formed
+written_part (node_key_from p e) ns = ill_formed
+written_part (node_value_from p e) ns = ill_formed
 
 abbrev pub part_done : {H : Type 0} → NodePart → Env → Part H Nodes
 part_done (node_start p k h) env ns = written_part (node_start p k h) ns

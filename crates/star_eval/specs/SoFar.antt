@@ -4,7 +4,7 @@ use Rattle.std.specs.Prelude.{List, [], ◌∷◌, Option, Some, None, if◌then
 use Rattle.ytt_base.specs.declared.fault.Place.{Place}
 use Rattle.code_spec.specs.Code.{Expr, int, text, name, list, tuple, dict, unary, binary, conjunction, disjunction, conditional, call, named, starred, double_starred, index, slice, attribute, lambda, list_comprehension, dict_comprehension, text_template, Exprs, no_exprs, an_expr}
 use Rattle.value_spec.specs.Values.{Value, int_value, text_value, tuple_value, values_from, Env}
-use Rattle.value_spec.specs.Outcomes.{Computation, paid, give, not_built, ill_formed, ◌>>=◌}
+use Rattle.value_spec.specs.Outcomes.{Computation, paid, give, new_list, not_built, ill_formed, ◌>>=◌}
 use Rattle.star_spec.specs.Names.{box_of, read_name}
 use Rattle.operator_spec.specs.Operators.{unary_row, binary_row}
 use Rattle.star_spec.specs.Eval.{truth_of}
@@ -17,6 +17,7 @@ abbrev mutual
   value_so_far (text p t) env = paid p (give (text_value t))
   value_so_far (name p x) env = paid p (read_name p x (box_of x env))
   value_so_far (tuple p es) env = paid p (values_so_far es env >>= λ vs. give (tuple_value (values_from vs)))
+  value_so_far (list p es) env = paid p (values_so_far es env >>= new_list)
   value_so_far (unary p o a) env = paid p (value_so_far a env >>= unary_row p o)
   value_so_far (binary p o a b) env = paid p (value_so_far a env >>= λ x. value_so_far b env >>= λ y. binary_row p o x y)
   value_so_far (conjunction p a b) env = paid p (value_so_far a env >>= λ x. truth_of x >>= λ holds. if holds then value_so_far b env else give x)
@@ -25,7 +26,6 @@ abbrev mutual
   value_so_far (named p x e) env = ill_formed
   value_so_far (starred p e) env = ill_formed
   value_so_far (double_starred p e) env = ill_formed
-  value_so_far (list p es) env = paid p (not_built p)
   value_so_far (dict p es) env = paid p (not_built p)
   value_so_far (call p f es) env = paid p (not_built p)
   value_so_far (index p a i) env = paid p (not_built p)
@@ -73,6 +73,7 @@ acted p (int q z) env = give (int_value z)
 acted p (text q t) env = give (text_value t)
 acted p (name q x) env = read_name p x (box_of x env)
 acted p (tuple q es) env = values_so_far es env >>= λ vs. give (tuple_value (values_from vs))
+acted p (list q es) env = values_so_far es env >>= new_list
 acted p (unary q o a) env = value_so_far a env >>= unary_row p o
 acted p (binary q o a b) env = value_so_far a env >>= λ x. value_so_far b env >>= λ y. binary_row p o x y
 acted p (conjunction q a b) env = value_so_far a env >>= λ x. truth_of x >>= λ holds. if holds then value_so_far b env else give x

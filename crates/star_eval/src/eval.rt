@@ -1,25 +1,26 @@
 // Expressions.
-ghost use Rattle.std.specs.Prelude.{◌≡◌, ◌++◌, List, reverse, IfOk};
-ghost use Rattle.ytt_base.specs.declared.fault.Place.{Place};
+ghost use Rattle.std.specs.Prelude.{◌≡◌, ◌++◌, IfOk};
+ghost use Rattle.operator_spec.specs.Operators.{binary_row, unary_row};
 ghost use Rattle.star_spec.specs.Names.{box_of, read_name};
+ghost use Rattle.star_tree.specs.Whole.{binary_operator_of, expr_of, exprs_of, unary_operator_of};
+ghost use Rattle.star_values.specs.Owns.{Owns, OwnsAll};
+ghost use Rattle.star_values.specs.View.{value_of, values_of};
 ghost use Rattle.value_spec.specs.Outcomes.{give, then_do};
-ghost use Rattle.value_spec.specs.Values.{tuple_value, values_from};
-ghost use Rattle.star_tree.specs.Whole.{expr_of, exprs_of};
-ghost use Rattle.plain_ops.specs.View.{values_of};
+ghost use Rattle.value_spec.specs.Values.{text_value};
 ghost use Rattle.star_eval.specs.declared.frame.Control.TheVariants as control;
-ghost use Rattle.star_eval.specs.Frames.{Goes, GoesToValue, around_value, budget, env_in, means, work};
-ghost use Rattle.star_eval.specs.Meets.{state_of};
+ghost use Rattle.star_eval.specs.Frames.{Goes, GoesToValue, means};
 ghost use Rattle.star_eval.specs.SoFar.{acted, place_in, values_so_far};
+ghost use Rattle.star_eval.specs.View.{Sound, arena_in, env_of, gathering_of};
+ghost use Rattle.star_eval.specs.Waiting.{gathered};
 
-use crate::frame::{Control, Frame, InValue, Machine};
-use crate::machine::{failed, ill_formed, push};
+use crate::frame::{Control, Frame, Gathering, InValue, Machine};
+use crate::machine::{failed, ill_formed, push, settle};
 use crate::names::read;
-use plain_ops::Value;
+use crate::session::{make_list, make_text, make_tuple};
+use object_arena::{Value, Values};
 use sqlite_items::Items;
-use star_tree::code::Expr;
-use std::alloc::Global;
-use std::rc::Rc;
-use ytt_base::fault::{FaultKind, Place, Stop};
+use star_tree::code::{BinOp, Expr, UnOp};
+use ytt_base::fault::{FaultKind, Place};
 use ytt_base::text::{Memory, Text};
 
 /// Where an expression takes its step. An argument that is no expression takes none.
@@ -27,6 +28,7 @@ fn place_of(file: u32, expr: &Expr) -> Option<Place>
     ensures { result ≡ place_in (expr_of file expr.now) }
 {
     let line = match expr {
+        Expr::Named(_, _, _) | Expr::Star(_, _) | Expr::Stars(_, _) => return None,
         Expr::Int(line, _) => *line,
         Expr::Text(line, _) => *line,
         Expr::Name(line, _) => *line,
@@ -39,9 +41,6 @@ fn place_of(file: u32, expr: &Expr) -> Option<Place>
         Expr::Or(line, _, _) => *line,
         Expr::If(line, _, _, _) => *line,
         Expr::Call(line, _, _) => *line,
-        Expr::Named(_, _, _) => return None,
-        Expr::Star(_, _) => return None,
-        Expr::Stars(_, _) => return None,
         Expr::Index(line, _, _) => *line,
         Expr::Slice(line, _, _, _, _) => *line,
         Expr::Dot(line, _, _) => *line,
@@ -54,116 +53,171 @@ fn place_of(file: u32, expr: &Expr) -> Option<Place>
 }
 
 /// An expression, which takes a step before it acts.
-pub(crate) fn eval<'p>(
-    alloc: Global,
-    m: &mut Machine<'p>,
-    expr: &'p Expr,
-) -> Result<Control<'p>, Memory>
-    ensures { IfOk result (λ c. Goes m.new c (means m.old (control.Eval expr.entry)) (work m.old (control.Eval expr.entry))) }
+pub(crate) fn eval<'p>(m: &mut Machine<'p>, expr: &'p Expr) -> Result<Control<'p>, Memory>
+    requires { Sound m.old }
+    ensures { IfOk result (λ c. Goes m.new c (means m.old (control.Eval expr.entry))) }
 {
     match place_of(m.file, expr) {
-        None => Ok(ill_formed(alloc)),
+        None => Ok(ill_formed(m)),
         Some(place) => {
-            if m.session.steps == 0 {
-                return Ok(failed(alloc, FaultKind::Steps, place));
+            if m.session.work.steps == 0 {
+                return Ok(failed(m, FaultKind::Steps, place));
             }
-            m.session.steps -= 1;
-            act(alloc, m, place, expr)
+            m.session.work.steps -= 1;
+            act(m, place, expr)
         }
     }
 }
 
 /// What an expression does after its step at this place.
-fn act<'p>(
-    alloc: Global,
-    m: &mut Machine<'p>,
-    place: Place,
-    expr: &'p Expr,
-) -> Result<Control<'p>, Memory>
-    ensures { GoesToValue result m.new m.old (acted place (expr_of m.old.file expr.now) (env_in m.old)) }
+fn act<'p>(m: &mut Machine<'p>, place: Place, expr: &'p Expr) -> Result<Control<'p>, Memory>
+    requires { Sound m.old }
+    ensures { GoesToValue result m.new m.old (acted place (expr_of m.old.file expr.now) (env_of m.old)) }
 {
     match expr {
         Expr::Int(_, n) => Ok(Control::Gave(Value::Int(*n))),
-        Expr::Text(_, text) => Ok(Control::Gave(Value::Text(Rc::new(alloc, text.copy()?)?))),
-        Expr::Name(_, name) => variable(alloc, m, place, name),
-        Expr::Tuple(_, members) => values_from(alloc, m, members.as_slice(), Items::new(alloc)),
-        Expr::Unary(_, op, a) => push(
-            m,
-            Frame::Value(InValue::OperateOn(place, *op)),
-            Control::Eval(a.get()),
-        ),
+        Expr::Text(_, text) => literal(m, text),
+        Expr::Name(_, name) => variable(m, place, name),
+        Expr::List(_, members) => row(m, Gathering::List, members.as_slice()),
+        Expr::Tuple(_, members) => row(m, Gathering::Tuple, members.as_slice()),
+        Expr::Unary(_, op, a) => {
+            let frame = Frame::Value(InValue::OperateOn(place, *op));
+            push(m, frame, Control::Eval(a.get()))
+        }
         Expr::Binary(_, op, a, b) => {
-            push(
-                m,
-                Frame::Value(InValue::Right(place, *op, b.get())),
-                Control::Eval(a.get()),
-            )
+            let frame = Frame::Value(InValue::Right(place, *op, b.get()));
+            push(m, frame, Control::Eval(a.get()))
         }
-        Expr::And(_, a, b) => push(
-            m,
-            Frame::Value(InValue::AndThen(b.get())),
-            Control::Eval(a.get()),
-        ),
-        Expr::Or(_, a, b) => push(
-            m,
-            Frame::Value(InValue::OrElse(b.get())),
-            Control::Eval(a.get()),
-        ),
+        Expr::And(_, a, b) => {
+            let frame = Frame::Value(InValue::AndThen(b.get()));
+            push(m, frame, Control::Eval(a.get()))
+        }
+        Expr::Or(_, a, b) => {
+            let frame = Frame::Value(InValue::OrElse(b.get()));
+            push(m, frame, Control::Eval(a.get()))
+        }
         Expr::If(_, test, a, b) => {
-            push(
-                m,
-                Frame::Value(InValue::Choose(a.get(), b.get())),
-                Control::Eval(test.get()),
-            )
+            let frame = Frame::Value(InValue::Choose(a.get(), b.get()));
+            push(m, frame, Control::Eval(test.get()))
         }
-        Expr::List(_, _) => Ok(failed(alloc, FaultKind::NotBuilt, place)),
-        Expr::Dict(_, _) => Ok(failed(alloc, FaultKind::NotBuilt, place)),
-        Expr::Call(_, _, _) => Ok(failed(alloc, FaultKind::NotBuilt, place)),
-        Expr::Named(_, _, _) => Ok(failed(alloc, FaultKind::NotBuilt, place)),
-        Expr::Star(_, _) => Ok(failed(alloc, FaultKind::NotBuilt, place)),
-        Expr::Stars(_, _) => Ok(failed(alloc, FaultKind::NotBuilt, place)),
-        Expr::Index(_, _, _) => Ok(failed(alloc, FaultKind::NotBuilt, place)),
-        Expr::Slice(_, _, _, _, _) => Ok(failed(alloc, FaultKind::NotBuilt, place)),
-        Expr::Dot(_, _, _) => Ok(failed(alloc, FaultKind::NotBuilt, place)),
-        Expr::Lambda(_, _, _, _) => Ok(failed(alloc, FaultKind::NotBuilt, place)),
-        Expr::ListFor(_, _, _) => Ok(failed(alloc, FaultKind::NotBuilt, place)),
-        Expr::DictFor(_, _, _, _) => Ok(failed(alloc, FaultKind::NotBuilt, place)),
-        Expr::Template(_, _) => Ok(failed(alloc, FaultKind::NotBuilt, place)),
+        Expr::Dict(_, _)
+        | Expr::Call(_, _, _)
+        | Expr::Named(_, _, _)
+        | Expr::Star(_, _)
+        | Expr::Stars(_, _)
+        | Expr::Index(_, _, _)
+        | Expr::Slice(_, _, _, _, _)
+        | Expr::Dot(_, _, _)
+        | Expr::Lambda(_, _, _, _)
+        | Expr::ListFor(_, _, _)
+        | Expr::DictFor(_, _, _, _)
+        | Expr::Template(_, _) => Ok(failed(m, FaultKind::NotBuilt, place)),
     }
+}
+
+fn literal<'p>(m: &mut Machine<'p>, text: &Text) -> Result<Control<'p>, Memory>
+    requires { Sound m.old }
+    ensures { GoesToValue result m.new m.old (give (text_value text.now)) }
+{
+    settle(make_text(&mut m.session, text))
 }
 
 /// The value of a name.
-fn variable<'p>(
-    alloc: Global,
-    m: &Machine<'p>,
-    place: Place,
-    name: &Text,
-) -> Result<Control<'p>, Memory>
-    ensures { GoesToValue result m.now m.now (read_name place name.now (box_of name.now (env_in m.now))) }
+fn variable<'p>(m: &Machine<'p>, place: Place, name: &Text) -> Result<Control<'p>, Memory>
+    requires { Sound m.now }
+    ensures { GoesToValue result m.now m.now (read_name place name.now (box_of name.now (env_of m.now))) }
 {
-    let position = m.env.number(name);
-    match read(alloc, &m.session, place, name, position) {
-        Ok(value) => Ok(Control::Gave(value)),
-        Err(Stop::Fault(fault)) => Ok(Control::Failed(fault)),
-        Err(Stop::Memory) => Err(Memory),
+    settle(read(&m.session, m.scope.as_slice(), place, name))
+}
+
+/// What these expressions are gathered into.
+fn row<'p>(
+    m: &mut Machine<'p>,
+    gathering: Gathering,
+    members: &'p [Expr],
+) -> Result<Control<'p>, Memory>
+    requires { Sound m.old }
+    ensures { GoesToValue result m.new m.old (λ s. then_do (values_so_far (exprs_of m.old.file members.now) (env_of m.old) s) (gathered (gathering_of gathering))) }
+{
+    let before = Items::new(m.session.arena.alloc());
+    gather(m, gathering, members, before)
+}
+
+/// What these values are gathered into, and behind them those of these expressions.
+pub(crate) fn gather<'p>(
+    m: &mut Machine<'p>,
+    gathering: Gathering,
+    members: &'p [Expr],
+    values: Values,
+) -> Result<Control<'p>, Memory>
+    requires sound { Sound m.old }
+    requires values { OwnsAll (arena_in m.old) values }
+    ensures { GoesToValue result m.new m.old (λ s. then_do (values_so_far (exprs_of m.old.file members.now) (env_of m.old) s) (λ ws. gathered (gathering_of gathering) (values_of (arena_in m.old) values ++ ws))) }
+{
+    match members.split_first() {
+        Some((member, rest)) => {
+            let frame = Frame::Value(InValue::Member(gathering, rest, values));
+            push(m, frame, Control::Eval(member))
+        }
+        None => gather_all(m, gathering, values),
     }
 }
 
-/// A tuple of these values, and behind them those of these expressions.
-pub(crate) fn values_from<'p>(
-    alloc: Global,
+/// What values are gathered into.
+fn gather_all<'p>(
     m: &mut Machine<'p>,
-    members: &'p [Expr],
-    values: Items<Value>,
+    gathering: Gathering,
+    values: Values,
 ) -> Result<Control<'p>, Memory>
-    ensures { GoesToValue result m.new m.old (λ s. then_do (values_so_far (exprs_of m.old.file members.now) (env_in m.old) s) (λ ws. give (tuple_value (values_from (values_of values ++ ws))))) }
+    requires sound { Sound m.old }
+    requires values { OwnsAll (arena_in m.old) values }
+    ensures { GoesToValue result m.new m.old (gathered (gathering_of gathering) (values_of (arena_in m.old) values)) }
 {
-    match members.split_first() {
-        Some((member, rest)) => push(
-            m,
-            Frame::Value(InValue::Member(rest, values)),
-            Control::Eval(member),
-        ),
-        None => Ok(Control::Gave(Value::Tuple(Rc::new(alloc, values)?))),
+    match gathering {
+        Gathering::Tuple => settle(make_tuple(&mut m.session, values.as_slice())),
+        Gathering::List => settle(make_list(&mut m.session, values.as_slice())),
     }
+}
+
+/// What an operator before this operand gives.
+pub(crate) fn operated_on<'p>(
+    m: &mut Machine<'p>,
+    place: Place,
+    op: UnOp,
+    operand: Value,
+) -> Result<Control<'p>, Memory>
+    requires sound { Sound m.old }
+    requires operand { Owns (arena_in m.old) operand }
+    ensures { GoesToValue result m.new m.old (unary_row place (unary_operator_of op) (value_of (arena_in m.old) operand)) }
+{
+    settle(star_ops::unary(
+        &mut m.session.arena,
+        &mut m.session.work,
+        op,
+        operand,
+        place,
+    ))
+}
+
+/// What an operator between these operands gives.
+pub(crate) fn operated<'p>(
+    m: &mut Machine<'p>,
+    place: Place,
+    op: BinOp,
+    left: Value,
+    right: Value,
+) -> Result<Control<'p>, Memory>
+    requires sound { Sound m.old }
+    requires left { Owns (arena_in m.old) left }
+    requires right { Owns (arena_in m.old) right }
+    ensures { GoesToValue result m.new m.old (binary_row place (binary_operator_of op) (value_of (arena_in m.old) left) (value_of (arena_in m.old) right)) }
+{
+    settle(star_ops::binary(
+        &mut m.session.arena,
+        &mut m.session.work,
+        op,
+        left,
+        right,
+        place,
+    ))
 }

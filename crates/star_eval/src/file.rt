@@ -5,16 +5,16 @@ ghost use Rattle.ytt_base.specs.declared.fault.Stop.TheVariants as stop;
 ghost use Rattle.ytt_base.specs.Outcomes.{fault_of};
 ghost use Rattle.code_spec.specs.Scopes.{program_names};
 ghost use Rattle.star_tree.specs.Whole.{program_of};
-ghost use Rattle.plain_build.specs.View.{nodes_of};
-ghost use Rattle.star_resolve.specs.Frames.{unset_boxes};
+ghost use Rattle.node_build.specs.View.{nodes_of};
 ghost use Rattle.star_resolve.specs.Variables.{each_once};
 ghost use Rattle.star_eval.specs.FileRun.{LeftBy, RunsAs};
-ghost use Rattle.star_eval.specs.View.{store_of};
+ghost use Rattle.star_eval.specs.Meets.{arena_of};
 
 use crate::looped::{Finished, run_block};
-use crate::session::{Session, Slot};
-use plain_build::Builder;
-use sqlite_items::Items;
+use crate::scope::open_scope;
+use crate::session::Session;
+use node_build::Builder;
+use object_arena::{Arena, Work};
 use star_blocks::nest;
 use star_resolve::Resolved;
 use std::alloc::Global;
@@ -27,17 +27,6 @@ use ytt_base::tree::Trees;
 pub struct FlatResult {
     pub documents: Trees,
     pub steps_left: u64,
-}
-
-/// So many boxes without values.
-fn unset(alloc: Global, count: usize) -> Result<Items<Slot>, Memory>
-    ensures { IfOk result (λ slots. store_of slots ≡ unset_boxes count) }
-{
-    let mut slots = Items::new(alloc);
-    for _ in 0..count {
-        slots.push(Slot { value: None })?;
-    }
-    Ok(slots)
 }
 
 /// The refusal of a program in no proper form, of no place.
@@ -53,7 +42,7 @@ fn ill_formed(alloc: Global) -> Stop
 
 /// What a block left: its documents and its steps, or its fault.
 fn left(alloc: Global, finished: Finished) -> Result<FlatResult, Stop>
-    ensures { LeftBy finished.result (nodes_of finished.nodes) finished.session.steps result }
+    ensures { LeftBy finished.result (nodes_of (arena_of finished.session) finished.nodes) finished.session.work.steps result }
 {
     let Finished {
         session,
@@ -63,7 +52,7 @@ fn left(alloc: Global, finished: Finished) -> Result<FlatResult, Stop>
     match result {
         Ok(_flow) => Ok(FlatResult {
             documents: nodes.documents(alloc)?,
-            steps_left: session.steps,
+            steps_left: session.work.steps,
         }),
         Err(fault) => Err(Stop::Fault(fault)),
     }
@@ -85,16 +74,12 @@ pub fn run_flat(alloc: Global, resolved: &Resolved, steps: u64) -> Result<FlatRe
         Some(block) => block,
         None => return Err(ill_formed(alloc)),
     };
-    let store = unset(alloc, resolved.globals.len())?;
-    let session = Session { store, steps };
-    let nodes = Builder::new(alloc)?;
-    let finished = run_block(
-        alloc,
-        program.file,
-        block.as_slice(),
-        &resolved.globals,
-        session,
-        nodes,
-    )?;
+    let mut arena = Arena::new(alloc);
+    let scope = open_scope(alloc, &mut arena, &resolved.globals)?;
+    let work = Work { steps, depth: 0 };
+    let session = Session { arena, work };
+    let nodes = Builder::new(alloc);
+    let file = program.file;
+    let finished = run_block(alloc, file, block.as_slice(), scope, session, nodes)?;
     left(alloc, finished)
 }

@@ -1,13 +1,12 @@
 // Frames, and the state of the loop.
 
 use crate::session::Session;
-use plain_build::Builder;
-use plain_ops::Value;
+use crate::source::Source;
+use node_build::Builder;
+use object_arena::{Boxes, Ref, Value, Values};
 use sqlite_items::Items;
 use star_blocks::{Arm, Op};
-use star_resolve::Scope;
 use star_tree::code::{BinOp, Expr, UnOp};
-use std::rc::Rc;
 use ytt_base::fault::{Fault, Place};
 use ytt_base::text::Text;
 
@@ -20,6 +19,13 @@ pub enum Flow {
     Return(Value),
 }
 
+/// What members are gathered for.
+#[derive(Clone, Copy)]
+pub(crate) enum Gathering {
+    Tuple,
+    List,
+}
+
 /// What goes on from a value to a value.
 #[derive(Drop)]
 pub(crate) enum InValue<'p> {
@@ -29,14 +35,16 @@ pub(crate) enum InValue<'p> {
     Operate(Place, BinOp, Value),
     /// The operation on one operand.
     OperateOn(Place, UnOp),
-    /// These further members of a tuple, behind these values.
-    Member(&'p [Expr], Items<Value>),
+    /// These further members of a display, behind these values.
+    Member(Gathering, &'p [Expr], Values),
     /// This value instead, where the one that comes is true.
     AndThen(&'p Expr),
     /// This value instead, where the one that comes is false.
     OrElse(&'p Expr),
     /// One of two expressions.
     Choose(&'p Expr, &'p Expr),
+    /// These further targets, for these members from this one on, whatever value comes.
+    Targets(Place, &'p [Expr], Source),
 }
 
 /// What goes on from a value to the end of a statement, or of a part of a node.
@@ -52,6 +60,8 @@ pub(crate) enum InStatement<'p> {
     Branch(&'p [Op], &'p [Arm]),
     /// The loop over the members of a value, with its target and its block.
     Walk(Place, &'p Expr, &'p [Op]),
+    /// The block of a turn, whatever value comes.
+    Enter(&'p [Op]),
     /// The node that takes the value over.
     Take,
 }
@@ -59,10 +69,12 @@ pub(crate) enum InStatement<'p> {
 /// What goes on from the end of a statement, or of a turn of a loop.
 #[derive(Drop)]
 pub(crate) enum InBlock<'p> {
-    /// The turns of a loop for the members from this one on.
-    Turn(Place, &'p Expr, &'p [Op], Rc<Items<Value>>, usize),
+    /// The turns of a loop for the members that are left.
+    Turn(Place, &'p Expr, &'p [Op], Source),
     /// These statements.
     Rest(&'p [Op]),
+    /// The end of a walk over an object.
+    WalkEnd(Ref),
 }
 
 /// What waits for a value or for the end of a block.
@@ -84,6 +96,8 @@ pub(crate) enum Control<'p> {
     Went(Flow),
     /// A fault in the place of the end of a block.
     Left(Fault),
+    /// A target of a statement at a place gets a value; None is given then.
+    Assign(Place, &'p Expr, Value),
 }
 
 /// All else: the number of the file, the scope, the session, the open nodes, and what waits, the innermost frame
@@ -91,7 +105,7 @@ pub(crate) enum Control<'p> {
 #[derive(Drop)]
 pub(crate) struct Machine<'p> {
     pub file: u32,
-    pub env: &'p Scope,
+    pub scope: Boxes,
     pub session: Session,
     pub nodes: Builder,
     pub frames: Items<Frame<'p>>,

@@ -1,156 +1,131 @@
 // What goes on from a value.
-ghost use Rattle.std.specs.Prelude.{◌≡◌, ◌∷◌, [], reverse, IfOk, List};
-ghost use Rattle.operator_spec.specs.Operators.{binary_row, unary_row};
-ghost use Rattle.star_tree.specs.Whole.{binary_operator_of, unary_operator_of};
-ghost use Rattle.plain_ops.specs.View.{value_of};
-ghost use Rattle.plain_build.specs.Parts.{taking};
+ghost use Rattle.std.specs.Prelude.{◌≡◌, ◌∷◌, IfOk};
+ghost use Rattle.star_values.specs.Owns.{Owns};
+ghost use Rattle.star_values.specs.View.{value_of};
+ghost use Rattle.node_build.specs.Parts.{taking};
 ghost use Rattle.star_eval.specs.declared.frame.Control.TheVariants as control;
-ghost use Rattle.star_eval.specs.Frames.{Goes, GoesToFlow, GoesToValue, around_flow, around_value, budget, env_in, inside, nodes_in, statement_goes, value_goes};
-ghost use Rattle.star_eval.specs.Meets.{state_of};
+ghost use Rattle.star_eval.specs.Frames.{Goes, GoesToFlow, GoesToValue, inside};
+ghost use Rattle.star_eval.specs.View.{OwnsFrame, OwnsInStatement, OwnsInValue, Sound, arena_in, env_of, frame_of, nodes_in, statement_frame, value_frame, waiting_in};
+ghost use Rattle.star_eval.specs.Waiting.{statement_goes, value_goes};
 
-use crate::assign::{assign_to, augmented};
-use crate::eval::values_from;
+use crate::assign::{augmented, next_target};
+use crate::eval::{gather, operated, operated_on};
 use crate::frame::{Control, Flow, Frame, InStatement, InValue, Machine};
-use crate::machine::{ill_flow, push};
-use crate::operate::{operate, operate_on};
+use crate::machine::{form_fault, push, settle_flow};
 use crate::run::choose;
 use crate::walk::walk;
-use plain_ops::{Value, truth};
-use star_tree::code::{BinOp, UnOp};
-use std::alloc::Global;
-use ytt_base::fault::{Place, Stop};
+use crate::went::leave_block;
+use object_arena::Value;
+use star_ops::truth;
 use ytt_base::text::Memory;
 
 /// A frame with this value in its hole.
 pub(crate) fn give<'p>(
-    alloc: Global,
     m: &mut Machine<'p>,
     frame: Frame<'p>,
     value: Value,
 ) -> Result<Control<'p>, Memory>
-    ensures { IfOk result (λ c. Goes m.new c (inside m.old (frame.entry ∷ reverse m.old.frames) (control.Gave value)) (budget m.old 11)) }
+    requires sound { Sound m.old }
+    requires frame { OwnsFrame (arena_in m.old) frame }
+    requires value { Owns (arena_in m.old) value }
+    ensures { IfOk result (λ c. Goes m.new c (inside m.old (frame_of (arena_in m.old) m.old.file frame.entry ∷ waiting_in m.old) (control.Gave value))) }
 {
     match frame {
-        Frame::Value(inner) => give_value(alloc, m, inner, value),
-        Frame::Statement(inner) => give_statement(alloc, m, inner, value),
-        Frame::Block(_inner) => Ok(ill_flow(alloc)),
+        Frame::Value(inner) => give_value(m, inner, value),
+        Frame::Statement(inner) => give_statement(m, inner, value),
+        Frame::Block(inner) => {
+            let fault = form_fault(&m.session.arena);
+            Ok(leave_block(m, inner, fault))
+        }
     }
 }
 
 /// A value in an expression.
 fn give_value<'p>(
-    alloc: Global,
     m: &mut Machine<'p>,
     frame: InValue<'p>,
     value: Value,
 ) -> Result<Control<'p>, Memory>
-    ensures { GoesToValue result m.new m.old (value_goes m.old.file (env_in m.old) frame.entry (value_of value)) }
+    requires sound { Sound m.old }
+    requires frame { OwnsInValue (arena_in m.old) frame }
+    requires value { Owns (arena_in m.old) value }
+    ensures { GoesToValue result m.new m.old (value_goes (env_of m.old) (value_frame (arena_in m.old) m.old.file frame.entry) (value_of (arena_in m.old) value)) }
 {
     match frame {
         InValue::Right(place, op, right) => {
             let frame = Frame::Value(InValue::Operate(place, op, value));
             push(m, frame, Control::Eval(right))
         }
-        InValue::Operate(place, op, left) => operated(alloc, m, place, op, &left, &value),
-        InValue::OperateOn(place, op) => operated_on(alloc, m, place, op, &value),
-        InValue::Member(rest, mut values) => {
+        InValue::Operate(place, op, left) => operated(m, place, op, left, value),
+        InValue::OperateOn(place, op) => operated_on(m, place, op, value),
+        InValue::Member(gathering, rest, mut values) => {
             values.push(value)?;
-            values_from(alloc, m, rest, values)
+            gather(m, gathering, rest, values)
         }
         InValue::AndThen(other) => {
-            if truth(&value) {
+            if truth(&m.session.arena, value) {
                 Ok(Control::Eval(other))
             } else {
                 Ok(Control::Gave(value))
             }
         }
         InValue::OrElse(other) => {
-            if truth(&value) {
+            if truth(&m.session.arena, value) {
                 Ok(Control::Gave(value))
             } else {
                 Ok(Control::Eval(other))
             }
         }
         InValue::Choose(yes, no) => {
-            if truth(&value) {
+            if truth(&m.session.arena, value) {
                 Ok(Control::Eval(yes))
             } else {
                 Ok(Control::Eval(no))
             }
         }
+        InValue::Targets(place, targets, source) => next_target(m, place, targets, source),
     }
 }
 
 /// A value in a statement, or in a node.
 fn give_statement<'p>(
-    alloc: Global,
     m: &mut Machine<'p>,
     frame: InStatement<'p>,
     value: Value,
 ) -> Result<Control<'p>, Memory>
-    ensures { GoesToFlow result m.new m.old (statement_goes m.old.file (env_in m.old) frame.entry (value_of value) (nodes_in m.old)) }
+    requires sound { Sound m.old }
+    requires frame { OwnsInStatement (arena_in m.old) frame }
+    requires value { Owns (arena_in m.old) value }
+    ensures { GoesToFlow result m.new m.old (statement_goes (env_of m.old) (statement_frame (arena_in m.old) m.old.file frame.entry) (value_of (arena_in m.old) value) (nodes_in m.old)) }
 {
     match frame {
         InStatement::Discard => Ok(Control::Went(Flow::On)),
-        InStatement::AssignTo(place, target) => assign_to(alloc, m, place, target, value),
+        InStatement::AssignTo(place, target) => {
+            let frame = Frame::Statement(InStatement::Discard);
+            push(m, frame, Control::Assign(place, target, value))
+        }
         InStatement::Augment(place, op, at, name, old) => {
-            augmented(alloc, m, place, op, at, name, &old, &value)
+            augmented(m, place, op, at, name, old, value)
         }
         InStatement::Return => Ok(Control::Went(Flow::Return(value))),
         InStatement::Branch(body, more) => {
-            if truth(&value) {
+            if truth(&m.session.arena, value) {
                 Ok(Control::Run(body))
             } else {
                 choose(m, more)
             }
         }
-        InStatement::Walk(place, target, body) => walk(alloc, m, place, target, body, value),
-        InStatement::Take => take(alloc, m, &value),
+        InStatement::Walk(place, target, body) => walk(m, place, target, body, value),
+        InStatement::Enter(body) => Ok(Control::Run(body)),
+        InStatement::Take => take(m, value),
     }
 }
 
 /// The value of the innermost open node.
-fn take<'p>(alloc: Global, m: &mut Machine<'p>, value: &Value) -> Result<Control<'p>, Memory>
-    ensures { GoesToFlow result m.new m.old (taking (value_of value.now) (nodes_in m.old)) }
+fn take<'p>(m: &mut Machine<'p>, value: Value) -> Result<Control<'p>, Memory>
+    requires sound { Sound m.old }
+    requires value { Owns (arena_in m.old) value }
+    ensures { GoesToFlow result m.new m.old (taking (value_of (arena_in m.old) value) (nodes_in m.old)) }
 {
-    match m.nodes.value(alloc, value, &mut m.session.steps) {
-        Ok(_) => Ok(Control::Went(Flow::On)),
-        Err(Stop::Fault(fault)) => Ok(Control::Left(fault)),
-        Err(Stop::Memory) => Err(Memory),
-    }
-}
-
-/// What an operator between these operands gives.
-fn operated<'p>(
-    alloc: Global,
-    m: &mut Machine<'p>,
-    place: Place,
-    op: BinOp,
-    left: &Value,
-    right: &Value,
-) -> Result<Control<'p>, Memory>
-    ensures { GoesToValue result m.new m.old (binary_row place (binary_operator_of op) (value_of left.now) (value_of right.now)) }
-{
-    match operate(alloc, place, op, left, right, &mut m.session) {
-        Ok(value) => Ok(Control::Gave(value)),
-        Err(Stop::Fault(fault)) => Ok(Control::Failed(fault)),
-        Err(Stop::Memory) => Err(Memory),
-    }
-}
-
-/// What an operator before this operand gives.
-fn operated_on<'p>(
-    alloc: Global,
-    m: &mut Machine<'p>,
-    place: Place,
-    op: UnOp,
-    operand: &Value,
-) -> Result<Control<'p>, Memory>
-    ensures { GoesToValue result m.new m.old (unary_row place (unary_operator_of op) (value_of operand.now)) }
-{
-    match operate_on(alloc, place, op, operand, &mut m.session) {
-        Ok(value) => Ok(Control::Gave(value)),
-        Err(Stop::Fault(fault)) => Ok(Control::Failed(fault)),
-        Err(Stop::Memory) => Err(Memory),
-    }
+    settle_flow(m.nodes.value(&m.session.arena, &mut m.session.work, value))
 }

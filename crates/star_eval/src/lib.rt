@@ -2,12 +2,11 @@
 //! program, so no nesting costs the machine's stack.
 //!
 //! `run_flat` gives the documents that a program means and the steps that are left, or the fault that it ends with, where all of the
-//! program is built. What each frame waits for is the definitions' continuation: each step keeps what the machine stands for
-//! (`specs/Frames`) and leaves less to do. What parts of nodes build is `plain_build`'s.
+//! program is built. Frames are seen as plain data (`specs/Waiting`), and each step keeps what the machine stands for
+//! (`specs/Frames`). What parts of nodes build is `node_build`'s.
 #![tactic(auto)]
 
 mod assign;
-mod build;
 mod eval;
 mod file;
 mod frame;
@@ -15,10 +14,12 @@ mod give;
 mod looped;
 mod machine;
 mod names;
-mod operate;
-mod refusals;
+mod numbers;
+mod parts;
 mod run;
+mod scope;
 mod session;
+mod source;
 mod walk;
 mod went;
 

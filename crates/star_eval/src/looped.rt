@@ -1,33 +1,35 @@
 // The loop.
-ghost use Rattle.std.specs.Prelude.{◌≡◌, ◌∷◌, [], reverse, List, IfOk, IsTrue, true, false};
+ghost use Rattle.std.specs.Prelude.{◌≡◌, [], List, IfOk, true, false};
 ghost use Rattle.ytt_base.specs.declared.fault.FaultKind.TheVariants as kind;
-ghost use Rattle.ytt_base.specs.Outcomes.{fault_of};
-ghost use Rattle.star_blocks.specs.Nested.{ops_of};
 ghost use Rattle.code_spec.specs.Code.{Name};
+ghost use Rattle.code_spec.specs.Unbuilt.{unbuilt_ops};
+ghost use Rattle.node_build.specs.View.{OwnsNodes, nodes_of};
+ghost use Rattle.star_blocks.specs.Nested.{ops_of};
 ghost use Rattle.star_spec.specs.Eval.{starlark};
 ghost use Rattle.star_spec.specs.Language.{Call};
-ghost use Rattle.code_spec.specs.Unbuilt.{unbuilt_ops};
-ghost use Rattle.plain_build.specs.View.{nodes_of};
+ghost use Rattle.star_values.specs.Objects.{env_in};
+ghost use Rattle.star_values.specs.Owns.{OwnsEnv};
 ghost use Rattle.template_meaning.specs.Run.{runs};
-ghost use Rattle.star_eval.specs.Frames.{Goes, flow_ending_of, flow_ends, inside, is_active, means, work};
-ghost use Rattle.star_eval.specs.Meets.{Here, state_of};
-ghost use Rattle.star_eval.specs.View.{env_of};
+ghost use Rattle.star_eval.specs.Frames.{Goes, flow_ending_of, is_active, means};
+ghost use Rattle.star_eval.specs.Meets.{Here, arena_of, state_of};
+ghost use Rattle.star_eval.specs.View.{OwnsControl, Sound, arena_in};
+ghost use Rattle.star_eval.specs.Waiting.{flow_ends};
 
+use crate::assign::assign;
 use crate::eval::eval;
 use crate::frame::{Control, Flow, Machine};
 use crate::give::give;
+use crate::machine::form_fault;
 use crate::run::run;
 use crate::session::Session;
 use crate::went::{fail, leave, went};
-use plain_build::Builder;
-use plain_ops::Value;
+use node_build::Builder;
+use object_arena::Boxes;
 use sqlite_items::Items;
 use star_blocks::Op;
-use star_resolve::Scope;
-use star_tree::code::Expr;
 use std::alloc::Global;
-use ytt_base::fault::{Fault, FaultKind};
-use ytt_base::text::{Memory, Text};
+use ytt_base::fault::Fault;
+use ytt_base::text::Memory;
 
 /// A machine with nothing more to do.
 #[derive(Drop)]
@@ -47,62 +49,59 @@ fn goes_on<'p>(m: &Machine<'p>, control: &Control<'p>) -> bool
         Control::Run(_) => true,
         Control::Went(_) => !m.frames.is_empty(),
         Control::Left(_) => !m.frames.is_empty(),
+        Control::Assign(_, _, _) => true,
     }
 }
 
 /// One step, where there is more to do.
-fn step<'p>(alloc: Global, m: &mut Machine<'p>, control: Control<'p>) -> Result<Control<'p>, Memory>
-    requires { is_active m.old control ≡ true }
-    ensures { IfOk result (λ c. Goes m.new c (means m.old control.entry) (work m.old control.entry)) }
+fn step<'p>(m: &mut Machine<'p>, control: Control<'p>) -> Result<Control<'p>, Memory>
+    requires active { is_active m.old control ≡ true }
+    requires sound { Sound m.old }
+    requires control { OwnsControl (arena_in m.old) control }
+    ensures { IfOk result (λ c. Goes m.new c (means m.old control.entry)) }
 {
     match control {
-        Control::Eval(expr) => eval(alloc, m, expr),
+        Control::Eval(expr) => eval(m, expr),
         Control::Gave(value) => match m.frames.pop() {
             None => Ok(Control::Gave(value)),
-            Some(frame) => give(alloc, m, frame, value),
+            Some(frame) => give(m, frame, value),
         },
         Control::Failed(fault) => match m.frames.pop() {
             None => Ok(Control::Failed(fault)),
             Some(frame) => Ok(fail(m, frame, fault)),
         },
-        Control::Run(block) => run(alloc, m, block),
+        Control::Run(block) => run(m, block),
         Control::Went(flow) => match m.frames.pop() {
             None => Ok(Control::Went(flow)),
-            Some(frame) => went(alloc, m, frame, flow),
+            Some(frame) => went(m, frame, flow),
         },
         Control::Left(fault) => match m.frames.pop() {
             None => Ok(Control::Left(fault)),
             Some(frame) => Ok(leave(m, frame, fault)),
         },
+        Control::Assign(place, target, value) => assign(m, place, target, value),
     }
 }
 
-/// Goes on until there is nothing more to do.
-fn run_down<'p>(
-    alloc: Global,
-    machine: Machine<'p>,
-    start: Control<'p>,
-) -> Result<Stopped<'p>, Memory>
+/// Goes on until there is nothing more to do. No run takes as many turns as a count of 64 bits has; the steps end it long
+/// before.
+fn run_down<'p>(machine: Machine<'p>, start: Control<'p>) -> Result<Stopped<'p>, Memory>
+    requires sound { Sound machine }
+    requires control { OwnsControl (arena_in machine) start }
     ensures same { IfOk result (λ e. means e.machine e.control ≡ means machine.entry start.entry) }
     ensures over { IfOk result (λ e. is_active e.machine e.control ≡ false) }
 {
     let mut machine = machine;
     let mut control = start;
+    let mut turns_left = u64::MAX;
     while goes_on(&machine, &control) {
-        control = step(alloc, &mut machine, control)?;
+        if turns_left == 0 {
+            return Err(Memory);
+        }
+        turns_left -= 1;
+        control = step(&mut machine, control)?;
     }
     Ok(Stopped { machine, control })
-}
-
-/// A fault of a program in no proper form, of no place.
-fn form(alloc: Global) -> Fault
-    ensures { result ≡ fault_of kind.CodeForm }
-{
-    Fault {
-        kind: FaultKind::CodeForm,
-        place: None,
-        detail: Text::new(alloc),
-    }
 }
 
 /// How a block ended: the session after it with the nodes that are open then, and how it was left or its fault.
@@ -114,18 +113,20 @@ pub(crate) struct Finished {
 }
 
 /// How a block ended, where there is nothing more to do.
-fn flow_at_end<'p>(alloc: Global, machine: Machine<'p>, control: Control<'p>) -> Finished
+fn flow_at_end<'p>(machine: Machine<'p>, control: Control<'p>) -> Finished
     requires { is_active machine control ≡ false }
-    ensures { flow_ending_of result.result (nodes_of result.nodes) (state_of result.session) ≡ flow_ends (means machine.entry control.entry) }
+    ensures { flow_ending_of (arena_of result.session) result.result (nodes_of (arena_of result.session) result.nodes) (state_of result.session) ≡ flow_ends (means machine.entry control.entry) }
 {
+    let form = form_fault(&machine.session.arena);
     let Machine { session, nodes, .. } = machine;
     let result = match control {
         Control::Went(flow) => Ok(flow),
         Control::Failed(fault) => Err(fault),
         Control::Left(fault) => Err(fault),
-        Control::Eval(_expr) => Err(form(alloc)),
-        Control::Run(_block) => Err(form(alloc)),
-        Control::Gave(_value) => Err(form(alloc)),
+        Control::Eval(_expr) => Err(form),
+        Control::Run(_block) => Err(form),
+        Control::Gave(_value) => Err(form),
+        Control::Assign(_place, _target, _value) => Err(form),
     };
     Finished {
         session,
@@ -139,19 +140,21 @@ pub(crate) fn run_block(
     alloc: Global,
     file: u32,
     block: &[Op],
-    env: &Scope,
+    scope: Boxes,
     session: Session,
     nodes: Builder,
 ) -> Result<Finished, Memory>
-    ensures { IfOk result (λ e. (call : Call Here) (bound : List Name) → unbuilt_ops bound (ops_of file block.now) ≡ [] → flow_ending_of e.result (nodes_of e.nodes) (state_of e.session) ≡ runs starlark call (ops_of file block.now) (env_of env.now) (nodes_of nodes) (state_of session)) }
+    requires scope { OwnsEnv (arena_of session) scope }
+    requires nodes { OwnsNodes (arena_of session) nodes }
+    ensures { IfOk result (λ e. (call : Call Here) (bound : List Name) → unbuilt_ops bound (ops_of file block.now) ≡ [] → flow_ending_of (arena_of e.session) e.result (nodes_of (arena_of e.session) e.nodes) (state_of e.session) ≡ runs starlark call (ops_of file block.now) (env_in (arena_of session).held scope) (nodes_of (arena_of session) nodes) (state_of session)) }
 {
     let machine = Machine {
         file,
-        env,
+        scope,
         session,
         nodes,
         frames: Items::new(alloc),
     };
-    let Stopped { machine, control } = run_down(alloc, machine, Control::Run(block))?;
-    Ok(flow_at_end(alloc, machine, control))
+    let Stopped { machine, control } = run_down(machine, Control::Run(block))?;
+    Ok(flow_at_end(machine, control))
 }

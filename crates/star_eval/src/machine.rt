@@ -1,13 +1,15 @@
-// Frames that are put on others, and ways to end.
-ghost use Rattle.std.specs.Prelude.{◌≡◌, ◌++◌, ◌∷◌, [], ◌+◌, List, reverse, IfOk};
+// What is put on others, and ways to end.
+ghost use Rattle.std.specs.Prelude.{◌≡◌, ◌∷◌, IfOk};
 ghost use Rattle.ytt_base.specs.declared.fault.FaultKind.TheVariants as kind;
 ghost use Rattle.ytt_base.specs.Outcomes.{fault_at, fault_of};
 ghost use Rattle.star_eval.specs.declared.frame.Control.TheVariants as control;
-ghost use Rattle.star_eval.specs.Frames.{Goes, inside, work};
+ghost use Rattle.star_eval.specs.Frames.{Goes, inside};
+ghost use Rattle.star_eval.specs.Settled.{Settles, SettlesFlow, SettlesNone};
+ghost use Rattle.star_eval.specs.View.{OwnsControl, OwnsFrame, Sound, arena_in, frame_of, waiting_in};
 
-use crate::frame::{Control, Frame, Machine};
-use std::alloc::Global;
-use ytt_base::fault::{Fault, FaultKind, Place};
+use crate::frame::{Control, Flow, Frame, Machine};
+use object_arena::{Arena, Value};
+use ytt_base::fault::{Fault, FaultKind, Place, Stop};
 use ytt_base::text::{Memory, Text};
 
 /// Puts a frame on the others, and does this in it.
@@ -16,52 +18,94 @@ pub(crate) fn push<'p>(
     frame: Frame<'p>,
     control: Control<'p>,
 ) -> Result<Control<'p>, Memory>
-    ensures { IfOk result (λ c. Goes m.new c (inside m.old (frame.entry ∷ reverse m.old.frames) control.entry) (work m.old control.entry + 5)) }
+    requires sound { Sound m.old }
+    requires frame { OwnsFrame (arena_in m.old) frame }
+    requires control { OwnsControl (arena_in m.old) control }
+    ensures { IfOk result (λ c. Goes m.new c (inside m.old (frame_of (arena_in m.old) m.old.file frame.entry ∷ waiting_in m.old) control.entry)) }
 {
     m.frames.push(frame)?;
     Ok(control)
 }
 
-/// A fault of this kind at a place, without a detail.
-pub(crate) fn failed<'p>(alloc: Global, kind: FaultKind, place: Place) -> Control<'p>
-    ensures { result ≡ control.Failed (fault_at kind place) }
+/// What a call that gives a value comes to.
+pub(crate) fn settle<'p>(given: Result<Value, Stop>) -> Result<Control<'p>, Memory>
+    ensures { Settles given result }
 {
-    Control::Failed(Fault {
+    match given {
+        Ok(value) => Ok(Control::Gave(value)),
+        Err(Stop::Fault(fault)) => Ok(Control::Failed(fault)),
+        Err(Stop::Memory) => Err(Memory),
+    }
+}
+
+/// The same of a call that gives nothing, in the place of a value.
+pub(crate) fn settle_none<'p>(done: Result<(), Stop>) -> Result<Control<'p>, Memory>
+    ensures { SettlesNone done result }
+{
+    match done {
+        Ok(_) => Ok(Control::Gave(Value::None)),
+        Err(Stop::Fault(fault)) => Ok(Control::Failed(fault)),
+        Err(Stop::Memory) => Err(Memory),
+    }
+}
+
+/// The same in the place of the end of a statement.
+pub(crate) fn settle_flow<'p>(done: Result<(), Stop>) -> Result<Control<'p>, Memory>
+    ensures { SettlesFlow done result }
+{
+    match done {
+        Ok(_) => Ok(Control::Went(Flow::On)),
+        Err(Stop::Fault(fault)) => Ok(Control::Left(fault)),
+        Err(Stop::Memory) => Err(Memory),
+    }
+}
+
+/// A fault of this kind at a place.
+pub(crate) fn fault_at(arena: &Arena, kind: FaultKind, place: Place) -> Fault
+    ensures { result ≡ fault_at kind place }
+{
+    Fault {
         kind,
         place: Some(place),
-        detail: Text::new(alloc),
-    })
+        detail: Text::new(arena.alloc()),
+    }
 }
 
 /// The fault of a program in no proper form, of no place.
-pub(crate) fn ill_formed<'p>(alloc: Global) -> Control<'p>
-    ensures { result ≡ control.Failed (fault_of kind.CodeForm) }
+pub(crate) fn form_fault(arena: &Arena) -> Fault
+    ensures { result ≡ fault_of kind.CodeForm }
 {
-    Control::Failed(Fault {
+    Fault {
         kind: FaultKind::CodeForm,
         place: None,
-        detail: Text::new(alloc),
-    })
+        detail: Text::new(arena.alloc()),
+    }
+}
+
+/// A fault of this kind at a place, in the place of a value.
+pub(crate) fn failed<'p>(m: &Machine<'p>, kind: FaultKind, place: Place) -> Control<'p>
+    ensures { result ≡ control.Failed (fault_at kind place) }
+{
+    Control::Failed(fault_at(&m.session.arena, kind, place))
 }
 
 /// The same in the place of the end of a block.
-pub(crate) fn ill_flow<'p>(alloc: Global) -> Control<'p>
-    ensures { result ≡ control.Left (fault_of kind.CodeForm) }
-{
-    Control::Left(Fault {
-        kind: FaultKind::CodeForm,
-        place: None,
-        detail: Text::new(alloc),
-    })
-}
-
-/// A fault of this kind at a place, in the place of the end of a block.
-pub(crate) fn left<'p>(alloc: Global, kind: FaultKind, place: Place) -> Control<'p>
+pub(crate) fn left<'p>(m: &Machine<'p>, kind: FaultKind, place: Place) -> Control<'p>
     ensures { result ≡ control.Left (fault_at kind place) }
 {
-    Control::Left(Fault {
-        kind,
-        place: Some(place),
-        detail: Text::new(alloc),
-    })
+    Control::Left(fault_at(&m.session.arena, kind, place))
+}
+
+/// The fault of a program in no proper form, in the place of a value.
+pub(crate) fn ill_formed<'p>(m: &Machine<'p>) -> Control<'p>
+    ensures { result ≡ control.Failed (fault_of kind.CodeForm) }
+{
+    Control::Failed(form_fault(&m.session.arena))
+}
+
+/// The same in the place of the end of a block.
+pub(crate) fn ill_flow<'p>(m: &Machine<'p>) -> Control<'p>
+    ensures { result ≡ control.Left (fault_of kind.CodeForm) }
+{
+    Control::Left(form_fault(&m.session.arena))
 }

@@ -1,26 +1,40 @@
 // Names.
-ghost use Rattle.std.specs.Prelude.{◌≡◌, Some};
-ghost use Rattle.ytt_base.specs.declared.fault.Stop.TheVariants as stop;
-ghost use Rattle.star_spec.specs.Names.{constant, read_name, unbound, write_name};
+ghost use Rattle.std.specs.Prelude.{◌≡◌, ℕ};
+ghost use Rattle.star_spec.specs.Names.{box_of, constant, read_name, unbound, write_name};
+ghost use Rattle.star_values.specs.Objects.{env_in, seen};
+ghost use Rattle.star_values.specs.Owns.{Owns, OwnsEnv};
+ghost use Rattle.star_values.specs.View.{View, text_in, value_of};
 ghost use Rattle.value_spec.specs.Outcomes.{fail_with};
-ghost use Rattle.value_spec.specs.Store.{change, with_contents};
-ghost use Rattle.value_spec.specs.Values.{of_box};
-ghost use Rattle.plain_ops.specs.Meets.{Meets, Tells};
-ghost use Rattle.plain_ops.specs.View.{value_of};
-ghost use Rattle.star_eval.specs.Meets.{state_of};
-ghost use Rattle.star_eval.specs.View.{store_of};
+ghost use Rattle.star_steps.specs.Meets.{Gives, state_in};
+ghost use Rattle.star_eval.specs.Meets.{Acts, GivesFrom};
+ghost use Rattle.star_eval.specs.Scope.{OwnsBox, position_of};
 
-use crate::refusals::refusal;
-use crate::session::{Session, Slot};
-use plain_ops::Value;
+use crate::session::Session;
+use object_arena::{Arena, NamedBox, Ref, Value};
+use star_steps::refusal;
 use star_tree::names::is_own_function;
-use std::alloc::Global;
 use ytt_base::fault::{Fault, FaultKind, Place, Stop};
 use ytt_base::text::Text;
 
+/// The box of a name in a scope, if it has one there.
+pub(crate) fn find(arena: &Arena, scope: &[NamedBox], name: &Text) -> Option<Ref>
+    requires { OwnsEnv (seen arena.now) scope.now }
+    ensures at { position_of result ≡ box_of name.now (env_in (seen arena.now).held scope.now) }
+    ensures owned { OwnsBox (seen arena.now) result }
+{
+    let mut rest = scope;
+    while let [first, more @ ..] = rest {
+        if arena.text(first.name).as_str() == name.as_str() {
+            return Some(first.at);
+        }
+        rest = more;
+    }
+    None
+}
+
 /// The refusal of a name.
-pub(crate) fn refused(kind: FaultKind, place: Place, name: &Text) -> Result<Value, Stop>
-    ensures { Tells value_of result (fail_with kind place name.now) }
+fn refused(kind: FaultKind, place: Place, name: &Text) -> Result<Value, Stop>
+    ensures { (a : View) (n : ℕ) → Gives (fail_with kind place name.now (state_in a n)) result a a n }
 {
     let detail = name.copy()?;
     Err(Stop::Fault(Fault {
@@ -31,8 +45,8 @@ pub(crate) fn refused(kind: FaultKind, place: Place, name: &Text) -> Result<Valu
 }
 
 /// A name that has no box: one of the language's that is a value, or `NotBuilt` for one of its functions, or `NameUnknown`.
-fn unbound(alloc: Global, place: Place, name: &Text) -> Result<Value, Stop>
-    ensures { Tells value_of result (unbound place name.now (constant name.now)) }
+fn unbound(arena: &Arena, place: Place, name: &Text) -> Result<Value, Stop>
+    ensures { (a : View) (n : ℕ) → Gives (unbound place name.now (constant name.now) (state_in a n)) result a a n }
 {
     match name.as_str() {
         "None" => Ok(Value::None),
@@ -40,7 +54,7 @@ fn unbound(alloc: Global, place: Place, name: &Text) -> Result<Value, Stop>
         "False" => Ok(Value::Bool(false)),
         other => {
             if is_own_function(other) {
-                Err(refusal(alloc, FaultKind::NotBuilt, place))
+                Err(refusal(arena, FaultKind::NotBuilt, place))
             } else {
                 refused(FaultKind::NameUnknown, place, name)
             }
@@ -50,23 +64,19 @@ fn unbound(alloc: Global, place: Place, name: &Text) -> Result<Value, Stop>
 
 /// The value of a name: that of its box, or `NameUnset` where the box has none; without a box as `unbound` says.
 pub(crate) fn read(
-    alloc: Global,
     session: &Session,
+    scope: &[NamedBox],
     place: Place,
     name: &Text,
-    position: Option<usize>,
 ) -> Result<Value, Stop>
-    ensures { Meets value_of result (state_of session.now) (read_name place name.now position (state_of session.now)) }
+    requires { OwnsEnv (seen session.now.arena) scope.now }
+    ensures { GivesFrom (read_name place name.now (box_of name.now (env_in (seen session.now.arena).held scope.now))) result session.now session.now }
 {
-    let position = match position {
-        None => return unbound(alloc, place, name),
-        Some(position) => position,
-    };
-    match session.store.get(position) {
-        None => refused(FaultKind::NameUnset, place, name),
-        Some(slot) => match &slot.value {
+    match find(&session.arena, scope, name) {
+        None => unbound(&session.arena, place, name),
+        Some(at) => match session.arena.boxed(at) {
             None => refused(FaultKind::NameUnset, place, name),
-            Some(value) => Ok(value.share()?),
+            Some(value) => Ok(value),
         },
     }
 }
@@ -74,37 +84,27 @@ pub(crate) fn read(
 /// A name gets a value: `NameUnknown` where it has no box.
 pub(crate) fn write(
     session: &mut Session,
+    scope: &[NamedBox],
     place: Place,
     name: &Text,
-    position: Option<usize>,
     value: Value,
 ) -> Result<(), Stop>
-    ensures meaning { Meets (λ u. u) result (state_of session.new) (write_name place name.now (value_of value) position (state_of session.old)) }
-    ensures steps { session.new.steps ≡ session.old.steps }
+    requires scope { OwnsEnv (seen session.old.arena) scope.now }
+    requires value { Owns (seen session.old.arena) value }
+    ensures { Acts (write_name place name.now (value_of (seen session.old.arena) value) (box_of name.now (env_in (seen session.old.arena).held scope.now))) result session.new session.old }
 {
-    let position = match position {
+    match find(&session.arena, scope, name) {
         None => {
             let detail = name.copy()?;
-            return Err(Stop::Fault(Fault {
+            Err(Stop::Fault(Fault {
                 kind: FaultKind::NameUnknown,
                 place: Some(place),
                 detail,
-            }));
+            }))
         }
-        Some(position) => position,
-    };
-    fill(session, position, value);
-    Ok(())
-}
-
-/// A box gets a value.
-#[tactic(auto, using(crate::proofs::Boxes::filled, crate::proofs::Boxes::not_there))]
-fn fill(session: &mut Session, position: usize, value: Value)
-    ensures store { store_of session.new.store ≡ change (with_contents (of_box (Some (value_of value)))) position (store_of session.old.store) }
-    ensures steps { session.new.steps ≡ session.old.steps }
-{
-    if position < session.store.len() {
-        let slot = Slot { value: Some(value) };
-        session.store.set(position, slot);
+        Some(at) => {
+            session.arena.set_box(at, value);
+            Ok(())
+        }
     }
 }

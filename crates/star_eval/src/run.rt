@@ -1,25 +1,23 @@
-// Blocks.
-ghost use Rattle.std.specs.Prelude.{◌≡◌, Some, reverse, IfOk, List, ℕ, false};
-ghost use Rattle.ytt_base.specs.declared.fault.Place.{Place};
+// Blocks and statements.
+ghost use Rattle.std.specs.Prelude.{◌≡◌, Some, IfOk};
 ghost use Rattle.code_spec.specs.Code as plain;
-ghost use Rattle.value_spec.specs.Outcomes.{then_do};
+ghost use Rattle.star_blocks.specs.Nested.{arms_of, op_of, ops_of, statement_of};
+ghost use Rattle.star_spec.specs.Flow.{go_on};
 ghost use Rattle.star_tree.specs.Whole.{binary_operator_of, expr_of};
+ghost use Rattle.value_spec.specs.Outcomes.{then_do};
 ghost use Rattle.star_eval.specs.declared.frame.Control.TheVariants as control;
-ghost use Rattle.star_eval.specs.Frames.{GoesToFlowBy, Goes, GoesToFlow, around_flow, budget, env_in, means, nodes_in, statement_goes, work};
-ghost use Rattle.star_eval.specs.Meets.{state_of};
-ghost use Rattle.star_blocks.specs.Nested.{arms_of, ops_of, statement_of};
-ghost use Rattle.plain_build.specs.View.{nodes_of};
+ghost use Rattle.star_eval.specs.Frames.{Goes, GoesToFlow, means};
 ghost use Rattle.star_eval.specs.PartsSoFar.{arms_so_far, augmented, done_after, op_place, part_so_far, parts_so_far};
 ghost use Rattle.star_eval.specs.SoFar.{value_so_far};
-ghost use Rattle.star_eval.specs.Written.{begins_written};
+ghost use Rattle.star_eval.specs.View.{OwnsInStatement, Sound, arena_in, env_of, nodes_in, statement_frame};
+ghost use Rattle.star_eval.specs.Waiting.{statement_goes};
 
-use crate::build::{build, fill};
 use crate::frame::{Control, Flow, Frame, InBlock, InStatement, Machine};
 use crate::machine::{ill_flow, left, push};
 use crate::names::read;
+use crate::parts::node_part;
 use star_blocks::{Arm, Op, Statement};
 use star_tree::code::{BinOp, Expr};
-use std::alloc::Global;
 use ytt_base::fault::{FaultKind, Place, Stop};
 use ytt_base::text::{Memory, Text};
 
@@ -43,59 +41,61 @@ fn place_of(file: u32, statement: &Statement) -> Place
     Place { file, line }
 }
 
-/// A block, with the parts of nodes that have no code at its front. Each statement takes a step before it acts.
-pub(crate) fn run<'p>(
-    alloc: Global,
-    m: &mut Machine<'p>,
-    block: &'p [Op],
-) -> Result<Control<'p>, Memory>
-    ensures { IfOk result (λ c. Goes m.new c (means m.old (control.Run block.entry)) (work m.old (control.Run block.entry))) }
-{
-    match build(alloc, &mut m.nodes, &mut m.session, block) {
-        Ok(rest) => go(alloc, m, rest),
-        Err(Stop::Fault(fault)) => Ok(Control::Left(fault)),
-        Err(Stop::Memory) => Err(Memory),
-    }
-}
-
-/// A block that doesn't begin with a part of a node that has no code.
-fn go<'p>(alloc: Global, m: &mut Machine<'p>, block: &'p [Op]) -> Result<Control<'p>, Memory>
-    requires { (file : ℕ) → begins_written (ops_of file block.now) ≡ false }
-    ensures { GoesToFlowBy 10 result m.new m.old (parts_so_far (ops_of m.old.file block.now) (env_in m.old) (nodes_in m.old)) }
+/// A block: what stands first in it, and then the rest. Each statement takes a step before it acts.
+pub(crate) fn run<'p>(m: &mut Machine<'p>, block: &'p [Op]) -> Result<Control<'p>, Memory>
+    requires { Sound m.old }
+    ensures { IfOk result (λ c. Goes m.new c (means m.old (control.Run block.entry))) }
 {
     match block.split_first() {
         None => Ok(Control::Went(Flow::On)),
-        Some((Op::Code(statement), rest)) => {
-            m.frames.push(Frame::Block(InBlock::Rest(rest)))?;
-            begin(alloc, m, statement)
-        }
-        Some((Op::Node(part), rest)) => fill(alloc, m, part, rest),
+        Some((first, rest)) => run_first(m, first, rest),
     }
 }
 
-fn begin<'p>(
-    alloc: Global,
+/// What stands first in a block, and then the rest.
+fn run_first<'p>(m: &mut Machine<'p>, first: &'p Op, rest: &'p [Op]) -> Result<Control<'p>, Memory>
+    requires { Sound m.old }
+    ensures { GoesToFlow result m.new m.old (λ s. then_do (part_so_far (op_of m.old.file first.now) (env_of m.old) (nodes_in m.old) s) (go_on (parts_so_far (ops_of m.old.file rest.now) (env_of m.old)))) }
+{
+    match first {
+        Op::Node(part) => node_part(m, part, rest),
+        Op::Code(statement) => run_statement(m, statement, rest),
+    }
+}
+
+/// A statement, and then the rest of its block.
+fn run_statement<'p>(
     m: &mut Machine<'p>,
     statement: &'p Statement,
+    rest: &'p [Op],
 ) -> Result<Control<'p>, Memory>
-    ensures { GoesToFlowBy 6 result m.new m.old (part_so_far (statement_of m.old.file statement.now) (env_in m.old) (nodes_in m.old)) }
+    requires { Sound m.old }
+    ensures { GoesToFlow result m.new m.old (λ s. then_do (part_so_far (statement_of m.old.file statement.now) (env_of m.old) (nodes_in m.old) s) (go_on (parts_so_far (ops_of m.old.file rest.now) (env_of m.old)))) }
+{
+    m.frames.push(Frame::Block(InBlock::Rest(rest)))?;
+    begin(m, statement)
+}
+
+fn begin<'p>(m: &mut Machine<'p>, statement: &'p Statement) -> Result<Control<'p>, Memory>
+    requires { Sound m.old }
+    ensures { GoesToFlow result m.new m.old (part_so_far (statement_of m.old.file statement.now) (env_of m.old) (nodes_in m.old)) }
 {
     let place = place_of(m.file, statement);
-    if m.session.steps == 0 {
-        return Ok(left(alloc, FaultKind::Steps, place));
+    if m.session.work.steps == 0 {
+        return Ok(left(m, FaultKind::Steps, place));
     }
-    m.session.steps -= 1;
-    act(alloc, m, place, statement)
+    m.session.work.steps -= 1;
+    act(m, place, statement)
 }
 
 /// What a statement does after its step at this place.
 fn act<'p>(
-    alloc: Global,
     m: &mut Machine<'p>,
     place: Place,
     statement: &'p Statement,
 ) -> Result<Control<'p>, Memory>
-    ensures { GoesToFlow result m.new m.old (done_after place (statement_of m.old.file statement.now) (env_in m.old) (nodes_in m.old)) }
+    requires { Sound m.old }
+    ensures { GoesToFlow result m.new m.old (done_after place (statement_of m.old.file statement.now) (env_of m.old) (nodes_in m.old)) }
 {
     match statement {
         Statement::Expr(_, expr) => within(m, InStatement::Discard, expr.get()),
@@ -107,7 +107,7 @@ fn act<'p>(
                 file: m.file,
                 line: *line,
             };
-            augment(alloc, m, at, *op, target.get(), expr.get())
+            augment(m, at, *op, target.get(), expr.get())
         }
         Statement::Load(_, _, _) => Ok(Control::Went(Flow::On)),
         Statement::Return(_, expr) => within(m, InStatement::Return, expr.get()),
@@ -119,69 +119,74 @@ fn act<'p>(
             let frame = InStatement::Walk(place, target.get(), body.as_slice());
             within(m, frame, expr.get())
         }
-        Statement::Def(_, _, _, _, _, _) => Ok(left(alloc, FaultKind::NotBuilt, place)),
+        Statement::Def(_, _, _, _, _, _) => Ok(left(m, FaultKind::NotBuilt, place)),
     }
 }
 
 /// An expression in a statement.
-fn within<'p>(
+pub(crate) fn within<'p>(
     m: &mut Machine<'p>,
     frame: InStatement<'p>,
     expr: &'p Expr,
 ) -> Result<Control<'p>, Memory>
-    ensures { GoesToFlow result m.new m.old (λ s. then_do (value_so_far (expr_of m.old.file expr.now) (env_in m.old) s) (λ v. statement_goes m.old.file (env_in m.old) frame.entry v (nodes_in m.old))) }
+    requires sound { Sound m.old }
+    requires frame { OwnsInStatement (arena_in m.old) frame }
+    ensures { GoesToFlow result m.new m.old (λ s. then_do (value_so_far (expr_of m.old.file expr.now) (env_of m.old) s) (λ v. statement_goes (env_of m.old) (statement_frame (arena_in m.old) m.old.file frame.entry) v (nodes_in m.old))) }
 {
     push(m, Frame::Statement(frame), Control::Eval(expr))
 }
 
 /// An augmented assignment, with its operator at this place.
 fn augment<'p>(
-    alloc: Global,
     m: &mut Machine<'p>,
     place: Place,
     op: BinOp,
     target: &'p Expr,
     expr: &'p Expr,
 ) -> Result<Control<'p>, Memory>
-    ensures { GoesToFlow result m.new m.old (augmented (binary_operator_of op) place (expr_of m.old.file target.now) (expr_of m.old.file expr.now) (env_in m.old) (nodes_in m.old)) }
+    requires { Sound m.old }
+    ensures { GoesToFlow result m.new m.old (augmented (binary_operator_of op) place (expr_of m.old.file target.now) (expr_of m.old.file expr.now) (env_of m.old) (nodes_in m.old)) }
 {
-    let (line, name) = match target {
-        Expr::Name(line, name) => (*line, name),
+    match target {
+        Expr::Name(line, name) => {
+            let at = Place {
+                file: m.file,
+                line: *line,
+            };
+            augment_name(m, place, op, at, name, expr)
+        }
         Expr::Index(line, _, _) => {
             let at = Place {
                 file: m.file,
                 line: *line,
             };
-            return Ok(left(alloc, FaultKind::NotBuilt, at));
+            Ok(left(m, FaultKind::NotBuilt, at))
         }
-        Expr::List(_, _) => return Ok(ill_flow(alloc)),
-        Expr::Tuple(_, _) => return Ok(ill_flow(alloc)),
-        Expr::Int(_, _) => return Ok(ill_flow(alloc)),
-        Expr::Text(_, _) => return Ok(ill_flow(alloc)),
-        Expr::Dict(_, _) => return Ok(ill_flow(alloc)),
-        Expr::Unary(_, _, _) => return Ok(ill_flow(alloc)),
-        Expr::Binary(_, _, _, _) => return Ok(ill_flow(alloc)),
-        Expr::And(_, _, _) => return Ok(ill_flow(alloc)),
-        Expr::Or(_, _, _) => return Ok(ill_flow(alloc)),
-        Expr::If(_, _, _, _) => return Ok(ill_flow(alloc)),
-        Expr::Call(_, _, _) => return Ok(ill_flow(alloc)),
-        Expr::Named(_, _, _) => return Ok(ill_flow(alloc)),
-        Expr::Star(_, _) => return Ok(ill_flow(alloc)),
-        Expr::Stars(_, _) => return Ok(ill_flow(alloc)),
-        Expr::Slice(_, _, _, _, _) => return Ok(ill_flow(alloc)),
-        Expr::Dot(_, _, _) => return Ok(ill_flow(alloc)),
-        Expr::Lambda(_, _, _, _) => return Ok(ill_flow(alloc)),
-        Expr::ListFor(_, _, _) => return Ok(ill_flow(alloc)),
-        Expr::DictFor(_, _, _, _) => return Ok(ill_flow(alloc)),
-        Expr::Template(_, _) => return Ok(ill_flow(alloc)),
-    };
-    let at = Place { file: m.file, line };
-    augment_name(alloc, m, place, op, at, name, expr)
+        Expr::List(_, _)
+        | Expr::Tuple(_, _)
+        | Expr::Int(_, _)
+        | Expr::Text(_, _)
+        | Expr::Dict(_, _)
+        | Expr::Unary(_, _, _)
+        | Expr::Binary(_, _, _, _)
+        | Expr::And(_, _, _)
+        | Expr::Or(_, _, _)
+        | Expr::If(_, _, _, _)
+        | Expr::Call(_, _, _)
+        | Expr::Named(_, _, _)
+        | Expr::Star(_, _)
+        | Expr::Stars(_, _)
+        | Expr::Slice(_, _, _, _, _)
+        | Expr::Dot(_, _, _)
+        | Expr::Lambda(_, _, _, _)
+        | Expr::ListFor(_, _, _)
+        | Expr::DictFor(_, _, _, _)
+        | Expr::Template(_, _) => Ok(ill_flow(m)),
+    }
 }
 
 /// An augmented assignment of a name at a place.
 fn augment_name<'p>(
-    alloc: Global,
     m: &mut Machine<'p>,
     place: Place,
     op: BinOp,
@@ -189,10 +194,10 @@ fn augment_name<'p>(
     name: &'p Text,
     expr: &'p Expr,
 ) -> Result<Control<'p>, Memory>
-    ensures { GoesToFlow result m.new m.old (augmented (binary_operator_of op) place (plain.name at name.now) (expr_of m.old.file expr.now) (env_in m.old) (nodes_in m.old)) }
+    requires { Sound m.old }
+    ensures { GoesToFlow result m.new m.old (augmented (binary_operator_of op) place (plain.name at name.now) (expr_of m.old.file expr.now) (env_of m.old) (nodes_in m.old)) }
 {
-    let position = m.env.number(name);
-    match read(alloc, &m.session, at, name, position) {
+    match read(&m.session, m.scope.as_slice(), at, name) {
         Ok(old) => within(m, InStatement::Augment(place, op, at, name, old), expr),
         Err(Stop::Fault(fault)) => Ok(Control::Left(fault)),
         Err(Stop::Memory) => Err(Memory),
@@ -201,7 +206,8 @@ fn augment_name<'p>(
 
 /// The first of these branches whose test holds.
 pub(crate) fn choose<'p>(m: &mut Machine<'p>, arms: &'p [Arm]) -> Result<Control<'p>, Memory>
-    ensures { GoesToFlow result m.new m.old (arms_so_far (arms_of m.old.file arms.now) (env_in m.old) (nodes_in m.old)) }
+    requires { Sound m.old }
+    ensures { GoesToFlow result m.new m.old (arms_so_far (arms_of m.old.file arms.now) (env_of m.old) (nodes_in m.old)) }
 {
     match arms.split_first() {
         None => Ok(Control::Went(Flow::On)),

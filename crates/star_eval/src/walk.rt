@@ -1,109 +1,132 @@
 // Loops.
-ghost use Rattle.std.specs.Prelude.{◌≡◌, ◌∷◌, drop, reverse, IfOk, List};
+ghost use Rattle.std.specs.Prelude.{◌≡◌, IfOk};
 ghost use Rattle.star_spec.specs.Flow.{next_turn, turns};
-ghost use Rattle.value_spec.specs.Outcomes.{then_do};
-ghost use Rattle.star_tree.specs.Whole.{expr_of};
-ghost use Rattle.plain_ops.specs.View.{value_of, values_of};
-ghost use Rattle.star_eval.specs.Frames.{GoesToFlow, GoesToFlowBy, env_in, nodes_in, turn_of, turns_from};
-ghost use Rattle.star_eval.specs.Meets.{state_of};
 ghost use Rattle.star_blocks.specs.Nested.{ops_of};
+ghost use Rattle.star_tree.specs.Whole.{expr_of};
+ghost use Rattle.star_values.specs.Owns.{Owns};
+ghost use Rattle.star_values.specs.View.{View, value_of};
+ghost use Rattle.value_spec.specs.Outcomes.{on_store, then_do};
+ghost use Rattle.value_spec.specs.Store.{begin_loop};
+ghost use Rattle.star_eval.specs.Frames.{GoesToFlow, around_flow};
+ghost use Rattle.star_eval.specs.Meets.{Begins, arena_of, state_of};
 ghost use Rattle.star_eval.specs.PartsSoFar.{looped, parts_so_far};
+ghost use Rattle.star_eval.specs.Sources.{IsWalkOf, OwnsMembers, OwnsSource, Walked, all_members, left_of};
+ghost use Rattle.star_eval.specs.View.{Sound, arena_in, env_of, nodes_in};
+ghost use Rattle.star_eval.specs.Waiting.{turn_of, walked};
 
-use crate::assign::assign;
-use crate::frame::{Control, Flow, Frame, InBlock, Machine};
+use crate::frame::{Control, Flow, Frame, InBlock, InStatement, Machine};
 use crate::machine::{left, push};
-use plain_ops::Value;
-use sqlite_items::Items;
+use crate::session::Session;
+use crate::source::{Members, Source, members_of};
+use object_arena::{Ref, Value};
 use star_blocks::Op;
 use star_tree::code::Expr;
-use std::alloc::Global;
-use std::rc::Rc;
-use ytt_base::fault::{FaultKind, Place, Stop};
+use ytt_base::fault::{FaultKind, Place};
 use ytt_base::text::Memory;
+
+/// The object that a walk over a value goes through, if there is one.
+fn walk_of(value: Value) -> Option<Ref>
+    ensures { (a : View) → Owns a value → IsWalkOf a (value_of a value) result }
+{
+    match value {
+        Value::List(list) => Some(list),
+        Value::Dict(dict) => Some(dict),
+        _ => None,
+    }
+}
 
 /// A loop over this value.
 pub(crate) fn walk<'p>(
-    alloc: Global,
     m: &mut Machine<'p>,
     place: Place,
     target: &'p Expr,
     body: &'p [Op],
     value: Value,
 ) -> Result<Control<'p>, Memory>
-    ensures { GoesToFlow result m.new m.old (looped place (expr_of m.old.file target.now) (env_in m.old) (parts_so_far (ops_of m.old.file body.now) (env_in m.old)) (value_of value) (nodes_in m.old)) }
+    requires sound { Sound m.old }
+    requires value { Owns (arena_in m.old) value }
+    ensures { GoesToFlow result m.new m.old (looped place (expr_of m.old.file target.now) (env_of m.old) (parts_so_far (ops_of m.old.file body.now) (env_of m.old)) (value_of (arena_in m.old) value) (nodes_in m.old)) }
 {
-    let members = match value {
-        Value::None => return Ok(left(alloc, FaultKind::ValueKind, place)),
-        Value::Bool(_) => return Ok(left(alloc, FaultKind::ValueKind, place)),
-        Value::Int(_) => return Ok(left(alloc, FaultKind::ValueKind, place)),
-        Value::Text(_text) => return Ok(left(alloc, FaultKind::ValueKind, place)),
-        Value::Tuple(members) => members,
-    };
-    turn(alloc, m, place, target, body, members, 0)
+    match members_of(&m.session.arena, value)? {
+        None => Ok(left(m, FaultKind::ValueKind, place)),
+        Some(members) => match walk_of(value) {
+            None => turn(m, place, target, body, Source::of(members)),
+            Some(object) => walk_object(m, place, target, body, object, members),
+        },
+    }
 }
 
-/// The turn of a loop for the member with this index, or its end.
+/// One more loop walks an object.
+fn begin(session: &mut Session, object: Ref) -> Result<(), Memory>
+    requires { Walked (arena_of session.old) object }
+    ensures { IfOk result (λ u. Begins object.at session.new session.old) }
+{
+    if !session.arena.may_walk(object) {
+        return Err(Memory);
+    }
+    session.arena.begin_loop(object);
+    Ok(())
+}
+
+/// A loop over the members of an object, which it walks until its end.
+fn walk_object<'p>(
+    m: &mut Machine<'p>,
+    place: Place,
+    target: &'p Expr,
+    body: &'p [Op],
+    object: Ref,
+    members: Members,
+) -> Result<Control<'p>, Memory>
+    requires sound { Sound m.old }
+    requires object { Walked (arena_in m.old) object }
+    requires members { OwnsMembers (arena_in m.old) members }
+    ensures { GoesToFlow result m.new m.old (walked object.at (turns place (turn_of (env_of m.old) place (expr_of m.old.file target.now) (ops_of m.old.file body.now)) (all_members (arena_in m.old) members)) (nodes_in m.old)) }
+{
+    begin(&mut m.session, object)?;
+    m.frames.push(Frame::Block(InBlock::WalkEnd(object)))?;
+    turn(m, place, target, body, Source::of(members))
+}
+
+/// The turn of a loop for the next member, or its end. Each turn takes a step.
 pub(crate) fn turn<'p>(
-    alloc: Global,
     m: &mut Machine<'p>,
     place: Place,
     target: &'p Expr,
     body: &'p [Op],
-    members: Rc<Items<Value>>,
-    index: usize,
+    source: Source,
 ) -> Result<Control<'p>, Memory>
-    ensures { GoesToFlow result m.new m.old (turns_from m.old.file (env_in m.old) place target.now body.now members.value index (nodes_in m.old)) }
+    requires sound { Sound m.old }
+    requires source { OwnsSource (arena_in m.old) source }
+    ensures { GoesToFlow result m.new m.old (turns place (turn_of (env_of m.old) place (expr_of m.old.file target.now) (ops_of m.old.file body.now)) (left_of (arena_in m.old) source) (nodes_in m.old)) }
 {
-    let value = match members.get(index) {
-        None => return Ok(Control::Went(Flow::On)),
-        Some(value) => value.share()?,
-    };
-    let next = match index.checked_add(1) {
-        None => return Err(Memory),
-        Some(next) => next,
-    };
-    one_turn(alloc, m, place, target, body, members, next, value)
-}
-
-/// The turn for a value, and then those from the member with this index on.
-fn one_turn<'p>(
-    alloc: Global,
-    m: &mut Machine<'p>,
-    place: Place,
-    target: &'p Expr,
-    body: &'p [Op],
-    members: Rc<Items<Value>>,
-    next: usize,
-    value: Value,
-) -> Result<Control<'p>, Memory>
-    ensures { GoesToFlow result m.new m.old (turns place (turn_of m.old.file (env_in m.old) place target.now body.now) (value_of value ∷ values_of (drop next members.value)) (nodes_in m.old)) }
-{
-    if m.session.steps == 0 {
-        return Ok(left(alloc, FaultKind::Steps, place));
-    }
-    m.session.steps -= 1;
-    enter(alloc, m, place, target, body, members, next, value)
-}
-
-/// The same after the step of the turn.
-fn enter<'p>(
-    alloc: Global,
-    m: &mut Machine<'p>,
-    place: Place,
-    target: &'p Expr,
-    body: &'p [Op],
-    members: Rc<Items<Value>>,
-    next: usize,
-    value: Value,
-) -> Result<Control<'p>, Memory>
-    ensures { GoesToFlowBy 21 result m.new m.old (λ s. then_do (turn_of m.old.file (env_in m.old) place target.now body.now (value_of value) (nodes_in m.old) s) (next_turn (turns_from m.old.file (env_in m.old) place target.now body.now members.value next))) }
-{
-    match assign(alloc, m.file, m.env, &mut m.session, place, target, value) {
-        Ok(_) => {
-            let frame = Frame::Block(InBlock::Turn(place, target, body, members, next));
-            push(m, frame, Control::Run(body))
+    match source.advance()? {
+        None => Ok(Control::Went(Flow::On)),
+        Some((value, source)) => {
+            if m.session.work.steps == 0 {
+                return Ok(left(m, FaultKind::Steps, place));
+            }
+            m.session.work.steps -= 1;
+            enter(m, place, target, body, value, source)
         }
-        Err(Stop::Fault(fault)) => Ok(Control::Left(fault)),
-        Err(Stop::Memory) => Err(Memory),
     }
+}
+
+/// The turn for a value after its step, and then the others.
+fn enter<'p>(
+    m: &mut Machine<'p>,
+    place: Place,
+    target: &'p Expr,
+    body: &'p [Op],
+    value: Value,
+    source: Source,
+) -> Result<Control<'p>, Memory>
+    requires sound { Sound m.old }
+    requires value { Owns (arena_in m.old) value }
+    requires source { OwnsSource (arena_in m.old) source }
+    ensures { GoesToFlow result m.new m.old (λ s. then_do (turn_of (env_of m.old) place (expr_of m.old.file target.now) (ops_of m.old.file body.now) (value_of (arena_in m.old) value) (nodes_in m.old) s) (next_turn (turns place (turn_of (env_of m.old) place (expr_of m.old.file target.now) (ops_of m.old.file body.now)) (left_of (arena_in m.old) source)))) }
+{
+    m.frames
+        .push(Frame::Block(InBlock::Turn(place, target, body, source)))?;
+    let frame = Frame::Statement(InStatement::Enter(body));
+    push(m, frame, Control::Assign(place, target, value))
 }

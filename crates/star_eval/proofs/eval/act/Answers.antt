@@ -1,24 +1,25 @@
-use Rattle.std.proofs.Common.{◌≡◌, reverse, sym, ap, ◌∙◌, arith}
+use Rattle.std.proofs.Common.{◌≡◌, sym, ap, ◌∙◌}
 use Rattle.ytt_base.specs.Outcomes.{place_at}
 use Rattle.code_spec.specs.Code as plain
 use Rattle.operator_spec.specs.Operators.{binary_row}
-use Rattle.value_spec.specs.Outcomes.{then_do, ◌>>=◌}
 use Rattle.star_tree.proofs.Forms.{expr_of-Binary}
 use Rattle.star_tree.specs.Whole.{binary_operator_of, expr_of}
-use Rattle.star_eval.specs.Frames.{around_value, env_in}
+use Rattle.value_spec.specs.Outcomes.{then_do, ◌>>=◌}
+use Rattle.star_eval.specs.Frames.{around_value}
 use Rattle.star_eval.specs.Meets.{state_of}
 use Rattle.star_eval.specs.SoFar.{acted, value_so_far}
-use Rattle.star_eval.proofs.Onward.{goes}
+use Rattle.star_eval.specs.View.{env_of, waiting_in}
+use Rattle.star_eval.proofs.Going.{goes}
 use Rattle.star_eval.proofs.eval.act.Goals as goal
 
 pub returns-in-Binary : goal.returns-in-Binary
 returns-in-Binary c =
     let m = c.args.m.now in
-    let env = env_in m in
+    let env = env_of m in
     let s = state_of m.session in
     let b = c.in-Binary in
     let is : expr_of m.file c.args.expr.now ≡ plain.binary (place_at m.file b.field-0) (binary_operator_of b.op) (expr_of m.file b.a) (expr_of m.file b.b) = ap (expr_of m.file) b.is ∙ expr_of-Binary m.file b.field-0 b.op b.a b.b in
     goes c.push-in-Binary.result c.push-in-Binary.new.m
-    ((λ i. around_value m (reverse m.frames) (then_do (value_so_far (expr_of m.file (c.get-in-Binary-2.ensures i)) env s) (λ x. value_so_far (expr_of m.file (c.get-in-Binary.ensures i)) env >>= binary_row c.args.place (binary_operator_of b.op) x)))
-    ∙ sym (ap (λ e. around_value m (reverse m.frames) (acted c.args.place e env s)) is))
-    (omega arith) c.push-in-Binary.ensures
+    ((λ i. around_value m (waiting_in m) (then_do (value_so_far (expr_of m.file (c.get-in-Binary-2.ensures i)) env s) (λ x. value_so_far (expr_of m.file (c.get-in-Binary.ensures i)) env >>= binary_row c.args.place (binary_operator_of b.op) x)))
+    ∙ sym (ap (λ e. around_value m (waiting_in m) (acted c.args.place e env s)) is))
+    c.push-in-Binary.ensures

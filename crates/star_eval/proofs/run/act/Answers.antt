@@ -1,17 +1,18 @@
-use Rattle.std.proofs.Common.{◌≡◌, reverse, rules, sym, ap, ◌∙◌}
+use Rattle.std.proofs.Common.{rules, ◌≡◌, sym, ap, ◌∙◌}
 use Rattle.ytt_base.specs.Outcomes.{place_at}
 use Rattle.code_spec.specs.Blocks.{op_statement}
 use Rattle.code_spec.specs.Code as plain
-use Rattle.star_spec.specs.Flow.{on}
-use Rattle.value_spec.specs.Outcomes.{give, then_do}
-use Rattle.star_tree.specs.Whole.{expr_of}
 use Rattle.star_blocks.specs.Nested.{statement_of}
 use Rattle.star_blocks.specs.declared.block.Statement.{the_lemmas}
-use Rattle.star_eval.specs.Frames.{around_flow, env_in, nodes_in}
+use Rattle.star_spec.specs.Flow.{on}
+use Rattle.star_tree.specs.Whole.{expr_of}
+use Rattle.value_spec.specs.Outcomes.{give, then_do}
+use Rattle.star_eval.specs.Frames.{around_flow}
 use Rattle.star_eval.specs.Meets.{state_of}
 use Rattle.star_eval.specs.PartsSoFar.{assigned, done_after}
 use Rattle.star_eval.specs.SoFar.{value_so_far}
-use Rattle.star_eval.proofs.Onward.{as_much, goes}
+use Rattle.star_eval.specs.View.{env_of, nodes_in, waiting_in}
+use Rattle.star_eval.proofs.Going.{goes}
 use Rattle.star_eval.proofs.run.act.Goals as goal
 
 pub returns-in-Assign : goal.returns-in-Assign
@@ -20,6 +21,6 @@ returns-in-Assign c =
     let p = c.args.place in
     let is : statement_of m.file c.args.statement.now ≡ op_statement (plain.assign (place_at m.file c.in-Assign.field-0) (expr_of m.file c.in-Assign.target) (expr_of m.file c.in-Assign.expr)) = search (rules, the_lemmas) in
     goes c.within-in-Assign.result c.within-in-Assign.new.m
-    ((λ i. around_flow m (reverse m.frames) (then_do (value_so_far (expr_of m.file (c.get-in-Assign-2.ensures i)) (env_in m) (state_of m.session)) (λ v s. then_do (assigned p (expr_of m.file (c.get-in-Assign.ensures i)) v (env_in m) s) (λ u. give (on (nodes_in m))))))
-    ∙ sym (ap (λ o. around_flow m (reverse m.frames) (done_after p o (env_in m) (nodes_in m) (state_of m.session))) is))
-    (as_much m) c.within-in-Assign.ensures
+    ((λ i. around_flow m (waiting_in m) (then_do (value_so_far (expr_of m.file (c.get-in-Assign-2.ensures i)) (env_of m) (state_of m.session)) (λ v s. then_do (assigned p (expr_of m.file (c.get-in-Assign.ensures i)) v (env_of m) s) (λ u. give (on (nodes_in m))))))
+    ∙ sym (ap (λ o. around_flow m (waiting_in m) (done_after p o (env_of m) (nodes_in m) (state_of m.session))) is))
+    c.within-in-Assign.ensures

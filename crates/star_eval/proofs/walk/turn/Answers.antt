@@ -1,26 +1,65 @@
-use Rattle.std.proofs.Common.{◌≡◌, ◌+◌, slice_get, reverse, Some, None, ap, rules, arith}
-use Rattle.plain_ops.specs.View.{value_of}
-use Rattle.star_eval.specs.Frames.{around_flow, env_in, nodes_in, turn_of}
+use Rattle.std.proofs.Common.{rules, ◌≡◌, ◌==◌, ◌∷◌, [], true, false, sym, ap, subst, ◌∙◌}
+use Rattle.star_blocks.specs.Nested.{ops_of}
+use Rattle.star_spec.specs.Flow.{next_turn, turns}
+use Rattle.star_tree.specs.Whole.{expr_of}
+use Rattle.star_values.specs.View.{value_of}
+use Rattle.value_spec.specs.Outcomes.{then_do}
+use Rattle.star_eval.specs.declared.frame.Control.{Control}
+use Rattle.star_eval.specs.Frames.{Goes, around_flow}
 use Rattle.star_eval.specs.Meets.{state_of}
-use Rattle.star_eval.proofs.Loops.{turns_on, turns_over}
-use Rattle.star_eval.proofs.Onward.{as_much, goes}
+use Rattle.star_eval.specs.Sources.{Advances, left_of}
+use Rattle.star_eval.specs.View.{arena_in, env_of, nodes_in, waiting_in}
+use Rattle.star_eval.specs.Waiting.{turn_of}
+use Rattle.star_eval.proofs.Going.{goes}
+use Rattle.star_eval.proofs.Rows.{enough, none_left, step_taken, step_wanting}
 use Rattle.star_eval.proofs.walk.turn.Goals as goal
+
+pub enter-requires-clause-value : goal.enter-requires-clause-value
+enter-requires-clause-value c = let h = c.in_ok-advance.ensures (arena_in c.args.m.now) c.requires.source in search (rules, h)
+
+pub enter-requires-clause-source : goal.enter-requires-clause-source
+enter-requires-clause-source c = let h = c.in_ok-advance.ensures (arena_in c.args.m.now) c.requires.source in search (rules, h)
 
 pub returns-in-None : goal.returns-in-None
 returns-in-None c =
     let m = c.args.m.now in
-    let none : slice_get c.args.members.value c.args.index ≡ None = search rules in
+    let a = arena_in m in
+    let f = turn_of (env_of m) c.args.place (expr_of m.file c.args.target.now) (ops_of m.file c.args.body.now) in
+    let none : left_of a c.args.source ≡ [] = subst (Advances a c.args.source) c.in-None.is (c.in_ok-advance.ensures a c.requires.source) in
     record {
-      same = ap (around_flow m (reverse m.frames)) (turns_over c.args.place (turn_of m.file (env_in m) c.args.place c.args.target.now c.args.body.now) c.args.members.value c.args.index (nodes_in m) (state_of m.session) none);
-      less = omega arith;
+      same = sym (ap (λ vs. around_flow m (waiting_in m) (turns c.args.place f vs (nodes_in m) (state_of m.session))) none);
+      sound = c.requires.sound;
+      owned = tt;
     }
 
-pub returns : goal.returns
-returns c =
+pub returns-then-m-eq0 : goal.returns-then-m-eq0
+returns-then-m-eq0 c =
     let m = c.args.m.now in
-    let some : slice_get c.args.members.value c.args.index ≡ Some c.in-Some.value.now = search rules in
-    let next : c.in-Some-checked_add.next ≡ c.args.index + 1 = search rules in
-    let same : value_of c.in_ok-value-in-Some.value ≡ value_of c.in-Some.value.now = search rules in
-    goes c.one_turn.result c.one_turn.new.m
-    (ap (around_flow m (reverse m.frames)) (turns_on c.args.place (turn_of m.file (env_in m) c.args.place c.args.target.now c.args.body.now) c.args.members.value c.args.index c.in-Some-checked_add.next c.in-Some.value.now (value_of c.in_ok-value-in-Some.value) (nodes_in m) (state_of m.session) some next same))
-    (as_much m) c.one_turn.ensures
+    let a = arena_in m in
+    let s = state_of m.session in
+    let p = c.args.place in
+    let f = turn_of (env_of m) p (expr_of m.file c.args.target.now) (ops_of m.file c.args.body.now) in
+    let h = c.in_ok-advance.ensures a c.requires.source in
+    let first : left_of a c.args.source ≡ value_of a c.in-Some.value ∷ left_of a c.in-Some.source = search (rules, h) in
+    let zero : (m.session.work.steps == 0) ≡ true = search rules in
+    let ends = step_wanting p (f (value_of a c.in-Some.value) (nodes_in m)) s (none_left m.session.work.steps zero) in
+    subst (λ (x : Control). Goes m x (around_flow m (waiting_in m) (turns p f (left_of a c.args.source) (nodes_in m) s))) (sym c.left.ensures) (record {
+      same = ap (around_flow m (waiting_in m)) (sym (ap (λ vs. turns p f vs (nodes_in m) s) first ∙ ap (λ o. then_do o (next_turn (turns p f (left_of a c.in-Some.source)))) ends));
+      sound = c.requires.sound;
+      owned = tt;
+    })
+
+pub returns-else-m-eq0 : goal.returns-else-m-eq0
+returns-else-m-eq0 c =
+    let m = c.args.m.now in
+    let a = arena_in m in
+    let s = state_of m.session in
+    let p = c.args.place in
+    let f = turn_of (env_of m) p (expr_of m.file c.args.target.now) (ops_of m.file c.args.body.now) in
+    let h = c.in_ok-advance.ensures a c.requires.source in
+    let first : left_of a c.args.source ≡ value_of a c.in-Some.value ∷ left_of a c.in-Some.source = search (rules, h) in
+    let some : (m.session.work.steps == 0) ≡ false = search rules in
+    let goes_on = step_taken p (f (value_of a c.in-Some.value) (nodes_in m)) s (enough m.session.work.steps some) in
+    goes c.enter.result c.enter.new.m
+    (ap (around_flow m (waiting_in m)) (sym (ap (λ vs. turns p f vs (nodes_in m) s) first ∙ ap (λ o. then_do o (next_turn (turns p f (left_of a c.in-Some.source)))) goes_on)))
+    c.enter.ensures

@@ -1,15 +1,19 @@
-use Rattle.std.proofs.Common.{reverse, [], ◌∷◌, sym, ap, ◌∙◌, arith}
+use Rattle.std.proofs.Common.{[], ◌∷◌, sym, ap, ◌∙◌}
 use Rattle.value_spec.specs.Outcomes.{bad}
-use Rattle.star_eval.specs.Frames.{env_in, nodes_in, unwind_flow}
 use Rattle.star_eval.specs.Meets.{state_of}
+use Rattle.star_eval.specs.View.{arena_in, env_of, frame_of, nodes_in, waiting_in}
+use Rattle.star_eval.specs.Waiting.{unwind_flow}
 use Rattle.star_eval.proofs.Sorts.{fault_alike}
 use Rattle.star_eval.proofs.went.leave.Goals as goal
 
 pub returns-in-Value : goal.returns-in-Value
 returns-in-Value c =
     let m = c.args.m.now in
+    let a = arena_in m in
+    let s = state_of m.session in
+    let ws = waiting_in m in
     record {
-      same = fault_alike m.file (env_in m) (nodes_in m) [] (reverse m.frames) c.args.fault (state_of m.session)
-          ∙ sym (ap (λ f. unwind_flow m.file (env_in m) (f ∷ reverse m.frames) (bad c.args.fault (state_of m.session))) c.in-Value.is);
-      less = omega arith;
+      same = fault_alike (env_of m) (nodes_in m) [] ws c.args.fault s ∙ sym (ap (λ f. unwind_flow (env_of m) (frame_of a m.file f ∷ ws) (bad c.args.fault s)) c.in-Value.is);
+      sound = c.requires.sound;
+      owned = tt;
     }

@@ -1,4 +1,0 @@
-pub mod Parts
-pub mod Positions
-pub mod Taking
-pub mod View

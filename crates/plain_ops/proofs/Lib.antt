@@ -1,9 +1,0 @@
-pub mod Anywhere
-pub mod ByKinds
-pub mod Copies
-pub mod Meeting
-pub mod Parts
-pub mod Passing
-pub mod RowsAnywhere
-pub mod Tuples
-pub mod Views

@@ -1,4 +1,0 @@
-pub mod Acts
-pub mod Alike
-pub mod Meets
-pub mod View

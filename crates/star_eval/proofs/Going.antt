@@ -1,0 +1,103 @@
+-- Calls that go on to what a computation comes to.
+use Rattle.std.proofs.Common.{◌≡◌, Result, Ok, Err, IfOk, ap, subst, sym, ◌∙◌}
+use Rattle.ytt_base.specs.declared.fault.Stop.{Stop}
+use Rattle.ytt_base.specs.declared.fault.Stop.TheVariants as stop
+use Rattle.ytt_base.specs.declared.text.Memory.{Memory}
+use Rattle.value_spec.specs.Outcomes.{Ending, Computation, done, then_do, give}
+use Rattle.value_spec.specs.Values as plain
+use Rattle.node_build.specs.View.{OwnsNodes, nodes_of}
+use Rattle.node_build.specs.declared.builder.Builder.{Builder}
+use Rattle.star_spec.specs.Flow.{Flow, Part, on}
+use Rattle.star_steps.specs.Meets.{Meets, state_in}
+use Rattle.star_values.specs.declared.value.Value.{Value}
+use Rattle.star_values.specs.declared.value.Work.{Work}
+use Rattle.star_values.specs.declared.value.Value.TheVariants as value
+use Rattle.star_eval.specs.declared.frame.Control.{Control}
+use Rattle.star_eval.specs.declared.frame.Control.TheVariants as control
+use Rattle.star_eval.specs.declared.frame.Flow.TheVariants as flow
+use Rattle.star_eval.specs.declared.frame.Machine.{Machine}
+use Rattle.star_eval.specs.declared.session.Session.{Session}
+use Rattle.star_eval.specs.Frames.{Goes, GoesToFlow, GoesToValue, around_flow, around_value}
+use Rattle.star_eval.specs.Meets.{Acts, GivesFrom, Here, state_of}
+use Rattle.star_eval.specs.PartsSoFar.{Nodes, concluded}
+use Rattle.star_eval.specs.Settled.{Settles, SettlesFlow, SettlesNone}
+use Rattle.star_eval.specs.View.{Sound, arena_in, nodes_in, waiting_in}
+use Rattle.star_eval.specs.Waiting.{Final, unwind_flow, unwind_value, with_none}
+use Rattle.star_eval.proofs.Growing.{Kept, kept}
+
+-- what went on from one thing goes on from what is the same
+pub goes : {E : Type 0} (r : Result Control E) (m : Machine) {b d : Final} → b ≡ d → IfOk r (λ c. Goes m c b) → IfOk r (λ c. Goes m c d)
+goes (Ok c) m e h = record { same = h.same ∙ e; sound = h.sound; owned = h.owned }
+goes (Err x) m e h = tt
+
+-- ---- endings in a machine that is kept
+
+module _ (m n : Machine) (k : Kept m n) where
+  pub value_after : (r o : Ending Here plain.Value) → o ≡ r → around_value n (waiting_in n) r ≡ around_value m (waiting_in m) o
+  value_after r o e = (λ i. unwind_value (k.env i) (k.nodes i) (k.waiting i) r) ∙ ap (around_value m (waiting_in m)) (sym e)
+
+  pub flow_after : (r o : Ending Here (Flow Nodes)) → o ≡ r → around_flow n (waiting_in n) r ≡ around_flow m (waiting_in m) o
+  flow_after r o e = (λ i. unwind_flow (k.env i) (k.waiting i) r) ∙ ap (around_flow m (waiting_in m)) (sym e)
+
+  one_control : (c d : Control) (before : Final) → c ≡ d → Goes n d before → Goes n c before
+  one_control c d before e g = subst (λ x. Goes n x before) (sym e) g
+
+-- ---- calls that give a value, or nothing
+
+module _ (m : Machine) (s : Session) (sound : Sound m) where
+  abbrev After : Machine
+  After = record m { session = s }
+
+  pub gives_on : (f : Computation Here plain.Value) (given : Result Value Stop) (r : Result Control Memory) → GivesFrom f given s m.session → Settles given r → GoesToValue r After m f
+  gives_on f (Ok v) (Ok c) g e =
+      let k = kept m s g.grows sound in
+      one_control m After k c (control.Gave v) _ e (record { same = value_after m After k _ _ g.meaning; sound = k.sound; owned = g.owns })
+  gives_on f (Err (stop.Fault d)) (Ok c) g e =
+      let k = kept m s g.grows sound in
+      one_control m After k c (control.Failed d) _ e (record { same = value_after m After k _ _ g.meaning; sound = k.sound; owned = tt })
+  gives_on f (Err stop.Memory) (Ok c) g e = elim e [ ]
+  gives_on f given (Err x) g e = tt
+
+  then_none : (f : Computation Here Here) (u : Here) → f (state_of m.session) ≡ done u (state_of s) → with_none f (state_of m.session) ≡ done plain.none_value (state_of s)
+  then_none f u e = ap (λ o. then_do o (λ u. give plain.none_value)) e
+
+  pub acts_on : (f : Computation Here Here) (given : Result Here Stop) (r : Result Control Memory) → Acts f given s m.session → SettlesNone given r → GoesToValue r After m (with_none f)
+  acts_on f (Ok u) (Ok c) g e =
+      let k = kept m s g.grows sound in
+      one_control m After k c (control.Gave value.None) _ e (record { same = value_after m After k _ _ (then_none f u g.meaning); sound = k.sound; owned = tt })
+  acts_on f (Err (stop.Fault d)) (Ok c) g e =
+      let k = kept m s g.grows sound in
+      one_control m After k c (control.Failed d) _ e (record { same = value_after m After k _ _ (ap (λ o. then_do o (λ u. give plain.none_value)) g.meaning); sound = k.sound; owned = tt })
+  acts_on f (Err stop.Memory) (Ok c) g e = elim e [ ]
+  acts_on f given (Err x) g e = tt
+
+  -- the same at the end of a statement
+  pub ends_on : (f : Computation Here Here) (given : Result Here Stop) (r : Result Control Memory) → Acts f given s m.session → SettlesFlow given r → GoesToFlow r After m (concluded f (nodes_in m))
+  ends_on f (Ok u) (Ok c) g e =
+      let k = kept m s g.grows sound in
+      one_control m After k c (control.Went flow.On) _ e (record {
+        same = (λ i. unwind_flow (k.env i) (k.waiting i) (done (on (k.nodes i)) (state_of s))) ∙ ap (around_flow m (waiting_in m)) (sym (ap (λ o. then_do o (λ u. give (on (nodes_in m)))) g.meaning));
+        sound = k.sound;
+        owned = tt;
+      })
+  ends_on f (Err (stop.Fault d)) (Ok c) g e =
+      let k = kept m s g.grows sound in
+      one_control m After k c (control.Left d) _ e (record { same = flow_after m After k _ _ (ap (λ o. then_do o (λ u. give (on (nodes_in m)))) g.meaning); sound = k.sound; owned = tt })
+  ends_on f (Err stop.Memory) (Ok c) g e = elim e [ ]
+  ends_on f given (Err x) g e = tt
+
+-- ---- calls that change the open nodes
+
+pub nodes_on : (m : Machine) (b : Builder) (w : Work) (f : Part Here Nodes) (given : Result Here Stop) (r : Result Control Memory) → Sound m →
+    Meets (λ u. on (nodes_of (arena_in m) b)) given (state_in (arena_in m) w.steps) (f (nodes_in m) (state_of m.session)) → OwnsNodes (arena_in m) b → SettlesFlow given r →
+    GoesToFlow r (record m { nodes = b; session = record { arena = m.session.arena; work = w } }) m (f (nodes_in m))
+nodes_on m b w f (Ok u) (Ok c) sound g owned e =
+    let n = record m { nodes = b; session = record { arena = m.session.arena; work = w } } in
+    subst (λ x. Goes n x (around_flow m (waiting_in m) (f (nodes_in m) (state_of m.session)))) (sym e)
+    (record { same = ap (around_flow m (waiting_in m)) (sym g); sound = record { scope = sound.scope; nodes = owned; frames = sound.frames }; owned = tt })
+nodes_on m b w f (Err (stop.Fault d)) (Ok c) sound g owned e =
+    let n = record m { nodes = b; session = record { arena = m.session.arena; work = w } } in
+    subst (λ x. Goes n x (around_flow m (waiting_in m) (f (nodes_in m) (state_of m.session)))) (sym e)
+    (record { same = ap (around_flow m (waiting_in m)) (sym g); sound = record { scope = sound.scope; nodes = owned; frames = sound.frames }; owned = tt })
+nodes_on m b w f (Err stop.Memory) (Ok c) sound g owned e = elim e [ ]
+nodes_on m b w f given (Err x) sound g owned e = tt

@@ -1,0 +1,122 @@
+-- What is held stays owned, and the same, as the arena grows.
+use Rattle.std.proofs.Common.{◌≡◌, ℕ, List, [], ◌∷◌, drop, reverse, Option, Some, None, refl, ap, subst, sym, IsTrue, rules}
+use Rattle.std.proofs.lemmas.List.{reverse-append}
+use Rattle.star_blocks.specs.Nested.{ops_of}
+use Rattle.star_tree.specs.Whole.{binary_operator_of, expr_of, exprs_of}
+use Rattle.node_build.proofs.Growing.{nodes_kept}
+use Rattle.star_values.proofs.Growing.{each_joined, owns_all_kept, owns_kept, value_kept, values_kept, variable_kept}
+use Rattle.star_values.specs.Objects.{env_in}
+use Rattle.star_values.specs.Owns.{Each, Grows, OwnsEnv, object_at}
+use Rattle.star_values.specs.View.{View}
+use Rattle.star_values.specs.declared.object.NamedBox.{NamedBox}
+use Rattle.star_values.specs.declared.value.Ref.{Ref}
+use Rattle.star_values.specs.declared.value.Sort.{Sort}
+use Rattle.star_eval.specs.declared.frame.Frame.{Frame}
+use Rattle.star_eval.specs.declared.frame.Frame.TheVariants as frame
+use Rattle.star_eval.specs.declared.frame.InBlock as held_block
+use Rattle.star_eval.specs.declared.frame.InBlock.TheVariants as in_block
+use Rattle.star_eval.specs.declared.frame.InStatement as held_statement
+use Rattle.star_eval.specs.declared.frame.InStatement.TheVariants as in_statement
+use Rattle.star_eval.specs.declared.frame.InValue as held_value
+use Rattle.star_eval.specs.declared.frame.InValue.TheVariants as in_value
+use Rattle.star_eval.specs.declared.frame.Machine.{Machine}
+use Rattle.star_eval.specs.declared.session.Session.{Session}
+use Rattle.star_eval.specs.declared.source.Members.{Members}
+use Rattle.star_eval.specs.declared.source.Members.TheVariants as members
+use Rattle.star_eval.specs.declared.source.Source.{Source}
+use Rattle.star_eval.specs.Meets.{arena_of}
+use Rattle.star_eval.specs.Sources.{OwnsMembers, OwnsSource, Walked, all_members, left_of, walked_sort}
+use Rattle.star_eval.specs.View.{OwnsFrame, OwnsInBlock, OwnsInStatement, OwnsInValue, Sound, arena_in, block_frame, env_of, frame_of, frames_of, gathering_of, nodes_in, statement_frame, value_frame, waiting_in}
+use Rattle.star_eval.specs.Waiting as plain
+
+-- ---- scopes
+
+pub env_kept : (a b : View) (bs : List NamedBox) → Grows a b → OwnsEnv a bs → OwnsEnv b bs × (env_in b.held bs ≡ env_in a.held bs)
+env_kept a b [] g w = (tt, refl)
+env_kept a b (x ∷ bs) g w =
+    let k = variable_kept a b x g w.0 in
+    let more = env_kept a b bs g w.1 in
+    ((k.0, more.0), λ i. k.1 i ∷ more.1 i)
+
+-- ---- members
+
+members_kept : (a b : View) (ms : Members) → Grows a b → OwnsMembers a ms → OwnsMembers b ms × (all_members b ms ≡ all_members a ms)
+members_kept a b (members.Listed vs) g w = (owns_all_kept a b vs g w, values_kept a b vs g w)
+members_kept a b (members.Numbers n) g w = (tt, refl)
+
+pub source_kept : (a b : View) (s : Source) → Grows a b → OwnsSource a s → OwnsSource b s × (left_of b s ≡ left_of a s)
+source_kept a b s g w = let k = members_kept a b s.members g w in (k.0, ap (drop s.next) k.1)
+
+still_walked : (o p : Option Sort) → ((k : Sort) → o ≡ Some k → p ≡ Some k) → IsTrue (walked_sort o) → IsTrue (walked_sort p)
+still_walked None p f h = absurd (search (rules, h))
+still_walked (Some k) p f h = subst (λ q. IsTrue (walked_sort q)) (sym (f k refl)) h
+
+pub walked_kept : (a b : View) (r : Ref) → Grows a b → Walked a r → Walked b r
+walked_kept a b r g w = still_walked (object_at a r.at) (object_at b r.at) (g.objects r.at) w
+
+-- ---- frames
+
+module _ (a b : View) (file : ℕ) (g : Grows a b) where
+  in_value_kept : (f : held_value.InValue) → OwnsInValue a f → OwnsInValue b f × (value_frame b file f ≡ value_frame a file f)
+  in_value_kept (in_value.Right p o x) w = (tt, refl)
+  in_value_kept (in_value.Operate p o x) w = (owns_kept a b x g w, ap (plain.operate p (binary_operator_of o)) (value_kept a b x g w))
+  in_value_kept (in_value.OperateOn p o) w = (tt, refl)
+  in_value_kept (in_value.Member k es vs) w = (owns_all_kept a b vs g w, ap (plain.member (gathering_of k) (exprs_of file es.now)) (values_kept a b vs g w))
+  in_value_kept (in_value.AndThen x) w = (tt, refl)
+  in_value_kept (in_value.OrElse x) w = (tt, refl)
+  in_value_kept (in_value.Choose x y) w = (tt, refl)
+  in_value_kept (in_value.Targets p es s) w = let k = source_kept a b s g w in (k.0, ap (plain.targets p (exprs_of file es.now)) k.1)
+
+  in_statement_kept : (f : held_statement.InStatement) → OwnsInStatement a f → OwnsInStatement b f × (statement_frame b file f ≡ statement_frame a file f)
+  in_statement_kept in_statement.Discard w = (tt, refl)
+  in_statement_kept (in_statement.AssignTo p x) w = (tt, refl)
+  in_statement_kept (in_statement.Augment q o p x old) w = (owns_kept a b old g w, ap (plain.augment q (binary_operator_of o) p x.now) (value_kept a b old g w))
+  in_statement_kept in_statement.Return w = (tt, refl)
+  in_statement_kept (in_statement.Branch os bs) w = (tt, refl)
+  in_statement_kept (in_statement.Walk p x os) w = (tt, refl)
+  in_statement_kept (in_statement.Enter os) w = (tt, refl)
+  in_statement_kept in_statement.Take w = (tt, refl)
+
+  pub in_block_kept : (f : held_block.InBlock) → OwnsInBlock a f → OwnsInBlock b f × (block_frame b file f ≡ block_frame a file f)
+  in_block_kept (in_block.Turn p x os s) w = let k = source_kept a b s g w in (k.0, ap (plain.turn p (expr_of file x.now) (ops_of file os.now)) k.1)
+  in_block_kept (in_block.Rest os) w = (tt, refl)
+  in_block_kept (in_block.WalkEnd r) w = (walked_kept a b r g w, refl)
+
+  frame_kept : (f : Frame) → OwnsFrame a f → OwnsFrame b f × (frame_of b file f ≡ frame_of a file f)
+  frame_kept (frame.Value f) w = let k = in_value_kept f w in (k.0, ap plain.in_value k.1)
+  frame_kept (frame.Statement f) w = let k = in_statement_kept f w in (k.0, ap plain.in_statement k.1)
+  frame_kept (frame.Block f) w = let k = in_block_kept f w in (k.0, ap plain.in_block k.1)
+
+  pub frames_kept : (fs : List Frame) → Each (OwnsFrame a) fs → Each (OwnsFrame b) fs × (frames_of b file fs ≡ frames_of a file fs)
+  frames_kept [] w = (tt, refl)
+  frames_kept (f ∷ fs) w =
+      let k = frame_kept f w.0 in
+      let more = frames_kept fs w.1 in
+      ((k.0, more.0), λ i. k.1 i ∷ more.1 i)
+
+-- ---- the same from the innermost one on
+
+pub reversed_each : {A : Type 0} (P : A → Type 0) (xs : List A) → Each P xs → Each P (reverse xs)
+reversed_each P [] w = tt
+reversed_each P (x ∷ xs) w = subst (Each P) (sym (reverse-append (x ∷ []) xs)) (each_joined P (reverse xs) (x ∷ []) (reversed_each P xs w.1) (w.0, tt))
+
+-- ---- a machine with a session whose arena has grown
+
+pub record Kept (m n : Machine) : Type 0 where
+  pub env : env_of n ≡ env_of m
+  pub nodes : nodes_in n ≡ nodes_in m
+  pub waiting : waiting_in n ≡ waiting_in m
+  pub sound : Sound n
+
+pub kept : (m : Machine) (s : Session) → Grows (arena_in m) (arena_of s) → Sound m → Kept m (record m { session = s })
+kept m s g w =
+    let a = arena_in m in
+    let b = arena_of s in
+    let env = env_kept a b m.scope g w.scope in
+    let nodes = nodes_kept a b m.nodes g w.nodes in
+    record {
+      env = env.1;
+      nodes = nodes.1;
+      waiting = (frames_kept a b m.file g (reverse m.frames) (reversed_each (OwnsFrame a) m.frames w.frames)).1;
+      sound = record { scope = env.0; nodes = nodes.0; frames = (frames_kept a b m.file g m.frames w.frames).0 };
+    }

@@ -1,0 +1,56 @@
+-- A machine that walks an object, with the frame that ends the walk.
+use Rattle.std.proofs.Common.{◌≡◌, List, [], ◌∷◌, ◌++◌, reverse, refl, ap, subst, sym, ◌∙◌}
+use Rattle.std.proofs.lemmas.List.{reverse-append}
+use Rattle.star_values.proofs.Growing.{each_joined, owns_kept}
+use Rattle.star_values.specs.Owns.{Each, Grows}
+use Rattle.star_values.specs.View.{View, value_in}
+use Rattle.star_values.specs.declared.value.Ref.{Ref}
+use Rattle.star_spec.specs.Flow.{out}
+use Rattle.star_spec.specs.Language.{returns}
+use Rattle.star_eval.specs.declared.frame.Flow as held
+use Rattle.star_eval.specs.declared.frame.Flow.TheVariants as flow
+use Rattle.star_eval.specs.declared.frame.Frame.{Frame}
+use Rattle.star_eval.specs.declared.frame.Frame.TheVariants as frame
+use Rattle.star_eval.specs.declared.frame.InBlock.TheVariants as in_block_frame
+use Rattle.star_eval.specs.declared.frame.Machine.{Machine}
+use Rattle.star_eval.specs.declared.session.Session.{Session}
+use Rattle.star_eval.specs.Frames.{flow_of}
+use Rattle.star_eval.specs.Meets.{arena_of}
+use Rattle.star_eval.specs.PartsSoFar.{Nodes}
+use Rattle.star_eval.specs.Sources.{Walked}
+use Rattle.star_eval.specs.View.{OwnsFlow, OwnsFrame, Sound, arena_in, frames_of, waiting_in}
+use Rattle.star_eval.specs.Waiting.{in_block, walk_end}
+use Rattle.star_eval.proofs.Growing.{Kept, kept, walked_kept}
+
+module _ (m : Machine) (s : Session) (o : Ref) (fs : List Frame) (g : Grows (arena_in m) (arena_of s)) (sound : Sound m) (walked : Walked (arena_in m) o) (more : fs ≡ m.frames ++ frame.Block (in_block_frame.WalkEnd o) ∷ []) where
+  abbrev Walking : Machine
+  Walking = record m { session = s; frames = fs }
+
+  k : Kept m (record m { session = s })
+  k = kept m s g sound
+
+  pub walking_sound : Sound Walking
+  walking_sound = record {
+    scope = k.sound.scope;
+    nodes = k.sound.nodes;
+    frames = subst (Each (OwnsFrame (arena_of s))) (sym more) (each_joined (OwnsFrame (arena_of s)) m.frames (frame.Block (in_block_frame.WalkEnd o) ∷ []) k.sound.frames (walked_kept (arena_in m) (arena_of s) o g walked, tt));
+  }
+
+  pub walking_waits : waiting_in Walking ≡ in_block (walk_end o.at) ∷ waiting_in m
+  walking_waits =
+      ap (λ l. frames_of (arena_of s) m.file (reverse l)) more ∙ ap (frames_of (arena_of s) m.file) (reverse-append m.frames (frame.Block (in_block_frame.WalkEnd o) ∷ []))
+      ∙ ap (λ ws. in_block (walk_end o.at) ∷ ws) k.waiting
+
+-- ---- ends of blocks as the arena grows
+
+pub flow_kept : (a b : View) (w : held.Flow) (k : Nodes) → b.held ≡ a.held → flow_of b w k ≡ flow_of a w k
+flow_kept a b flow.On k e = refl
+flow_kept a b flow.Break k e = refl
+flow_kept a b flow.Continue k e = refl
+flow_kept a b (flow.Return v) k e = ap (λ h. out (returns (value_in h v)) k) e
+
+pub flow_owned : (a b : View) (w : held.Flow) → Grows a b → OwnsFlow a w → OwnsFlow b w
+flow_owned a b flow.On g h = tt
+flow_owned a b flow.Break g h = tt
+flow_owned a b flow.Continue g h = tt
+flow_owned a b (flow.Return v) g h = owns_kept a b v g h

@@ -1,0 +1,42 @@
+use Rattle.std.proofs.Common.{rules, ◌≡◌, ◌++◌, ◌∷◌, [], ap, ◌∙◌}
+use Rattle.star_blocks.specs.Nested.{ops_of}
+use Rattle.star_spec.specs.Flow.{turns}
+use Rattle.star_tree.specs.Whole.{expr_of}
+use Rattle.star_eval.specs.declared.frame.Frame.TheVariants as frame
+use Rattle.star_eval.specs.declared.frame.InBlock.TheVariants as in_block_frame
+use Rattle.star_eval.specs.declared.source.Source.{Source}
+use Rattle.star_eval.specs.Meets.{arena_of}
+use Rattle.star_eval.specs.Sources.{left_of}
+use Rattle.star_eval.specs.View.{arena_in}
+use Rattle.star_eval.specs.Waiting.{turn_of, unwind_flow}
+use Rattle.star_eval.proofs.Going.{goes}
+use Rattle.star_eval.proofs.Growing.{kept, source_kept}
+use Rattle.star_eval.proofs.Walks.{walking_sound, walking_waits}
+use Rattle.star_eval.proofs.walk.walk_object.Goals as goal
+
+pub turn-requires-clause-sound : goal.turn-requires-clause-sound
+turn-requires-clause-sound c =
+    let m = c.args.m.now in
+    let more : c.push.new.self ≡ m.frames ++ frame.Block (in_block_frame.WalkEnd c.args.object) ∷ [] = search rules in
+    walking_sound m c.begin.new.session c.args.object c.push.new.self c.in_ok-begin.ensures.grows c.requires.sound c.requires.object more
+
+pub turn-requires-clause-source : goal.turn-requires-clause-source
+turn-requires-clause-source c =
+    let m = c.args.m.now in
+    let owned = (source_kept (arena_in m) (arena_of c.begin.new.session) (record { members = c.args.members; next = 0 }) c.in_ok-begin.ensures.grows c.requires.members).0 in
+    rw c.of.ensures owned
+
+pub returns : goal.returns
+returns c =
+    let m = c.args.m.now in
+    let s = c.begin.new.session in
+    let b = c.in_ok-begin.ensures in
+    let k = kept m s b.grows c.requires.sound in
+    let more : c.push.new.self ≡ m.frames ++ frame.Block (in_block_frame.WalkEnd c.args.object) ∷ [] = search rules in
+    let waits = walking_waits m s c.args.object c.push.new.self b.grows c.requires.sound c.requires.object more in
+    let from : Source = record { members = c.args.members; next = 0 } in
+    let members = ap (left_of (arena_of s)) c.of.ensures ∙ (source_kept (arena_in m) (arena_of s) from b.grows c.requires.members).1 in
+    let p = c.args.place in
+    let x = expr_of m.file c.args.target.now in
+    let os = ops_of m.file c.args.body.now in
+    goes c.turn.result c.turn.new.m (λ i. unwind_flow (k.env i) (waits i) (turns p (turn_of (k.env i) p x os) (members i) (k.nodes i) (b.state i))) c.turn.ensures

@@ -1,0 +1,82 @@
+// Parts of nodes.
+ghost use Rattle.std.specs.Prelude.{◌≡◌};
+ghost use Rattle.code_spec.specs.Program.{node_start};
+ghost use Rattle.star_blocks.specs.Nested.{ops_of};
+ghost use Rattle.star_spec.specs.Flow.{go_on};
+ghost use Rattle.star_tree.specs.View.{holds_of, item_kind_of};
+ghost use Rattle.star_tree.specs.Whole.{part_of};
+ghost use Rattle.value_spec.specs.Outcomes.{then_do};
+ghost use Rattle.star_eval.specs.Frames.{GoesToFlow};
+ghost use Rattle.star_eval.specs.PartsSoFar.{part_done, parts_so_far, written_part};
+ghost use Rattle.star_eval.specs.View.{Sound, env_of, nodes_in};
+
+use crate::frame::{Control, Flow, Frame, InBlock, InStatement, Machine};
+use crate::machine::{ill_flow, left, push, settle_flow};
+use star_blocks::Op;
+use star_tree::code::NodeOp;
+use star_tree::{Holds, ItemKind};
+use ytt_base::fault::{FaultKind, Place};
+use ytt_base::text::Memory;
+
+/// A part of a node, and then the rest of its block.
+pub(crate) fn node_part<'p>(
+    m: &mut Machine<'p>,
+    part: &'p NodeOp,
+    rest: &'p [Op],
+) -> Result<Control<'p>, Memory>
+    requires { Sound m.old }
+    ensures { GoesToFlow result m.new m.old (λ s. then_do (part_done (part_of m.old.file part.now) (env_of m.old) (nodes_in m.old) s) (go_on (parts_so_far (ops_of m.old.file rest.now) (env_of m.old)))) }
+{
+    m.frames.push(Frame::Block(InBlock::Rest(rest)))?;
+    build(m, part)
+}
+
+/// What a part of a node does. A start takes a step.
+fn build<'p>(m: &mut Machine<'p>, part: &'p NodeOp) -> Result<Control<'p>, Memory>
+    requires { Sound m.old }
+    ensures { GoesToFlow result m.new m.old (part_done (part_of m.old.file part.now) (env_of m.old) (nodes_in m.old)) }
+{
+    match part {
+        NodeOp::Start(place, kind, holds) => start(m, *place, *kind, *holds),
+        NodeOp::Key(_, key) => {
+            let key = key.copy()?;
+            m.nodes.key(key);
+            Ok(Control::Went(Flow::On))
+        }
+        NodeOp::Value(_, value) => {
+            m.nodes.scalar(value)?;
+            Ok(Control::Went(Flow::On))
+        }
+        NodeOp::End(_) => settle_flow(m.nodes.end()),
+        NodeOp::ValueFrom(_, expr) => {
+            if m.nodes.holds_two() {
+                push(
+                    m,
+                    Frame::Statement(InStatement::Take),
+                    Control::Eval(expr.get()),
+                )
+            } else {
+                Ok(ill_flow(m))
+            }
+        }
+        NodeOp::Note(place, _, _) => Ok(left(m, FaultKind::NotBuilt, *place)),
+    }
+}
+
+/// A node starts, which takes a step.
+fn start<'p>(
+    m: &mut Machine<'p>,
+    place: Place,
+    kind: ItemKind,
+    holds: Holds,
+) -> Result<Control<'p>, Memory>
+    requires { Sound m.old }
+    ensures { GoesToFlow result m.new m.old (written_part (node_start place (item_kind_of kind) (holds_of holds)) (nodes_in m.old)) }
+{
+    if m.session.work.steps == 0 {
+        return Ok(left(m, FaultKind::Steps, place));
+    }
+    m.session.work.steps -= 1;
+    m.nodes.start(kind, holds, place)?;
+    Ok(Control::Went(Flow::On))
+}
