@@ -1,11 +1,10 @@
--- What of code isn't built yet: displays of lists and dicts, comprehensions, lambdas, calls, indexes, slices, attributes, text
--- templates, `def`, `load`, notes, and the language's own functions. Each stands at its own place; where a name is bound in
--- its file, it is none of the language's.
+-- What of code isn't built yet: comprehensions, lambdas, calls, attributes, text templates, `def`, `load`, notes, and the
+-- language's own functions. Each stands at its own place; where a name is bound in its file, it is none of the language's.
 use Rattle.std.specs.Prelude.{ℤ, pos, negsuc, ◌^◌, nat_lt, not, Bool, true, false, ◌||◌, List, [], ◌∷◌, ◌++◌}
 use Rattle.std.specs.Str.{is_utf8}
 use Rattle.ytt_base.specs.declared.fault.Place.{Place}
 use Rattle.code_spec.specs.Blocks.{Op, op_part, op_statement, op_if, op_for, op_def, Ops, no_ops, an_op, Arms, no_arm, else_arm, arm}
-use Rattle.code_spec.specs.Code.{Name, Expr, int, text, name, list, tuple, dict, unary, binary, conjunction, disjunction, conditional, call, named, starred, double_starred, index, slice, attribute, lambda, list_comprehension, dict_comprehension, text_template, Exprs, no_exprs, an_expr, Statement, evaluate, assign, augment, load, return, break, continue, pass}
+use Rattle.code_spec.specs.Code.{Name, Expr, int, text, name, list, tuple, dict, unary, binary, conjunction, disjunction, conditional, call, named, starred, double_starred, index, slice, attribute, lambda, list_comprehension, dict_comprehension, text_template, Exprs, no_exprs, an_expr, OptionalExpr, absent, present, Entries, no_entries, an_entry, Statement, evaluate, assign, augment, load, return, break, continue, pass}
 use Rattle.code_spec.specs.Names.{is_among, own_functions}
 use Rattle.code_spec.specs.Program.{NodePart, node_start, node_note, node_key, node_key_from, node_value, node_value_from, node_end, Instruction, part, statement, begin_if, begin_elif, begin_else, begin_for, begin_def, close}
 
@@ -29,18 +28,18 @@ abbrev mutual
   unbuilt_expr bound (int p z) = unless_built (is_integer z) p
   unbuilt_expr bound (text p t) = unless_built (is_utf8 t) p
   unbuilt_expr bound (name p x) = unless_built (is_built_name bound x) p
+  unbuilt_expr bound (list p es) = unbuilt_exprs bound es
   unbuilt_expr bound (tuple p es) = unbuilt_exprs bound es
+  unbuilt_expr bound (dict p es) = unbuilt_entries bound es
   unbuilt_expr bound (unary p o a) = unbuilt_expr bound a
   unbuilt_expr bound (binary p o a b) = unbuilt_expr bound a ++ unbuilt_expr bound b
   unbuilt_expr bound (conjunction p a b) = unbuilt_expr bound a ++ unbuilt_expr bound b
   unbuilt_expr bound (disjunction p a b) = unbuilt_expr bound a ++ unbuilt_expr bound b
   unbuilt_expr bound (conditional p c a b) = unbuilt_expr bound c ++ (unbuilt_expr bound a ++ unbuilt_expr bound b)
+  unbuilt_expr bound (index p a i) = unbuilt_expr bound a ++ unbuilt_expr bound i
+  unbuilt_expr bound (slice p a l h d) = unbuilt_expr bound a ++ (unbuilt_optional bound l ++ (unbuilt_optional bound h ++ unbuilt_optional bound d))
   unbuilt_expr bound (call p f es) = unbuilt_expr bound f ++ p ∷ []
-  unbuilt_expr bound (index p a i) = unbuilt_expr bound a ++ p ∷ []
-  unbuilt_expr bound (slice p a l h d) = unbuilt_expr bound a ++ p ∷ []
   unbuilt_expr bound (attribute p a x) = unbuilt_expr bound a ++ p ∷ []
-  unbuilt_expr bound (list p es) = p ∷ []
-  unbuilt_expr bound (dict p es) = p ∷ []
   unbuilt_expr bound (named p x e) = p ∷ []
   unbuilt_expr bound (starred p e) = p ∷ []
   unbuilt_expr bound (double_starred p e) = p ∷ []
@@ -52,6 +51,14 @@ abbrev mutual
   pub unbuilt_exprs : (bound : List Name) → Exprs → List Place
   unbuilt_exprs bound no_exprs = []
   unbuilt_exprs bound (an_expr e es) = unbuilt_expr bound e ++ unbuilt_exprs bound es
+
+  pub unbuilt_entries : (bound : List Name) → Entries → List Place
+  unbuilt_entries bound no_entries = []
+  unbuilt_entries bound (an_entry a b es) = unbuilt_expr bound a ++ (unbuilt_expr bound b ++ unbuilt_entries bound es)
+
+  pub unbuilt_optional : (bound : List Name) → OptionalExpr → List Place
+  unbuilt_optional bound absent = []
+  unbuilt_optional bound (present e) = unbuilt_expr bound e
 
 -- a target is a name, or a row of targets, or what an index finds
 abbrev mutual

@@ -1,4 +1,4 @@
--- `x[i]`. A refusal of the kind or of the place comes before the steps.
+-- `x[i]`, and `x[i] = v`. A refusal of the kind or of the place comes before the steps.
 use Rattle.std.specs.Prelude.{ℕ, zero, suc, ◌-◌, ℤ, pos, negsuc, ◌+ℤ◌, ◌*ℤ◌, nat_lt, nat_le, Bool, false, ◌&&◌, ◌||◌, not, List, [], ◌∷◌, length, take, drop, Option, Some, None, option_and_then, slice_get, if◌then◌else◌}
 use Rattle.ytt_base.specs.declared.fault.FaultKind.TheVariants as kind
 use Rattle.ytt_base.specs.declared.fault.Place.{Place}
@@ -6,10 +6,10 @@ use Rattle.ytt_base.specs.Trees.{Scalar, null, boolean, integer, string, same_ke
 use Rattle.code_spec.specs.Program.{document_item, pair_item, element_item}
 use Rattle.value_spec.specs.Values.{Value, none_value, bool_value, int_value, text_value, tuple_value, range_value, struct_value, fragment_value, list_value, dict_value, values_in, Fields, child, Children, no_children, a_child, Body}
 use Rattle.value_spec.specs.Built.{body_paid}
-use Rattle.value_spec.specs.Outcomes.{Computation, give, fail, fail_with, or_fail, reads, ◌>>=◌}
+use Rattle.value_spec.specs.Outcomes.{Computation, acting, give, fail, fail_with, or_fail, reads, ◌>>=◌}
 use Rattle.value_spec.specs.Members.{as_int, as_text, is_empty}
 use Rattle.value_spec.specs.Numbers.{range_count}
-use Rattle.value_spec.specs.Store.{list_at, pairs_at, value_of_key}
+use Rattle.value_spec.specs.Store.{dict_put, list_at, list_set, may_change, pairs_at, value_of_key}
 use Rattle.operator_spec.specs.Equality.{named_values}
 use Rattle.operator_spec.specs.Operators.{if_one}
 use Rattle.operator_spec.specs.Order.{key_sized}
@@ -127,3 +127,18 @@ index_row p (fragment_value pair_item cs) k = entry_of p cs k
 index_row p (fragment_value element_item cs) i = by_place p (element_at p cs) i
 index_row p (fragment_value document_item cs) i = fail kind.ValueKind p
 index_row p v i = fail kind.ValueKind p
+
+-- ---- what an index gets
+
+-- a value in the place of a member of a list
+abbrev pub set_member_at : {H : Type 0} → Place → ℕ → ℤ → Value → Computation H (Unit {0})
+set_member_at p r z v = do
+  vs ← reads (list_at r)
+  i ← or_fail kind.IndexRange p (place_among (length vs) z)
+  acting p (list_set r i v)
+
+-- It is refused first where the list or the dict can't be changed. A dict's key takes its size, and a list's place takes nothing.
+abbrev pub set_index_row : {H : Type 0} → Place → (value index new : Value) → Computation H (Unit {0})
+set_index_row p (list_value r) i v = acting p (may_change r) >>= λ u. if_one (as_int i) (λ z. set_member_at p r z v) (fail kind.ValueKind p)
+set_index_row p (dict_value r) k v = acting p (may_change r) >>= λ u. key_sized p k >>= λ w. acting p (dict_put r k v)
+set_index_row p x i v = fail kind.ValueKind p

@@ -9,7 +9,7 @@ use indexmap::map::Slice;
 use star_values::{ArenaStop, Contents, Ref, Value, equal_values_are_one};
 
 /// The value under a key.
-fn value_under(pairs: &IndexMap<Value, Value>, key: Value) -> Option<Value>
+pub(crate) fn value_under(pairs: &IndexMap<Value, Value>, key: Value) -> Option<Value>
     ensures { result ≡ get_by (⟦<Value as PartialEq>⟧.eq key) pairs.now }
 {
     pairs.get(&key).copied()

@@ -12,10 +12,12 @@ mod dicts;
 mod lists;
 mod loops;
 mod makers;
+mod pairs;
 mod readers;
 
 pub use arena::Arena;
 pub use loops::Mark;
+pub use pairs::Pairs;
 pub use readers::Shape;
 pub use star_values::{
     Answerer, ArenaStop, Boxes, Built, BuiltItem, BuiltNote, BuiltNotes, BuiltValue, CallArgs, Cut,

@@ -1,6 +1,6 @@
 // Loops that walk objects, and marks.
 ghost use Rattle.std.specs.Prelude.{◌≡◌, ◌<◌, ◌^◌, ◌≤◌};
-ghost use Rattle.object_arena.specs.Names.{IsSome, IsTrue, Some, length, slice_get, as_frozen, begin_loop, change, end_loop, freeze_since, object_at, seen, Grows};
+ghost use Rattle.object_arena.specs.Names.{IsSome, IsTrue, Some, length, nat_lt, slice_get, as_frozen, begin_loop, change, end_loop, freeze_since, object_at, seen, Grows};
 ghost use Rattle.object_arena.specs.Stands.{is_walked, loops_of};
 
 use crate::arena::Arena;
@@ -49,7 +49,7 @@ impl Arena {
     /// Whether one more loop may walk an object: fewer than 2^63 do.
     pub fn may_walk(&self, r: Ref) -> bool
         requires { IsSome (object_at (seen self.now) r.at) }
-        ensures { IsTrue result → loops_of (slice_get (seen self.now).store r.at) < 2 ^ 63 }
+        ensures { result ≡ nat_lt (loops_of (slice_get (seen self.now).store r.at)) (2 ^ 63) }
     {
         self.object(r.at).loops < 1 << 63
     }

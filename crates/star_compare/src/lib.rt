@@ -2,15 +2,17 @@
 //!
 //! Each call takes exactly the steps of the definition and refuses exactly as it refuses: `TooDeep` where more than 100
 //! collections stand in one another, `Steps` where fewer are left than it takes, and `ValueKind` where the kinds have no
-//! order, or a value is no key. None changes the arena.
+//! order, or a value is no key. `key_offence` tells why a value is no key, and takes no steps. None changes the arena.
 #![tactic(auto)]
 
 mod equality;
+mod offences;
 mod order;
 mod pairs;
 mod sizes;
 
 pub use equality::{among, bounds, equal};
+pub use offences::key_offence;
 pub use order::compare;
 pub use pairs::{field_under, pair_count, value_under};
 pub use sizes::key_size;

@@ -2,19 +2,24 @@
 use Rattle.std.proofs.Common.{◌≡◌, ℕ, List, [], ◌∷◌, drop, reverse, Option, Some, None, refl, ap, subst, sym, IsTrue, rules}
 use Rattle.std.proofs.lemmas.List.{reverse-append}
 use Rattle.star_blocks.specs.Nested.{ops_of}
+use Rattle.star_tree.specs.Listed.{entries_of, optional_of}
 use Rattle.star_tree.specs.Whole.{binary_operator_of, expr_of, exprs_of}
 use Rattle.node_build.proofs.Growing.{nodes_kept}
 use Rattle.star_values.proofs.Growing.{each_joined, owns_all_kept, owns_kept, value_kept, values_kept, variable_kept}
-use Rattle.star_values.specs.Objects.{env_in}
-use Rattle.star_values.specs.Owns.{Each, Grows, OwnsEnv, object_at}
+use Rattle.star_values.specs.Objects.{env_in, pairs_in}
+use Rattle.star_values.specs.Owns.{Each, Grows, OwnsEnv, OwnsPair, object_at}
 use Rattle.star_values.specs.View.{View}
 use Rattle.star_values.specs.declared.object.NamedBox.{NamedBox}
 use Rattle.star_values.specs.declared.value.Ref.{Ref}
 use Rattle.star_values.specs.declared.value.Sort.{Sort}
+use Rattle.star_values.specs.declared.value.Value.{Value}
+use Rattle.value_spec.specs.Keys.{IsKey}
 use Rattle.star_eval.specs.declared.frame.Frame.{Frame}
 use Rattle.star_eval.specs.declared.frame.Frame.TheVariants as frame
 use Rattle.star_eval.specs.declared.frame.InBlock as held_block
 use Rattle.star_eval.specs.declared.frame.InBlock.TheVariants as in_block
+use Rattle.star_eval.specs.declared.frame.InIndex as held_index
+use Rattle.star_eval.specs.declared.frame.InIndex.TheVariants as in_index
 use Rattle.star_eval.specs.declared.frame.InStatement as held_statement
 use Rattle.star_eval.specs.declared.frame.InStatement.TheVariants as in_statement
 use Rattle.star_eval.specs.declared.frame.InValue as held_value
@@ -26,7 +31,7 @@ use Rattle.star_eval.specs.declared.source.Members.TheVariants as members
 use Rattle.star_eval.specs.declared.source.Source.{Source}
 use Rattle.star_eval.specs.Meets.{arena_of}
 use Rattle.star_eval.specs.Sources.{OwnsMembers, OwnsSource, Walked, all_members, left_of, walked_sort}
-use Rattle.star_eval.specs.View.{OwnsFrame, OwnsInBlock, OwnsInStatement, OwnsInValue, Sound, arena_in, block_frame, env_of, frame_of, frames_of, gathering_of, nodes_in, statement_frame, value_frame, waiting_in}
+use Rattle.star_eval.specs.View.{OwnsFrame, OwnsInBlock, OwnsInIndex, OwnsInStatement, OwnsInValue, Sound, arena_in, block_frame, env_of, frame_of, frames_of, gathering_of, index_frame, nodes_in, statement_frame, value_frame, waiting_in}
 use Rattle.star_eval.specs.Waiting as plain
 
 -- ---- scopes
@@ -54,9 +59,29 @@ still_walked (Some k) p f h = subst (λ q. IsTrue (walked_sort q)) (sym (f k ref
 pub walked_kept : (a b : View) (r : Ref) → Grows a b → Walked a r → Walked b r
 walked_kept a b r g w = still_walked (object_at a r.at) (object_at b r.at) (g.objects r.at) w
 
+-- ---- pairs
+
+pairs_kept : (a b : View) (ps : List (Value × Value)) → Grows a b → Each (OwnsPair a) ps → Each (OwnsPair b) ps × (pairs_in b.held ps ≡ pairs_in a.held ps)
+pairs_kept a b [] g w = (tt, refl)
+pairs_kept a b (p ∷ ps) g w =
+    let key = value_kept a b p.0 g w.0.0 in
+    let value = value_kept a b p.1 g w.0.1 in
+    let more = pairs_kept a b ps g w.1 in
+    (((owns_kept a b p.0 g w.0.0, owns_kept a b p.1 g w.0.1, subst IsKey (sym key) w.0.2), more.0), λ i. (key i, value i) ∷ more.1 i)
+
 -- ---- frames
 
 module _ (a b : View) (file : ℕ) (g : Grows a b) where
+  in_index_kept : (f : held_index.InIndex) → OwnsInIndex a f → OwnsInIndex b f × (index_frame b file f ≡ index_frame a file f)
+  in_index_kept (in_index.IndexOf p i) w = (tt, refl)
+  in_index_kept (in_index.IndexAt p x) w = (owns_kept a b x g w, ap (plain.index_at p) (value_kept a b x g w))
+  in_index_kept (in_index.BoundsOf p i j k) w = (tt, refl)
+  in_index_kept (in_index.EndOf p x j k) w = (owns_kept a b x g w, ap (λ v. plain.end_of p v (optional_of file j.now) (optional_of file k.now)) (value_kept a b x g w))
+  in_index_kept (in_index.StepOf p x y k) w = ((owns_kept a b x g w.0, owns_kept a b y g w.1), λ i. plain.step_of p (value_kept a b x g w.0 i) (value_kept a b y g w.1 i) (optional_of file k.now))
+  in_index_kept (in_index.CutAt p x y z) w = ((owns_kept a b x g w.0, owns_kept a b y g w.1, owns_kept a b z g w.2), λ i. plain.cut_at p (value_kept a b x g w.0 i) (value_kept a b y g w.1 i) (value_kept a b z g w.2 i))
+  in_index_kept (in_index.TargetOf p i v) w = (owns_kept a b v g w, ap (plain.target_of p (expr_of file i.now)) (value_kept a b v g w))
+  in_index_kept (in_index.TargetAt p x v) w = ((owns_kept a b x g w.0, owns_kept a b v g w.1), λ i. plain.target_at p (value_kept a b x g w.0 i) (value_kept a b v g w.1 i))
+
   in_value_kept : (f : held_value.InValue) → OwnsInValue a f → OwnsInValue b f × (value_frame b file f ≡ value_frame a file f)
   in_value_kept (in_value.Right p o x) w = (tt, refl)
   in_value_kept (in_value.Operate p o x) w = (owns_kept a b x g w, ap (plain.operate p (binary_operator_of o)) (value_kept a b x g w))
@@ -66,11 +91,18 @@ module _ (a b : View) (file : ℕ) (g : Grows a b) where
   in_value_kept (in_value.OrElse x) w = (tt, refl)
   in_value_kept (in_value.Choose x y) w = (tt, refl)
   in_value_kept (in_value.Targets p es s) w = let k = source_kept a b s g w in (k.0, ap (plain.targets p (exprs_of file es.now)) k.1)
+  in_value_kept (in_value.KeyOf p e es ps) w = let k = pairs_kept a b ps.entries g w in (k.0, ap (plain.key_of p (expr_of file e.now) (entries_of file es.now)) k.1)
+  in_value_kept (in_value.PairOf p x es ps) w = let k = pairs_kept a b ps.entries g w.1 in ((owns_kept a b x g w.0, k.0), λ i. plain.pair_of p (value_kept a b x g w.0 i) (entries_of file es.now) (k.1 i))
+  in_value_kept (in_value.Index f) w = in_index_kept f w
 
   in_statement_kept : (f : held_statement.InStatement) → OwnsInStatement a f → OwnsInStatement b f × (statement_frame b file f ≡ statement_frame a file f)
   in_statement_kept in_statement.Discard w = (tt, refl)
   in_statement_kept (in_statement.AssignTo p x) w = (tt, refl)
   in_statement_kept (in_statement.Augment q o p x old) w = (owns_kept a b old g w, ap (plain.augment q (binary_operator_of o) p x.now) (value_kept a b old g w))
+  in_statement_kept (in_statement.AugmentOf q o r i e) w = (tt, refl)
+  in_statement_kept (in_statement.AugmentAt q o r x e) w = (owns_kept a b x g w, ap (λ v. plain.augment_at q (binary_operator_of o) r v (expr_of file e.now)) (value_kept a b x g w))
+  in_statement_kept (in_statement.AugmentIndex q o r x y old) w =
+      ((owns_kept a b x g w.0, owns_kept a b y g w.1, owns_kept a b old g w.2), λ i. plain.augment_index q (binary_operator_of o) r (value_kept a b x g w.0 i) (value_kept a b y g w.1 i) (value_kept a b old g w.2 i))
   in_statement_kept in_statement.Return w = (tt, refl)
   in_statement_kept (in_statement.Branch os bs) w = (tt, refl)
   in_statement_kept (in_statement.Walk p x os) w = (tt, refl)

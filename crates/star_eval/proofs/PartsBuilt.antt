@@ -5,6 +5,7 @@ use Rattle.ytt_base.specs.declared.fault.Place.{Place}
 use Rattle.code_spec.specs.Code as plain
 use Rattle.code_spec.specs.Code.{Name}
 use Rattle.code_spec.specs.Blocks.{Op, op_part, op_statement, op_if, op_for, op_def, Ops, no_ops, an_op, Arms, no_arm, else_arm, arm}
+use Rattle.index_spec.specs.Index.{index_row, set_index_row}
 use Rattle.operator_spec.specs.Operators.{augment_row}
 use Rattle.star_spec.specs.Eval.{eval, assign_to, assign_each, augment_to, count_exprs, members_of, starlark, truth_of}
 use Rattle.star_spec.specs.Flow.{Flow, on, Part, in_turn, over_members, plain as as_part, worded}
@@ -17,14 +18,11 @@ use Rattle.value_spec.specs.Values.{Value, Env}
 use Rattle.code_spec.proofs.UnbuiltBlocks.{none_in_both}
 use Rattle.template_meaning.specs.Run.{node_part, run, runs, run_arms}
 use Rattle.node_build.specs.Parts.{taking}
-use Rattle.star_eval.specs.PartsSoFar.{Nodes, assigned, assigned_each, augmented, stated, statement_place, part_done, part_so_far, parts_so_far, arms_so_far}
-use Rattle.star_eval.proofs.Built.{one_unbuilt, value_is}
-use Rattle.star_eval.proofs.Chaining.{in_a_row}
+use Rattle.star_eval.specs.PartsSoFar.{Nodes, assigned, assigned_each, augmented, changed_at, stated, statement_place, part_done, part_so_far, parts_so_far, arms_so_far}
+use Rattle.star_eval.proofs.Built.{value_is}
+use Rattle.star_eval.proofs.Chaining.{chained}
 
 module _ {H : Type 0} where
-  chained : {A B C : Type 0} (m : Computation H A) (f : A → Computation H B) (g : B → Computation H C) → ((m >>= f) >>= g) ≡ (m >>= λ a. f a >>= g)
-  chained m f g = λ i s. in_a_row (m s) f g i
-
   paid_on : {A B : Type 0} (p : Place) (m : Computation H A) (g : A → Computation H B) → (paid p m >>= g) ≡ paid p (m >>= g)
   paid_on p m g = chained (take_steps 1 p) (λ u. m) g
 
@@ -40,7 +38,9 @@ module _ {H : Type 0} (call : Call H) (env : Env) (bound : List Name) where
     assigned_is p (plain.name q x) v h = refl
     assigned_is p (plain.list q es) v h = λ i. members_of p v >>= λ vs. need kind.ValueKind p (length vs == count_exprs es) >>= λ u. each_is p es vs h i
     assigned_is p (plain.tuple q es) v h = λ i. members_of p v >>= λ vs. need kind.ValueKind p (length vs == count_exprs es) >>= λ u. each_is p es vs h i
-    assigned_is p (plain.index q a j) v h = one_unbuilt (unbuilt_expr bound a) q h
+    assigned_is p (plain.index q a j) v h =
+        let both = none_in_both (unbuilt_expr bound a) (unbuilt_expr bound j) h in
+        λ i. value_is call env bound a both.0 i >>= λ x. value_is call env bound j both.1 i >>= λ y. set_index_row q x y v
     assigned_is p x v h = refl
 
     each_is : (p : Place) (es : plain.Exprs) (vs : List Value) → unbuilt_targets bound es ≡ [] → assigned_each {H = H} p es vs env ≡ assign_each call p es vs env
@@ -50,6 +50,16 @@ module _ {H : Type 0} (call : Call H) (env : Env) (bound : List Name) where
         let both = none_in_both (unbuilt_target bound e) (unbuilt_targets bound es) h in
         λ i. assigned_is p e v both.0 i >>= λ u. each_is p es vs both.1 i
 
+  -- the same behind what is indexed
+  index_changed : (o : plain.BinaryOperator) (q r : Place) (j e : plain.Expr) (x : Value) (k : Nodes) →
+      ((eval call j env >>= λ y. index_row r x y >>= λ old. eval call e env >>= λ v. augment_row q o old v >>= λ w. set_index_row r x y w) >>= λ u. give (on k))
+      ≡ (eval call j env >>= λ y. index_row r x y >>= λ old. eval call e env >>= λ v. changed_at q o r x y old v k)
+  index_changed o q r j e x k =
+      chained (eval call j env) (λ y. index_row r x y >>= λ old. eval call e env >>= λ v. augment_row q o old v >>= λ w. set_index_row r x y w) (λ u. give (on k))
+      ∙ (λ i. eval call j env >>= λ y. chained (index_row r x y) (λ old. eval call e env >>= λ v. augment_row q o old v >>= λ w. set_index_row r x y w) (λ u. give (on k)) i)
+      ∙ (λ i. eval call j env >>= λ y. index_row r x y >>= λ old. chained (eval call e env) (λ v. augment_row q o old v >>= λ w. set_index_row r x y w) (λ u. give (on k)) i)
+      ∙ (λ i. eval call j env >>= λ y. index_row r x y >>= λ old. eval call e env >>= λ v. chained (augment_row q o old v) (λ w. set_index_row r x y w) (λ u. give (on k)) i)
+
   augmented_is : (p : Place) (o : plain.BinaryOperator) (q : Place) (x e : plain.Expr) (k : Nodes) → unbuilt_target bound x ≡ [] → unbuilt_expr bound e ≡ [] →
       augmented o q x e env k ≡ (augment_to call p o q x e env >>= λ u. give (on k))
   augmented_is p o q (plain.name r x) e k h b =
@@ -58,7 +68,12 @@ module _ {H : Type 0} (call : Call H) (env : Env) (bound : List Name) where
       chained (read_name r x (box_of x env)) (λ old. eval call e env >>= λ v. augment_row q o old v >>= λ w. write_name r x w (box_of x env)) (λ u. give (on k))
       ∙ (λ i. read_name r x (box_of x env) >>= λ old. chained (eval call e env) (λ v. augment_row q o old v >>= λ w. write_name r x w (box_of x env)) (λ u. give (on k)) i)
       ∙ (λ i. read_name r x (box_of x env) >>= λ old. eval call e env >>= λ v. chained (augment_row q o old v) (λ w. write_name r x w (box_of x env)) (λ u. give (on k)) i))
-  augmented_is p o q (plain.index r a j) e k h b = one_unbuilt (unbuilt_expr bound a) r h
+  augmented_is p o q (plain.index r a j) e k h b =
+      let both = none_in_both (unbuilt_expr bound a) (unbuilt_expr bound j) h in
+      (λ i. value_is call env bound a both.0 i >>= λ x. value_is call env bound j both.1 i >>= λ y. index_row r x y >>= λ old. value_is call env bound e b i >>= λ v. changed_at q o r x y old v k)
+      ∙ sym (
+      chained (eval call a env) (λ x. eval call j env >>= λ y. index_row r x y >>= λ old. eval call e env >>= λ v. augment_row q o old v >>= λ w. set_index_row r x y w) (λ u. give (on k))
+      ∙ (λ i. eval call a env >>= λ x. index_changed o q r j e x k i))
   augmented_is p o q x e k h b = refl
 
   -- ---- statements

@@ -9,6 +9,7 @@ use Rattle.value_spec.specs.Values.{Value, Env}
 use Rattle.value_spec.specs.Outcomes.{Computation, paid, give, need, not_built, ill_formed, ◌>>=◌}
 use Rattle.star_spec.specs.Names.{box_of, read_name, write_name}
 use Rattle.operator_spec.specs.Operators.{augment_row}
+use Rattle.index_spec.specs.Index.{index_row, set_index_row}
 use Rattle.star_spec.specs.Eval.{count_exprs, members_of, truth_of}
 use Rattle.star_spec.specs.Language.{breaks, continues, returns}
 use Rattle.star_spec.specs.Flow.{on, out, Part, in_turn, over_members}
@@ -23,13 +24,13 @@ Nodes = List Node
 
 -- ---- assignments
 
--- a value to a target, in a statement at a place: to a name, or member by member to as many targets
+-- a value to a target, in a statement at a place: to a name, to an index, or member by member to as many targets
 abbrev mutual
   pub assigned : {H : Type 0} → Place → Expr → Value → Env → Computation H (Unit {0})
   assigned p (name q x) v env = write_name q x v (box_of x env)
   assigned p (plain.list q es) v env = members_of p v >>= λ vs. need kind.ValueKind p (length vs == count_exprs es) >>= λ u. assigned_each p es vs env
   assigned p (plain.tuple q es) v env = members_of p v >>= λ vs. need kind.ValueKind p (length vs == count_exprs es) >>= λ u. assigned_each p es vs env
-  assigned p (index q a i) v env = not_built p
+  assigned p (index q a i) v env = value_so_far a env >>= λ x. value_so_far i env >>= λ y. set_index_row q x y v
   assigned p _ v env = ill_formed
 
   pub assigned_each : {H : Type 0} → Place → Exprs → List Value → Env → Computation H (Unit {0})
@@ -45,10 +46,18 @@ spread_over p es v env = members_of p v >>= λ vs. need kind.ValueKind p (length
 abbrev pub concluded : {H K : Type 0} → Computation H (Unit {0}) → Part H K
 concluded m k = m >>= λ u. give (on k)
 
--- what a name had, then the value, and then what both give
+-- what an operation gives for what a value had at an index goes there, at the end of a statement
+abbrev pub changed_at : {H K : Type 0} → (operator_place : Place) → BinaryOperator → Place → (indexed index old value : Value) → Part H K
+changed_at q o r x y old v k = augment_row q o old v >>= λ w. concluded (set_index_row r x y w) k
+
+-- the same with the value of an expression, which is worked out behind what was there
+abbrev pub augmented_in : {H K : Type 0} → (operator_place : Place) → BinaryOperator → Place → (indexed index : Value) → Expr → Env → (old : Value) → Part H K
+augmented_in q o r x y e env old k = value_so_far e env >>= λ v. changed_at q o r x y old v k
+
+-- the parts of the target, what it had, then the value, and then what both give
 abbrev pub augmented : {H K : Type 0} → BinaryOperator → (operator_place : Place) → (target value : Expr) → Env → Part H K
 augmented o q (name r x) e env k = read_name r x (box_of x env) >>= λ old. value_so_far e env >>= λ v. augment_row q o old v >>= λ w. write_name r x w (box_of x env) >>= λ u. give (on k)
-augmented o q (index r a i) e env k = not_built r
+augmented o q (index r a i) e env k = value_so_far a env >>= λ x. value_so_far i env >>= λ y. index_row r x y >>= λ old. augmented_in q o r x y e env old k
 augmented o q _ e env k = ill_formed
 
 -- ---- statements

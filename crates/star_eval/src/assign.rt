@@ -1,5 +1,6 @@
 // Assignments.
 ghost use Rattle.std.specs.Prelude.{◌≡◌, IfOk};
+ghost use Rattle.index_spec.specs.Index.{index_row, set_index_row};
 ghost use Rattle.operator_spec.specs.Operators.{augment_row};
 ghost use Rattle.star_spec.specs.Names.{box_of, write_name};
 ghost use Rattle.star_tree.specs.Whole.{binary_operator_of, expr_of, exprs_of};
@@ -7,14 +8,17 @@ ghost use Rattle.star_values.specs.Owns.{Owns};
 ghost use Rattle.star_values.specs.View.{value_of};
 ghost use Rattle.value_spec.specs.Outcomes.{then_do};
 ghost use Rattle.star_eval.specs.Frames.{GoesToFlow, GoesToValue};
-ghost use Rattle.star_eval.specs.PartsSoFar.{assigned, assigned_each, concluded, spread_over};
+ghost use Rattle.star_eval.specs.PartsSoFar.{assigned, assigned_each, augmented_in, changed_at, concluded, spread_over};
 ghost use Rattle.star_eval.specs.Sources.{OwnsSource, left_of};
 ghost use Rattle.star_eval.specs.View.{Sound, arena_in, env_of, nodes_in};
 ghost use Rattle.star_eval.specs.Waiting.{with_none};
 
-use crate::frame::{Control, Frame, InValue, Machine};
+use crate::frame::{Control, Frame, InIndex, InStatement, InValue, Machine};
+use crate::indexes::within_index;
 use crate::machine::{failed, ill_formed, push, settle_flow, settle_none};
 use crate::names::write;
+use crate::run::within;
+use crate::session::set_at;
 use crate::source::{Source, members_of};
 use object_arena::Value;
 use star_tree::code::{BinOp, Expr};
@@ -42,7 +46,13 @@ pub(crate) fn assign<'p>(
         }
         Expr::List(_, targets) => spread(m, place, targets.as_slice(), value),
         Expr::Tuple(_, targets) => spread(m, place, targets.as_slice(), value),
-        Expr::Index(_, _, _) => Ok(failed(m, FaultKind::NotBuilt, place)),
+        Expr::Index(line, a, index) => {
+            let at = Place {
+                file: m.file,
+                line: *line,
+            };
+            within_index(m, InIndex::TargetOf(at, index.get(), value), a.get())
+        }
         Expr::Int(_, _)
         | Expr::Text(_, _)
         | Expr::Dict(_, _)
@@ -150,4 +160,72 @@ fn name_gets<'p>(
     ensures { GoesToFlow result m.new m.old (concluded (write_name place name.now (value_of (arena_in m.old) value) (box_of name.now (env_of m.old))) (nodes_in m.old)) }
 {
     settle_flow(write(&mut m.session, m.scope.as_slice(), place, name, value))
+}
+
+/// What a value has at an index, then the value of an expression, and then the operation, whose value it gets there.
+pub(crate) fn augment_at<'p>(
+    m: &mut Machine<'p>,
+    place: Place,
+    op: BinOp,
+    at: Place,
+    indexed: Value,
+    index: Value,
+    expr: &'p Expr,
+) -> Result<Control<'p>, Memory>
+    requires sound { Sound m.old }
+    requires indexed { Owns (arena_in m.old) indexed }
+    requires index { Owns (arena_in m.old) index }
+    ensures { GoesToFlow result m.new m.old (λ s. then_do (index_row at (value_of (arena_in m.old) indexed) (value_of (arena_in m.old) index) s) (λ old. augmented_in place (binary_operator_of op) at (value_of (arena_in m.old) indexed) (value_of (arena_in m.old) index) (expr_of m.old.file expr.now) (env_of m.old) old (nodes_in m.old))) }
+{
+    let session = &mut m.session;
+    match star_ops::index(&mut session.arena, &mut session.work, indexed, index, at) {
+        Ok(old) => {
+            let frame = InStatement::AugmentIndex(place, op, at, indexed, index, old);
+            within(m, frame, expr)
+        }
+        Err(Stop::Fault(fault)) => Ok(Control::Left(fault)),
+        Err(Stop::Memory) => Err(Memory),
+    }
+}
+
+/// A value gets at an index what the operation gives for what it had there, and the statement ends.
+pub(crate) fn augmented_at<'p>(
+    m: &mut Machine<'p>,
+    place: Place,
+    op: BinOp,
+    at: Place,
+    indexed: (Value, Value),
+    old: Value,
+    value: Value,
+) -> Result<Control<'p>, Memory>
+    requires sound { Sound m.old }
+    requires indexed { Owns (arena_in m.old) indexed.0 }
+    requires index { Owns (arena_in m.old) indexed.1 }
+    requires old { Owns (arena_in m.old) old }
+    requires value { Owns (arena_in m.old) value }
+    ensures { GoesToFlow result m.new m.old (changed_at place (binary_operator_of op) at (value_of (arena_in m.old) indexed.0) (value_of (arena_in m.old) indexed.1) (value_of (arena_in m.old) old) (value_of (arena_in m.old) value) (nodes_in m.old)) }
+{
+    let session = &mut m.session;
+    match star_ops::augment(&mut session.arena, &mut session.work, op, old, value, place) {
+        Ok(changed) => index_gets(m, at, indexed, changed),
+        Err(Stop::Fault(fault)) => Ok(Control::Left(fault)),
+        Err(Stop::Memory) => Err(Memory),
+    }
+}
+
+/// A value gets another one at an index, and the statement ends.
+fn index_gets<'p>(
+    m: &mut Machine<'p>,
+    place: Place,
+    indexed: (Value, Value),
+    new: Value,
+) -> Result<Control<'p>, Memory>
+    requires sound { Sound m.old }
+    requires indexed { Owns (arena_in m.old) indexed.0 }
+    requires index { Owns (arena_in m.old) indexed.1 }
+    requires new { Owns (arena_in m.old) new }
+    ensures { GoesToFlow result m.new m.old (concluded (set_index_row place (value_of (arena_in m.old) indexed.0) (value_of (arena_in m.old) indexed.1) (value_of (arena_in m.old) new)) (nodes_in m.old)) }
+{
+    let (value, index) = indexed;
+    settle_flow(set_at(&mut m.session, place, value, index, new))
 }

@@ -13,10 +13,13 @@ ghost use Rattle.star_eval.specs.SoFar.{acted, place_in, values_so_far};
 ghost use Rattle.star_eval.specs.View.{Sound, arena_in, env_of, gathering_of};
 ghost use Rattle.star_eval.specs.Waiting.{gathered};
 
-use crate::frame::{Control, Frame, Gathering, InValue, Machine};
+use crate::dicts::entries;
+use crate::frame::{Control, Frame, Gathering, InIndex, InValue, Machine};
+use crate::indexes::within_index;
 use crate::machine::{failed, ill_formed, push, settle};
 use crate::names::read;
 use crate::session::{make_list, make_text, make_tuple};
+use indexmap::IndexMap;
 use object_arena::{Value, Values};
 use sqlite_items::Items;
 use star_tree::code::{BinOp, Expr, UnOp};
@@ -80,6 +83,14 @@ fn act<'p>(m: &mut Machine<'p>, place: Place, expr: &'p Expr) -> Result<Control<
         Expr::Name(_, name) => variable(m, place, name),
         Expr::List(_, members) => row(m, Gathering::List, members.as_slice()),
         Expr::Tuple(_, members) => row(m, Gathering::Tuple, members.as_slice()),
+        Expr::Dict(_, members) => {
+            let pairs = IndexMap::new(m.session.arena.alloc());
+            entries(m, place, members.as_slice(), pairs)
+        }
+        Expr::Index(_, a, index) => within_index(m, InIndex::IndexOf(place, index.get()), a.get()),
+        Expr::Slice(_, a, from, to, step) => {
+            within_index(m, InIndex::BoundsOf(place, from, to, step), a.get())
+        }
         Expr::Unary(_, op, a) => {
             let frame = Frame::Value(InValue::OperateOn(place, *op));
             push(m, frame, Control::Eval(a.get()))
@@ -100,13 +111,10 @@ fn act<'p>(m: &mut Machine<'p>, place: Place, expr: &'p Expr) -> Result<Control<
             let frame = Frame::Value(InValue::Choose(a.get(), b.get()));
             push(m, frame, Control::Eval(test.get()))
         }
-        Expr::Dict(_, _)
-        | Expr::Call(_, _, _)
+        Expr::Call(_, _, _)
         | Expr::Named(_, _, _)
         | Expr::Star(_, _)
         | Expr::Stars(_, _)
-        | Expr::Index(_, _, _)
-        | Expr::Slice(_, _, _, _, _)
         | Expr::Dot(_, _, _)
         | Expr::Lambda(_, _, _, _)
         | Expr::ListFor(_, _, _)

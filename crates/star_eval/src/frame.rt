@@ -3,10 +3,10 @@
 use crate::session::Session;
 use crate::source::Source;
 use node_build::Builder;
-use object_arena::{Boxes, Ref, Value, Values};
-use sqlite_items::Items;
+use object_arena::{Boxes, Pairs, Ref, Value, Values};
+use sqlite_items::{Boxed, Items};
 use star_blocks::{Arm, Op};
-use star_tree::code::{BinOp, Expr, UnOp};
+use star_tree::code::{BinOp, Entry, Expr, UnOp};
 use ytt_base::fault::{Fault, Place};
 use ytt_base::text::Text;
 
@@ -24,6 +24,30 @@ pub enum Flow {
 pub(crate) enum Gathering {
     Tuple,
     List,
+}
+
+/// A part of a slice, if it stands there.
+pub(crate) type Bound = Option<Boxed<Expr>>;
+
+/// What goes on from a value to what an index or a slice gives, or to a target that is an index.
+#[derive(Drop)]
+pub(crate) enum InIndex<'p> {
+    /// The index of the value.
+    IndexOf(Place, &'p Expr),
+    /// The index of this value.
+    IndexAt(Place, Value),
+    /// The parts of a slice of the value.
+    BoundsOf(Place, &'p Bound, &'p Bound, &'p Bound),
+    /// The further parts of a slice of this value.
+    EndOf(Place, Value, &'p Bound, &'p Bound),
+    /// The last part of a slice of this value, behind the first.
+    StepOf(Place, Value, Value, &'p Bound),
+    /// The slice of this value, behind its first parts.
+    CutAt(Place, Value, Value, Value),
+    /// The index at which the value gets this one.
+    TargetOf(Place, &'p Expr, Value),
+    /// This value, which gets another one at the index.
+    TargetAt(Place, Value, Value),
 }
 
 /// What goes on from a value to a value.
@@ -45,6 +69,11 @@ pub(crate) enum InValue<'p> {
     Choose(&'p Expr, &'p Expr),
     /// These further targets, for these members from this one on, whatever value comes.
     Targets(Place, &'p [Expr], Source),
+    /// The value of a key of a display, and its further entries, behind these pairs.
+    KeyOf(Place, &'p Expr, &'p [Entry], Pairs),
+    /// The pair of this key, and the further entries.
+    PairOf(Place, Value, &'p [Entry], Pairs),
+    Index(InIndex<'p>),
 }
 
 /// What goes on from a value to the end of a statement, or of a part of a node.
@@ -55,6 +84,12 @@ pub(crate) enum InStatement<'p> {
     AssignTo(Place, &'p Expr),
     /// The operation on what a name had, and the name that gets its value.
     Augment(Place, BinOp, Place, &'p Text, Value),
+    /// The index of a target that the operation changes.
+    AugmentOf(Place, BinOp, Place, &'p Expr, &'p Expr),
+    /// The operation on what this value has at the index.
+    AugmentAt(Place, BinOp, Place, Value, &'p Expr),
+    /// The operation on what a value had at an index, which gets its value.
+    AugmentIndex(Place, BinOp, Place, Value, Value, Value),
     Return,
     /// The block where the test holds, and the further branches.
     Branch(&'p [Op], &'p [Arm]),

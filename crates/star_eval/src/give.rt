@@ -8,11 +8,13 @@ ghost use Rattle.star_eval.specs.Frames.{Goes, GoesToFlow, GoesToValue, inside};
 ghost use Rattle.star_eval.specs.View.{OwnsFrame, OwnsInStatement, OwnsInValue, Sound, arena_in, env_of, frame_of, nodes_in, statement_frame, value_frame, waiting_in};
 ghost use Rattle.star_eval.specs.Waiting.{statement_goes, value_goes};
 
-use crate::assign::{augmented, next_target};
+use crate::assign::{augment_at, augmented, augmented_at, next_target};
+use crate::dicts::pair;
 use crate::eval::{gather, operated, operated_on};
 use crate::frame::{Control, Flow, Frame, InStatement, InValue, Machine};
+use crate::indexes::give_index;
 use crate::machine::{form_fault, push, settle_flow};
-use crate::run::choose;
+use crate::run::{choose, within};
 use crate::walk::walk;
 use crate::went::leave_block;
 use object_arena::Value;
@@ -84,6 +86,12 @@ fn give_value<'p>(
             }
         }
         InValue::Targets(place, targets, source) => next_target(m, place, targets, source),
+        InValue::KeyOf(place, other, rest, pairs) => {
+            let frame = Frame::Value(InValue::PairOf(place, value, rest, pairs));
+            push(m, frame, Control::Eval(other))
+        }
+        InValue::PairOf(place, key, rest, pairs) => pair(m, place, key, value, rest, pairs),
+        InValue::Index(inner) => give_index(m, inner, value),
     }
 }
 
@@ -106,6 +114,15 @@ fn give_statement<'p>(
         }
         InStatement::Augment(place, op, at, name, old) => {
             augmented(m, place, op, at, name, old, value)
+        }
+        InStatement::AugmentOf(place, op, at, index, expr) => {
+            within(m, InStatement::AugmentAt(place, op, at, value, expr), index)
+        }
+        InStatement::AugmentAt(place, op, at, indexed, expr) => {
+            augment_at(m, place, op, at, indexed, value, expr)
+        }
+        InStatement::AugmentIndex(place, op, at, indexed, index, old) => {
+            augmented_at(m, place, op, at, (indexed, index), old, value)
         }
         InStatement::Return => Ok(Control::Went(Flow::Return(value))),
         InStatement::Branch(body, more) => {

@@ -7,10 +7,12 @@
 #![tactic(auto)]
 
 mod assign;
+mod dicts;
 mod eval;
 mod file;
 mod frame;
 mod give;
+mod indexes;
 mod looped;
 mod machine;
 mod names;

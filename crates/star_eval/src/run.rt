@@ -155,12 +155,16 @@ fn augment<'p>(
             };
             augment_name(m, place, op, at, name, expr)
         }
-        Expr::Index(line, _, _) => {
+        Expr::Index(line, a, index) => {
             let at = Place {
                 file: m.file,
                 line: *line,
             };
-            Ok(left(m, FaultKind::NotBuilt, at))
+            within(
+                m,
+                InStatement::AugmentOf(place, op, at, index.get(), expr),
+                a.get(),
+            )
         }
         Expr::List(_, _)
         | Expr::Tuple(_, _)

@@ -46,7 +46,7 @@ pub(crate) fn open_scope(alloc: Global, arena: &mut Arena, names: &Scope) -> Res
     let mut made = Items::new(alloc);
     for at in 0..names.len() {
         match names.name(at) {
-            None => return Err(Memory),
+            None => unreachable!(),
             Some(name) => made.push(named_box(alloc, arena, name)?)?,
         }
     }

@@ -1,13 +1,14 @@
 // What goes on through a run.
-ghost use Rattle.star_eval.specs.Meets.{GivesFrom};
-ghost use Rattle.value_spec.specs.Outcomes.{give, new_list};
+ghost use Rattle.index_spec.specs.Index.{set_index_row};
+ghost use Rattle.star_eval.specs.Meets.{Acts, GivesFrom};
+ghost use Rattle.value_spec.specs.Outcomes.{give, new_dict, new_list};
 ghost use Rattle.value_spec.specs.Values.{text_value, tuple_value, values_from};
-ghost use Rattle.star_values.specs.Objects.{seen};
-ghost use Rattle.star_values.specs.Owns.{OwnsAll};
-ghost use Rattle.star_values.specs.View.{values_of};
+ghost use Rattle.star_values.specs.Objects.{pairs_in, seen};
+ghost use Rattle.star_values.specs.Owns.{Each, Owns, OwnsAll, OwnsPair};
+ghost use Rattle.star_values.specs.View.{value_of, values_of};
 
-use object_arena::{Arena, Value, Work};
-use ytt_base::fault::Stop;
+use object_arena::{Arena, Pairs, Value, Work};
+use ytt_base::fault::{Place, Stop};
 use ytt_base::text::Text;
 
 /// A run: the arena of its values and objects, and the steps and the depth that are left.
@@ -39,4 +40,35 @@ pub(crate) fn make_list(session: &mut Session, members: &[Value]) -> Result<Valu
     ensures { GivesFrom (new_list (values_of (seen session.old.arena) members.now)) result session.new session.old }
 {
     Ok(session.arena.new_list(members)?)
+}
+
+/// A new dict of these pairs.
+pub(crate) fn make_dict(session: &mut Session, pairs: Pairs) -> Result<Value, Stop>
+    requires { Each (OwnsPair (seen session.old.arena)) pairs.entries }
+    ensures { GivesFrom (new_dict (pairs_in (seen session.old.arena).held pairs.entries)) result session.new session.old }
+{
+    Ok(session.arena.new_dict_of(pairs)?)
+}
+
+/// A value gets another one at an index.
+pub(crate) fn set_at(
+    session: &mut Session,
+    place: Place,
+    value: Value,
+    index: Value,
+    new: Value,
+) -> Result<(), Stop>
+    requires value { Owns (seen session.old.arena) value }
+    requires index { Owns (seen session.old.arena) index }
+    requires new { Owns (seen session.old.arena) new }
+    ensures { Acts (set_index_row place (value_of (seen session.old.arena) value) (value_of (seen session.old.arena) index) (value_of (seen session.old.arena) new)) result session.new session.old }
+{
+    star_ops::set_index(
+        &mut session.arena,
+        &mut session.work,
+        value,
+        index,
+        new,
+        place,
+    )
 }

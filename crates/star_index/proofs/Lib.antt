@@ -1,4 +1,5 @@
 pub mod Bytes
+pub mod ChangeRows
 pub mod Characters
 pub mod Counts
 pub mod Ends

@@ -2,9 +2,10 @@
 //!
 //! `index` and `slice` give exactly what the definitions say, refuse exactly as they refuse, and take exactly their steps: a place
 //! that isn't there is `IndexRange`, a key that isn't there is `KeyMissing` with the key's text, and a cut through a character
-//! is `CutsCharacter`.
+//! is `CutsCharacter`. `set_index` changes exactly what the definitions change, and refuses first what can't be changed.
 #![tactic(auto)]
 
+mod changes;
 mod fragments;
 mod indexes;
 mod key_text;
@@ -13,5 +14,6 @@ mod places;
 mod slices;
 mod texts;
 
+pub use changes::set_index;
 pub use indexes::index;
 pub use slices::slice;

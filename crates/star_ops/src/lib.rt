@@ -1,6 +1,6 @@
 //! What operators give for the values of an arena: the whole table but for `%` with a text at its left, which isn't built yet.
 //!
-//! `unary`, `binary`, `augment`, `compare`, `equal`, `index`, `slice` and `truth` give exactly what the definitions say, refuse
+//! `unary`, `binary`, `augment`, `compare`, `equal`, `index`, `slice`, `set_index` and `truth` give exactly what the definitions say, refuse
 //! exactly as they refuse, leave the store as they leave it, and take exactly their steps: a refusal of the kinds comes before
 //! the steps, and the steps before the effect. What was owned stays owned; where memory is wanting nothing more is said.
 #![tactic(auto)]
@@ -15,5 +15,5 @@ mod truths;
 mod unions;
 
 pub use in_place::members_of;
-pub use rows::{augment, binary, compare, equal, index, slice, unary};
+pub use rows::{augment, binary, compare, equal, index, set_index, slice, unary};
 pub use truths::truth;

@@ -1,6 +1,6 @@
 // Each operator's row.
 ghost use Rattle.std.specs.Prelude.{◌≡◌};
-ghost use Rattle.star_steps.specs.Names.{ℕ, IsTrue, equality, answered, augment_row, binary_row, compared, contained_in, denied, not_row, remainder_row, unary_row, Comparison, comparison, is_above, is_below, index_row, slice_row, binary_operator_of, unary_operator_of, seen, Owns, View, value_of, Gives, Meets, as_is, state_in};
+ghost use Rattle.star_steps.specs.Names.{ℕ, IsTrue, equality, answered, augment_row, binary_row, compared, contained_in, denied, not_row, remainder_row, unary_row, Comparison, comparison, is_above, is_below, index_row, set_index_row, slice_row, binary_operator_of, unary_operator_of, seen, Grows, Owns, View, value_of, Gives, Meets, as_is, state_in};
 ghost use Rattle.star_ops.specs.Acts.{is_test};
 ghost use Rattle.star_compare.specs.Alike.{comparison_of};
 ghost use Rattle.star_index.specs.Cuts.{cut_in};
@@ -185,4 +185,25 @@ pub fn slice(arena: &mut Arena, work: &mut Work, value: Value, cut: Cut, place: 
     ensures depth { work.new.depth ≡ work.old.depth }
 {
     star_index::slice(arena, place, value, cut, &mut work.steps)
+}
+
+/// Puts a value in the place of a member of a list, or under a key of a dict, each refusal at a place: `Frozen` and `Iterating` of what
+/// can't be changed, before all else; then `ValueKind`, `IndexRange`, `TooDeep`, `Steps`.
+pub fn set_index(
+    arena: &mut Arena,
+    work: &mut Work,
+    value: Value,
+    index: Value,
+    new: Value,
+    place: Place,
+) -> Result<(), Stop>
+    requires value { Owns (seen arena.old) value }
+    requires index { Owns (seen arena.old) index }
+    requires new { Owns (seen arena.old) new }
+    ensures meaning { Meets as_is result (state_in (seen arena.new) work.new.steps) (set_index_row place (value_of (seen arena.old) value) (value_of (seen arena.old) index) (value_of (seen arena.old) new) (state_in (seen arena.old) work.old.steps)) }
+    ensures held { (seen arena.new).held ≡ (seen arena.old).held }
+    ensures grows { Grows (seen arena.old) (seen arena.new) }
+    ensures depth { work.new.depth ≡ work.old.depth }
+{
+    star_index::set_index(arena, place, value, index, new, &mut work.steps)
 }

@@ -1,5 +1,5 @@
 -- Expressions, arguments and targets keep what the program holds, where their literals are such and calls keep it.
-use Rattle.std.proofs.Common.{◌≡◌, Bool, true, false, if◌then◌else◌, is_some, List, [], ◌∷◌, ◌++◌, ℕ, Option, Some, None, IsUtf8, bytes_eq, codes}
+use Rattle.std.proofs.Common.{◌≡◌, Bool, true, false, if◌then◌else◌, is_some, List, [], ◌∷◌, ◌++◌, ℕ, Option, Some, None, unwrap_or, IsUtf8, bytes_eq, codes}
 use Rattle.std.proofs.lemmas.Str.{IsUtf8-nil, IsUtf8-append}
 use Rattle.ytt_base.specs.declared.fault.FaultKind.{FaultKind}
 use Rattle.ytt_base.specs.declared.fault.FaultKind.TheVariants as kind
@@ -19,6 +19,7 @@ use Rattle.value_spec.specs.Outcomes.{Computation, ◌>>=◌}
 use Rattle.value_spec.specs.Store.{object_at, put_pair, with_contents, end_loop, box_at}
 use Rattle.value_spec.specs.Values.{Value, none_value, bool_value, int_value, text_value, tuple_value, dict_value, function_value, Values, no_values, values_from, Fields, no_fields, a_field, Arguments, arguments, Env, of_box, of_function}
 use Rattle.star_spec.proofs.Keeping.{Keeps, Anything, keeps_then, keeps_give, keeps_fail, keeps_or_fail, keeps_ill_formed, keeps_need, keeps_steps, keeps_paid, keeps_if, keeps_reads, keeps_new_object, object_held, box_held, change_held, loops_held, kept_finally}
+use Rattle.star_spec.proofs.IndexKeeps.{index_keeps, slice_keeps, set_index_keeps}
 use Rattle.star_spec.proofs.MembersHeld.{from_values, more_held, members_keep, pairs_keep, put_pair_held, new_list_keeps, new_dict_keeps}
 use Rattle.star_spec.proofs.RowsHeld.{unary_held, binary_held, augmented_held}
 
@@ -185,8 +186,12 @@ module _ {H : Type 0} (call : Call H) (calls : CallKeeps call) where
     eval_keeps (code.named p x e) env h = keeps_ill_formed
     eval_keeps (code.starred p e) env h = keeps_ill_formed
     eval_keeps (code.double_starred p e) env h = keeps_ill_formed
-    eval_keeps (code.index p a i) env h = keeps_paid 1 p (keeps_then (eval_keeps a env h.0) (λ x k. keeps_then (eval_keeps i env h.1) (λ y g. keeps_fail kind.NotBuilt p [])))
-    eval_keeps (code.slice p a l g d) env h = keeps_paid 1 p (keeps_then (eval_keeps a env h.0) (λ x k. keeps_then (optional_keeps l env h.1) (λ y u. keeps_then (optional_keeps g env h.2) (λ z v. keeps_then (optional_keeps d env h.3) (λ w t. keeps_fail kind.NotBuilt p [])))))
+    eval_keeps (code.index p a i) env h =
+        keeps_paid 1 p (keeps_then (eval_keeps a env h.0) (λ x k. keeps_then (eval_keeps i env h.1) (λ y g. index_keeps p x y k g)))
+    eval_keeps (code.slice p a l g d) env h =
+        keeps_paid 1 p (keeps_then (eval_keeps a env h.0) (λ x k. keeps_then (optional_keeps l env h.1) (λ y u.
+        keeps_then (optional_keeps g env h.2) (λ z v. keeps_then (optional_keeps d env h.3) (λ w t.
+        slice_keeps p x (record { from = unwrap_or y none_value; to = unwrap_or z none_value; step = unwrap_or w none_value }) k)))))
     eval_keeps (code.attribute p a x) env h = keeps_paid 1 p (keeps_then (eval_keeps a env h) (λ v k. keeps_fail kind.NotBuilt p []))
     eval_keeps (code.lambda p n ps e) env h = keeps_paid 1 p (keeps_then (defaults_keep ps env h.0) (λ ds k. keeps_then (keeps_new_object (of_function _) k) (λ r u. keeps_give (function_value r) tt)))
     eval_keeps (code.list_comprehension p e cs) env h =
@@ -246,7 +251,7 @@ module _ {H : Type 0} (call : Call H) (calls : CallKeeps call) where
     assign_keeps p (code.name q x) v env h k = write_keeps q x v (box_of x env) k
     assign_keeps p (code.list q es) v env h k = keeps_then (members_keep p v k) (λ vs i. keeps_then (keeps_need kind.ValueKind p _) (λ u t. each_keeps p es vs env h i))
     assign_keeps p (code.tuple q es) v env h k = keeps_then (members_keep p v k) (λ vs i. keeps_then (keeps_need kind.ValueKind p _) (λ u t. each_keeps p es vs env h i))
-    assign_keeps p (code.index q a i) v env h k = keeps_then (eval_keeps a env h.0) (λ x g. keeps_then (eval_keeps i env h.1) (λ y j. keeps_fail kind.NotBuilt q []))
+    assign_keeps p (code.index q a i) v env h k = keeps_then (eval_keeps a env h.0) (λ x g. keeps_then (eval_keeps i env h.1) (λ y j. set_index_keeps q x y v j k))
     assign_keeps p _ v env h k = keeps_ill_formed
 
     each_keeps : (p : Place) (es : Exprs) (vs : List Value) (env : Env) → HeldExprs es → HeldList vs → Keeps Anything (assign_each call p es vs env)
@@ -256,5 +261,7 @@ module _ {H : Type 0} (call : Call H) (calls : CallKeeps call) where
 
   pub augment_keeps : (p : Place) (o : BinaryOperator) (q : Place) (x e : Expr) (env : Env) → HeldExpr x → HeldExpr e → Keeps Anything (augment_to call p o q x e env)
   augment_keeps p o q (code.name r x) e env h k = keeps_then (read_keeps r x (box_of x env)) (λ old g. keeps_then (eval_keeps e env k) (λ v i. keeps_then (augmented_held q o old v g i) (λ w j. write_keeps r x w (box_of x env) j)))
-  augment_keeps p o q (code.index r a i) e env h k = keeps_then (eval_keeps a env h.0) (λ x g. keeps_then (eval_keeps i env h.1) (λ y j. keeps_then {P = HeldValue} (keeps_fail kind.NotBuilt r []) (λ old u. keeps_then (eval_keeps e env k) (λ v t. keeps_then (augmented_held q o old v u t) (λ w d. keeps_fail kind.NotBuilt r [])))))
+  augment_keeps p o q (code.index r a i) e env h k =
+      keeps_then (eval_keeps a env h.0) (λ x g. keeps_then (eval_keeps i env h.1) (λ y j. keeps_then (index_keeps r x y g j) (λ old u.
+      keeps_then (eval_keeps e env k) (λ v t. keeps_then (augmented_held q o old v u t) (λ w d. set_index_keeps r x y w j d)))))
   augment_keeps p o q _ e env h k = keeps_ill_formed

@@ -1,5 +1,8 @@
 pub mod CallsKeep
+pub mod CutsHeld
 pub mod EvalKeeps
+pub mod FreshKeeps
+pub mod IndexKeeps
 pub mod Keeping
 pub mod MembersHeld
 pub mod RowsHeld

@@ -25,7 +25,7 @@ use Rattle.star_spec.proofs.MembersHeld.{in_values, from_values, more_held, memb
 
 -- ---- what is read of operands
 
-keeps_one : {H A B : Type 0} (P : B → Type 0) (o : Option A) (f : A → Computation H B) (otherwise : Computation H B) → ((a : A) → o ≡ Some a → Keeps P (f a)) → Keeps P otherwise → Keeps P (if_one o f otherwise)
+pub keeps_one : {H A B : Type 0} (P : B → Type 0) (o : Option A) (f : A → Computation H B) (otherwise : Computation H B) → ((a : A) → o ≡ Some a → Keeps P (f a)) → Keeps P otherwise → Keeps P (if_one o f otherwise)
 keeps_one P (Some a) f otherwise h k = h a refl
 keeps_one P None f otherwise h k = k
 
@@ -34,7 +34,7 @@ keeps_both P (Some a) (Some b) f otherwise h k = h a b refl refl
 keeps_both P None q f otherwise h k = k
 keeps_both P (Some a) None f otherwise h k = k
 
-int_held : (v : Value) (z : ℤ) → as_int v ≡ Some z → HeldValue v → FitsSigned w128 z
+pub int_held : (v : Value) (z : ℤ) → as_int v ≡ Some z → HeldValue v → FitsSigned w128 z
 int_held (int_value a) z e h = let same : a ≡ z = cc in rw (← same) h
 int_held _ z e h = cc
 
@@ -264,7 +264,7 @@ sizes_keep : {H : Type 0} (ranks levels : ℕ) (p : Place) (vs : List Value) →
 sizes_keep ranks zero p vs = keeps_fail kind.TooDeep p []
 sizes_keep ranks (suc n) p vs = each_keeps (measured_by ranks (measured_within ranks n p) p) p vs (λ v. size_keeps ranks (measured_within ranks n p) p v (sizes_keep ranks n p))
 
-measured_keeps : {H : Type 0} (ranks : ℕ) (p : Place) (v : Value) → Keeps {H = H} Anything (measured ranks p v)
+pub measured_keeps : {H : Type 0} (ranks : ℕ) (p : Place) (v : Value) → Keeps {H = H} Anything (measured ranks p v)
 measured_keeps ranks p v = size_keeps ranks (measured_within ranks max_depth p) p v (sizes_keep ranks max_depth p)
 
 comparison_keeps : {H : Type 0} (p : Place) (a b : Value) → Keeps {H = H} Anything (comparison p a b)

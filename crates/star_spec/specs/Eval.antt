@@ -1,18 +1,20 @@
 -- The language: expressions, arguments, targets. What a row that isn't built yet would give is NotBuilt.
-use Rattle.std.specs.Prelude.{ℕ, suc, Bool, ◌==◌, List, [], ◌∷◌, ◌++◌, length, Option, Some, None, is_some, if◌then◌else◌, codes}
+use Rattle.std.specs.Prelude.{ℕ, suc, Bool, ◌==◌, List, [], ◌∷◌, ◌++◌, length, Option, Some, None, is_some, unwrap_or, if◌then◌else◌, codes}
 use Rattle.ytt_base.specs.declared.fault.FaultKind.{FaultKind}
 use Rattle.ytt_base.specs.declared.fault.FaultKind.TheVariants as kind
 use Rattle.ytt_base.specs.declared.fault.Place.{Place}
 use Rattle.ytt_base.specs.Trees.{max_depth}
 use Rattle.code_spec.specs.Code as code
 use Rattle.code_spec.specs.Code.{Name, BinaryOperator, addition, Expr, Exprs, no_exprs, an_expr, OptionalExpr, absent, present, Entries, no_entries, an_entry, Clauses, no_clauses, for_clause, if_clause, Pieces, no_pieces, text_piece, expr_piece, Parameters, no_parameters, required, defaulted, bare_star, starred_parameter, double_starred_parameter}
-use Rattle.value_spec.specs.Values.{Value, int_value, text_value, tuple_value, dict_value, Values, no_values, a_value, values_from, Fields, no_fields, a_field, Arguments, arguments, Env, of_function, function_value}
+use Rattle.value_spec.specs.Values.{Value, none_value, int_value, text_value, tuple_value, dict_value, Values, no_values, a_value, values_from, Fields, no_fields, a_field, Arguments, arguments, Env, of_function, function_value}
 use Rattle.value_spec.specs.Outcomes.{Computation, paid, take_steps, give, fail, or_fail, need, not_built, ill_formed, reads, new_object, new_list, new_dict, ◌>>=◌}
 use Rattle.value_spec.specs.Keys.{key_offence, key_cost, place_of_key}
 use Rattle.value_spec.specs.Members.{members_in, truth_in}
 use Rattle.star_spec.specs.Names.{box_of, with_boxes, read_name, write_name}
 use Rattle.code_spec.specs.Names.{target_names, clauses_names}
 use Rattle.operator_spec.specs.Operators.{unary_row, binary_row, augment_row}
+use Rattle.index_spec.specs.Index.{index_row, set_index_row}
+use Rattle.index_spec.specs.Slices.{slice_row}
 use Rattle.value_spec.specs.Store.{pairs_at, put_pair}
 use Rattle.star_spec.specs.Binding.{scope_of_call}
 use Rattle.star_spec.specs.Flow.{Flow, on, out, Part, over_members}
@@ -27,22 +29,12 @@ members_of p v = reads (λ store. members_in store v) >>= or_fail kind.ValueKind
 
 -- ---- rows that aren't built yet
 
-abbrev pub index_row : {H : Type 0} → Place → Value → (at : Value) → Computation H Value
-index_row p v i = not_built p
-
-abbrev pub slice_row : {H : Type 0} → Place → Value → (low high step : Option Value) → Computation H Value
-slice_row p v low high step = not_built p
-
 abbrev pub attribute_row : {H : Type 0} → Place → Value → Name → Computation H Value
 attribute_row p v x = not_built p
 
 -- the text that a value is in a text template
 abbrev pub shown_row : {H : Type 0} → Place → Value → Computation H (List ℕ)
 shown_row p v = not_built p
-
--- a value at an index of a value
-abbrev pub set_index_row : {H : Type 0} → Place → Value → (at value : Value) → Computation H (Unit {0})
-set_index_row p v i w = not_built p
 
 -- ---- displays
 
@@ -133,7 +125,7 @@ abbrev mutual
     l ← eval_optional call low env
     h ← eval_optional call high env
     d ← eval_optional call step env
-    slice_row p x l h d)
+    slice_row p x (record { from = unwrap_or l none_value; to = unwrap_or h none_value; step = unwrap_or d none_value }))
   eval call (code.attribute p a x) env = paid p (eval call a env >>= λ v. attribute_row p v x)
   eval call (code.lambda p number ps e) env = paid p (do
     ds ← default_values call ps env

@@ -1,9 +1,11 @@
 -- The values that the program holds: integers of 128 bits, texts in UTF-8, names of fields that are distinct, and
--- children that are what the program holds, with distinct keys in a map; the code and the objects that hold such.
+-- children that are what the program holds, with distinct keys in a map and in a fragment of pairs; the code and the
+-- objects that hold such.
 use Rattle.std.specs.Prelude.{◌≡◌, ℤ, Bool, true, false, ◌&&◌, ◌||◌, not, List, [], ◌∷◌, Option, Some, None, IsTrue, IsUtf8, FitsSigned}
 use Rattle.std.specs.Int.{w128}
 use Rattle.ytt_base.specs.Trees.{Scalar, IsScalar, has_key, IsTree}
 use Rattle.code_spec.specs.Allowed.{are_distinct}
+use Rattle.code_spec.specs.Program.{ItemKind, pair_item}
 use Rattle.code_spec.specs.Code as code
 use Rattle.code_spec.specs.Code.{Name, Expr, Exprs, no_exprs, an_expr, OptionalExpr, absent, present, Entries, no_entries, an_entry, Clauses, no_clauses, for_clause, if_clause, Pieces, no_pieces, text_piece, expr_piece, Parameters, no_parameters, required, defaulted, bare_star, starred_parameter, double_starred_parameter, Statement, evaluate, assign, augment, load, return, break, continue, pass}
 use Rattle.value_spec.specs.Keys.{same_key}
@@ -24,6 +26,11 @@ abbrev pub keys_distinct : List Scalar → Bool
 keys_distinct [] = true
 keys_distinct (k ∷ ks) = not (has_key k ks) && keys_distinct ks
 
+-- no two children of a fragment of pairs have one key
+abbrev pub keys_apart : ItemKind → Children → Bool
+keys_apart pair_item cs = keys_distinct (child_keys cs)
+keys_apart _ cs = true
+
 -- the numbers of a range
 abbrev pub HeldNumbers : List ℤ → Type 0
 HeldNumbers [] = Unit {0}
@@ -42,7 +49,7 @@ abbrev mutual
   HeldValue (tuple_value vs) = HeldValues vs
   HeldValue (range_value start stop step) = HeldNumbers (progression (range_count start stop step) start step)
   HeldValue (struct_value fs) = HeldFields fs × IsTrue (are_distinct (field_names fs))
-  HeldValue (fragment_value k cs) = HeldChildren cs × IsTrue (keys_distinct (child_keys cs))
+  HeldValue (fragment_value k cs) = HeldChildren cs × IsTrue (keys_apart k cs)
   HeldValue (list_value r) = Unit {0}
   HeldValue (dict_value r) = Unit {0}
   HeldValue (function_value r) = Unit {0}

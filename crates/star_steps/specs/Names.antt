@@ -2,7 +2,7 @@
 pub use Rattle.code_spec.specs.Options.{further}
 pub use Rattle.code_spec.specs.Program.{ItemKind}
 pub use Rattle.index_spec.specs.FreshValues.{fresh_body, fresh_pairs, fresh_value, fresh_values, value_of_scalar}
-pub use Rattle.index_spec.specs.Index.{as_scalar, begins_inner, body_at, body_under, body_value, by_place, character_at, child_count, cut_text, element_at, entry_of, field_of, found_body, found_value, has_key, index_row, is_inner, is_whole, member_at, missing, number_at, other_key, place_among, value_under}
+pub use Rattle.index_spec.specs.Index.{as_scalar, begins_inner, body_at, body_under, body_value, by_place, character_at, child_count, cut_text, element_at, entry_of, field_of, found_body, found_value, has_key, index_row, is_inner, is_whole, member_at, missing, number_at, other_key, place_among, set_index_row, set_member_at, value_under}
 pub use Rattle.index_spec.specs.KeyTexts.{AreKeysWithin, IsKeyWithin, closed, hex_digit, integer_text, key_text, key_texts, more_texts, quoted, quoted_byte, quoted_bytes}
 pub use Rattle.index_spec.specs.Slices.{Places, and_more, between, bound_or, bytes_cut, cut_row, end_place, first_place, from_end, give_tuple, has_bounds, is_bound, members_cut, members_slice, picked, picked_bytes, place_count, places_of, slice_row, step_in}
 pub use Rattle.object_arena.specs.Made.{Makes, MakesObject}
@@ -29,11 +29,11 @@ pub use Rattle.std.specs.Str.{IsCharBoundary, encode_utf8_all}
 pub use Rattle.std.specs.Str.Iter.{HasSubslice}
 pub use Rattle.std.specs.declared.cmp.Ordering.{Ordering}
 pub use Rattle.value_spec.specs.Built.{body_paid, body_tree, children_paid, children_pairs, children_trees, fragment_body, key_paid, pairs_paid, scalar_paid, tree_paid, trees_paid}
-pub use Rattle.value_spec.specs.Keys.{AreKeys, IsKey, place_of_key, text_cost}
+pub use Rattle.value_spec.specs.Keys.{AreKeys, IsKey, first_offence, key_offence, place_of_key, text_cost}
 pub use Rattle.value_spec.specs.Members.{as_int, as_text, count_in, is_empty, keys_in, members_in, numbers_of, truth_in}
 pub use Rattle.value_spec.specs.Numbers.{at_least_zero, progression, range_count, steps_up}
 pub use Rattle.value_spec.specs.Outcomes.{Computation, Ending, State, acting, after_act, bad, done, fail, give, need, new_dict, new_list, or_fail, paid, paid_by, reads, take_if, take_steps, then_do, ◌>>=◌}
-pub use Rattle.value_spec.specs.Store.{Answer, dict_put, did, list_at, list_extend, may_change, object, on_found, pairs_at, put_key, put_pair, put_pairs, refused, value_at_place, value_of_key, with_object}
+pub use Rattle.value_spec.specs.Store.{Answer, dict_put, did, list_at, list_extend, list_set, may_change, object, on_found, pairs_at, put_key, put_pair, put_pairs, refused, value_at_place, value_of_key, with_object}
 pub use Rattle.value_spec.specs.Values.{Body, Children, Contents, Fields, Object, Store, Values, a_child, a_value, bool_value, child, dict_value, fragment_value, function_value, int_value, list_of, list_value, map_of, module_value, native_value, no_built, no_children, no_values, none_value, of_dict, one, range_value, struct_value, text_value, tuple_value, values_from, values_in}
 pub use Rattle.ytt_base.specs.Outcomes.{fault_at}
 pub use Rattle.ytt_base.specs.Trees.{Pairs, Scalar, Trees, boolean, integer, list, max_depth, no_pairs, no_trees, null, pair, same_integer, scalar, string, tree}

@@ -1,6 +1,6 @@
 -- Changes of objects, as the acts see them.
 use Rattle.std.proofs.Common.{◌≡◌, ◌<◌, ◌==◌, ◌∷◌, if◌then◌else◌}
-use Rattle.star_values.proofs.Names.{ℕ, suc, nat_le, true, false, List, [], map, length, get_or, Some, Result, Ok, Err, IfOk, slice_get, sym, ap, subst, rules, Bool, cond, Option, None, refl, ◌∙◌, slice_set, eqb-true, le-leb, length-map, map-set, set-set, set-get_or, get_or_from_slice_get, slice_get_past, slice_get-get_or, slice_get-map, remove, option_map, lookup, remove_entry, map-insert, map-remove, insert_entry, of_list, of_dict, Answer, set_member, insert_member, remove_member, did, refused, key_missing, value_at_place, value_of_key, with_value, with_pair, put_pair, with_contents, with_pairs, put_key, cut_by, cut_key, Act, at_object, on_found, put_back, change, changed, IsKey, same_key, further, place_of_key, same_key_alike, ArenaStop, Value, Object, Answers, SetsAt, InsertsAt, RemovesAt, DecidesOne, Identified, Owns, OwnsAll, Each, OwnsPair, Grows, View, value_in, value_of, pair_in, pairs_in, object_in, IsBack, IsOut}
+use Rattle.star_values.proofs.Names.{ℕ, is_some, suc, nat_le, true, false, List, [], map, length, get_or, Some, Result, Ok, Err, IfOk, slice_get, sym, ap, subst, rules, Bool, cond, Option, None, refl, ◌∙◌, slice_set, eqb-true, le-leb, length-map, map-set, set-set, set-get_or, get_or_from_slice_get, slice_get_past, slice_get-get_or, slice_get-map, remove, option_map, lookup, remove_entry, map-insert, map-remove, insert_entry, of_list, of_dict, Answer, set_member, insert_member, remove_member, did, refused, key_missing, value_at_place, value_of_key, with_value, with_pair, put_pair, with_contents, with_pairs, put_key, cut_by, cut_key, Act, at_object, on_found, put_back, change, changed, IsKey, same_key, further, place_of_key, same_key_alike, ArenaStop, Value, Object, Answers, SetsAt, InsertsAt, RemovesAt, DecidesOne, Identified, Owns, OwnsAll, Each, OwnsPair, Grows, View, value_in, value_of, pair_in, pairs_in, object_in, IsBack, IsOut}
 use Rattle.std.specs.Prelude.{IsTrue}
 use Rattle.value_spec.specs.Values as plain
 use Rattle.star_values.specs.declared.object.ArenaStop.TheVariants as stop
@@ -132,6 +132,18 @@ value_seen eq held k (e ∷ es) d known =
     let place = place_of_key (value_in held k) (pairs_in held es) in
     let more = value_seen eq held k es d (known.0, known.1.1) in
     rw (key_tested eq held k e.0 d known.0 known.1.0) (elim (eq k e.0) as (λ b. option_map (value_in held) (cond b (Some e.1) (lookup (eq k) es)) ≡ value_at_place (pairs_in held (e ∷ es)) (place_here b place)) [ true ↦ refl | false ↦ more ∙ sym (gone_further (pair_in held e) (pairs_in held es) place).1 ])
+
+some_further : (o : Option ℕ) → is_some (further o) ≡ is_some o
+some_further None = refl
+some_further (Some i) = refl
+
+-- a key stands among pairs where a value stands under it
+pub key_seen : (eq : Value → Value → Bool) (held : List plain.Value) (k : Value) (es : List (Value × Value)) → DecidesOne eq → Identified held k es → is_some (lookup (eq k) es) ≡ is_some (place_of_key (value_in held k) (pairs_in held es))
+key_seen eq held k [] d known = refl
+key_seen eq held k (e ∷ es) d known =
+    let place = place_of_key (value_in held k) (pairs_in held es) in
+    let more = key_seen eq held k es d (known.0, known.1.1) in
+    rw (key_tested eq held k e.0 d known.0 known.1.0) (elim (eq k e.0) as (λ b. is_some (cond b (Some e.1) (lookup (eq k) es)) ≡ is_some (place_here b place)) [ true ↦ refl | false ↦ more ∙ sym (some_further place) ])
 
 -- what cutting answers, by the value that was found
 abbrev pub cut_answer : Option plain.Value → plain.Object → Answer plain.Object plain.Value

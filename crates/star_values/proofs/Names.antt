@@ -7,7 +7,7 @@ pub use Rattle.std.proofs.lemmas.Option.{get_or_from_slice_get, slice_get_past, 
 pub use Rattle.std.proofs.lemmas.Slice.Eq.{bytes_eq-Decides}
 pub use Rattle.std.specs.Map.{lookup, remove_entry}
 pub use Rattle.std.specs.Option.{option_map}
-pub use Rattle.std.specs.Prelude.{remove, if◌then◌else◌}
+pub use Rattle.std.specs.Prelude.{is_some, remove, if◌then◌else◌}
 pub use Rattle.indexmap.proofs.SetLemmas.{map-insert, map-remove}
 pub use Rattle.indexmap.specs.IndexMap.{insert_entry}
 pub use Rattle.ytt_base.specs.Trees.{same_bool, same_integer}

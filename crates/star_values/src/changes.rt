@@ -73,8 +73,8 @@ pub fn equal_values_are_one()
     ensures { DecidesOne ⟦<Value as PartialEq>⟧.eq }
 {}
 
-/// Puts a value under a key.
-fn put_pair(pairs: &mut IndexMap<Value, Value>, key: Value, value: Value) -> Result<(), Memory>
+/// Puts a value under a key: in the key's pair, or in a new one behind the others.
+pub fn put_under(pairs: &mut IndexMap<Value, Value>, key: Value, value: Value) -> Result<(), Memory>
     ensures ok { OnOk result (pairs.new.entries ≡ insert_entry ⟦<Value as PartialEq>⟧.eq pairs.old.entries key value) }
     ensures err { OnErr result (pairs.new.entries ≡ pairs.old.entries) }
 {
@@ -203,7 +203,7 @@ impl Object {
         equal_values_are_one();
         self.unlocked()?;
         match &mut self.contents {
-            Contents::Dict(pairs) => put_pair(pairs, key, value)?,
+            Contents::Dict(pairs) => put_under(pairs, key, value)?,
             _ => unreachable!(),
         }
         Ok(())

@@ -12,7 +12,7 @@ mod held;
 mod object;
 mod value;
 
-pub use changes::equal_values_are_one;
+pub use changes::{equal_values_are_one, put_under};
 pub use held::{Answerer, Held, Numbered, Thing, Word};
 pub use object::{ArenaStop, Boxes, Contents, Function, NamedBox, Object};
 pub use star_tree::ItemKind;

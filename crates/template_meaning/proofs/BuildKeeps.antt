@@ -1,6 +1,6 @@
 -- What is built can be written: the documents of a template whose scalars and literals are what the program holds are
 -- such, with distinct keys, and none nests deeper than it may.
-use Rattle.std.proofs.Common.{◌≡◌, ℕ, suc, ◌-◌, ◌≤◌, Bool, true, false, nat_eq, if◌then◌else◌, List, [], ◌∷◌, length, Option, Some, None, refl, arith, ◌++◌, bytes_eq}
+use Rattle.std.proofs.Common.{◌≡◌, ℕ, suc, ◌-◌, ◌≤◌, Bool, true, false, nat_eq, if◌then◌else◌, List, [], ◌∷◌, length, Option, Some, None, IsTrue, refl, arith, ◌++◌, bytes_eq}
 use Rattle.ytt_base.specs.declared.fault.FaultKind.TheVariants as kind
 use Rattle.ytt_base.specs.declared.fault.Place.{Place}
 use Rattle.ytt_base.specs.Trees.{scalar, Tree, Trees, tree, IsScalar, IsTree, AreTrees, Writable, depth, is_null, max_depth}
@@ -8,13 +8,13 @@ use Rattle.star_spec.specs.Calls.{Code, of_lambda, of_def, Host, enter_code}
 use Rattle.code_spec.specs.Code as code
 use Rattle.code_spec.specs.Code.{Name, Expr, Exprs, no_exprs, an_expr, OptionalExpr, absent, present, Entries, no_entries, an_entry, Clauses, no_clauses, for_clause, if_clause, Pieces, no_pieces, text_piece, expr_piece, Parameters, no_parameters, required, defaulted, bare_star, starred_parameter, double_starred_parameter, LoadedNames, no_loaded, a_loaded, Statement, evaluate, assign, augment, load, return, break, continue, pass}
 use Rattle.star_spec.specs.Flow.{Flow, on, out, Part, go_on, worded, plain, test_of}
-use Rattle.star_spec.specs.Held.{HeldValue, HeldKey, HeldChildren, HeldExpr, HeldExprs, HeldOptional, HeldEntries, HeldClauses, HeldPieces, HeldParameters, HeldStatement, HeldIfAny, HeldStore}
+use Rattle.star_spec.specs.Held.{HeldValue, HeldKey, HeldChildren, child_keys, keys_distinct, keys_apart, HeldExpr, HeldExprs, HeldOptional, HeldEntries, HeldClauses, HeldPieces, HeldParameters, HeldStatement, HeldIfAny, HeldStore}
 use Rattle.code_spec.specs.Options.{or_else}
 use Rattle.star_spec.specs.Lambdas.{only_if, Lambda, lambda_in, lambda_among, lambda_in_part, lambda_in_entries, lambda_in_clauses, lambda_in_pieces, lambda_in_parameters, lambda_in_statement, lambda_code}
 use Rattle.star_spec.specs.Language.{Call, Language, Word, breaks, continues, returns, execute, define}
 use Rattle.star_spec.specs.Names.{box_of}
 use Rattle.value_spec.specs.Outcomes.{Computation}
-use Rattle.code_spec.specs.Program.{ItemKind}
+use Rattle.code_spec.specs.Program.{ItemKind, document_item, pair_item, element_item}
 use Rattle.value_spec.specs.Store.{object_at, box_at}
 use Rattle.value_spec.specs.Values.{Value, child, Children, no_children, a_child, no_built, one, map_of, list_of, taken, Env, Store}
 use Rattle.star_spec.proofs.CallsKeep.{LanguageKeeps, WordHeld, execute_keeps, define_keeps, HostKeeps, TableKeeps, apply_keeps}
@@ -279,9 +279,15 @@ mutual
   content_code_held k n (pairs is) h = items_code_held k (suc n) is h.1
   content_code_held k n (elements is) h = items_code_held k (suc n) is h.1
 
+-- children whose keys are distinct are so in a fragment of each kind
+keys_stay_apart : (k : ItemKind) (cs : Children) → IsTrue (keys_distinct (child_keys cs)) → IsTrue (keys_apart k cs)
+keys_stay_apart pair_item cs h = h
+keys_stay_apart document_item cs h = refl
+keys_stay_apart element_item cs h = refl
+
 -- the value that a call gives
 result_held : (fragment : Option ItemKind) (n : ℕ) (f : Flow Children) → FlowHeld (GoodAt n) f → HeldValue (result_of fragment f)
-result_held (Some k) n f h = let g = flow_built (GoodAt n) f h in (g.0, g.2)
+result_held (Some k) n f h = let g = flow_built (GoodAt n) f h in (g.0, keys_stay_apart k (built f) g.2)
 result_held None n (on cs) h = tt
 result_held None n (out breaks cs) h = tt
 result_held None n (out continues cs) h = tt

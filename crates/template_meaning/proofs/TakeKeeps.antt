@@ -13,10 +13,11 @@ use Rattle.value_spec.specs.Outcomes.{Computation, ◌>>=◌, give, fail}
 use Rattle.code_spec.specs.Program.{ItemKind, document_item, pair_item, element_item}
 use Rattle.value_spec.specs.Store.{object_at}
 use Rattle.value_spec.specs.Values.{Value, none_value, bool_value, int_value, text_value, tuple_value, range_value, struct_value, fragment_value, list_value, dict_value, function_value, module_value, native_value, builtin, method, host_native, replacement, values_in, Fields, no_fields, a_field, fields_in, Child, child, Children, no_children, a_child, BuiltNotes, Body, one, map_of, list_of, Taken, taken, many, Contents, of_list, of_dict, of_box, of_function, Object}
+use Rattle.star_spec.proofs.FreshKeeps.{scalar_keeps, key_keeps}
 use Rattle.star_spec.proofs.MembersHeld.{in_values}
-use Rattle.star_spec.proofs.Keeping.{Keeps, Anything, keeps_then, keeps_give, keeps_fail, keeps_paid, keeps_if, keeps_below, keeps_reads, keeps_weaker, HeldIfThere, object_held}
+use Rattle.star_spec.proofs.Keeping.{Keeps, keeps_then, keeps_give, keeps_fail, keeps_paid, keeps_if, keeps_below, keeps_reads, keeps_weaker, HeldIfThere, object_held}
 use Rattle.template_meaning.specs.Adding.{keys_equal, overrides, add_child, add_all, add_taken}
-use Rattle.value_spec.specs.Built.{body_tree, children_trees, children_pairs, scalar_paid, key_paid, below, tree_paid, trees_paid, pairs_paid, children_paid, body_paid}
+use Rattle.value_spec.specs.Built.{body_tree, children_trees, children_pairs, below, tree_paid, trees_paid, pairs_paid, children_paid, body_paid}
 use Rattle.template_meaning.specs.Take.{scalar_of_value, trees_by, pairs_by, with_text_keys, object_tree, inner_tree, outer_tree, deeper_tree, tree_of_value, levels_at, levels_replaced, elements_at, pairs_at, members_at, fits_kind, children_in_place, replaced, take_over, key_taken}
 
 -- ---- depths
@@ -67,16 +68,6 @@ mutual
       (h.0.0, body_is_tree b h.0.1, ap (has_key x) (keys_of_children cs) ∙ first_false (has_key x (child_keys cs)) (keys_distinct (child_keys cs)) e, pairs_are cs h.1 (second_true (has_key x (child_keys cs)) (keys_distinct (child_keys cs)) e))
 
 -- ---- what is paid for is no deeper than the levels left
-
-scalar_keeps : {H : Type 0} (p : Place) (x : Scalar) → Keeps {H = H} Anything (scalar_paid p x)
-scalar_keeps p null = keeps_give tt tt
-scalar_keeps p (boolean b) = keeps_give tt tt
-scalar_keeps p (integer z) = keeps_give tt tt
-scalar_keeps p (string t) = keeps_paid (text_cost (length t)) p (keeps_give tt tt)
-
-key_keeps : {H : Type 0} (p : Place) (x : Option Scalar) → Keeps {H = H} Anything (key_paid p x)
-key_keeps p None = keeps_give tt tt
-key_keeps p (Some x) = scalar_keeps p x
 
 mutual
   tree_keeps : {H : Type 0} (p : Place) (n : ℕ) (t : Tree) → Keeps {H = H} (λ u. depth t ≤ n) (tree_paid p n t)

@@ -4,10 +4,10 @@ use Rattle.std.proofs.lemmas.Slice.Eq.{bytes_eq-Decides}
 use Rattle.std.specs.List.{list_any, position, position_or_len}
 use Rattle.std.specs.Prelude.{bytes_eq}
 use Rattle.ytt_base.specs.declared.fault.Place.{Place}
-use Rattle.code_spec.specs.Code.{Name, Expr, int, text, name, list, tuple, dict, unary, binary, conjunction, disjunction, conditional, call, named, starred, double_starred, index, slice, attribute, lambda, list_comprehension, dict_comprehension, text_template, Exprs, no_exprs, an_expr, Statement, evaluate, assign, augment, load, return, break, continue, pass}
+use Rattle.code_spec.specs.Code.{Name, Expr, int, text, name, list, tuple, dict, unary, binary, conjunction, disjunction, conditional, call, named, starred, double_starred, index, slice, attribute, lambda, list_comprehension, dict_comprehension, text_template, Exprs, no_exprs, an_expr, OptionalExpr, absent, present, Entries, no_entries, an_entry, Statement, evaluate, assign, augment, load, return, break, continue, pass}
 use Rattle.code_spec.specs.Names.{is_among, own_functions}
 use Rattle.code_spec.specs.Program.{NodePart, node_start, node_note, node_key, node_key_from, node_value, node_value_from, node_end, Instruction, part, statement, begin_if, begin_elif, begin_else, begin_for, begin_def, close}
-use Rattle.code_spec.specs.Unbuilt.{is_built_name, unless_built, unbuilt_expr, unbuilt_exprs, unbuilt_target, unbuilt_targets, unbuilt_statement, unbuilt_part, unbuilt_instruction, unbuilt_code}
+use Rattle.code_spec.specs.Unbuilt.{is_built_name, unless_built, unbuilt_expr, unbuilt_exprs, unbuilt_entries, unbuilt_optional, unbuilt_target, unbuilt_targets, unbuilt_statement, unbuilt_part, unbuilt_instruction, unbuilt_code}
 use Rattle.star_resolve.specs.Variables.{each_once, with_each, with_name}
 use Rattle.star_resolve.proofs.Found.{any_more, or_false}
 use Rattle.star_resolve.proofs.Sets.{position_by}
@@ -66,18 +66,18 @@ module _ (a c : List Name) (same : (x : Name) → is_among x a ≡ is_among x c)
     same_expr (int p z) = refl
     same_expr (text p t) = refl
     same_expr (name p x) = ap (λ b. unless_built (b || not (is_among x own_functions)) p) (same x)
+    same_expr (list p es) = same_exprs es
     same_expr (tuple p es) = same_exprs es
+    same_expr (dict p es) = same_entries es
     same_expr (unary p o e) = same_expr e
     same_expr (binary p o e f) = both _ _ _ _ (same_expr e) (same_expr f)
     same_expr (conjunction p e f) = both _ _ _ _ (same_expr e) (same_expr f)
     same_expr (disjunction p e f) = both _ _ _ _ (same_expr e) (same_expr f)
     same_expr (conditional p t e f) = both _ _ _ _ (same_expr t) (both _ _ _ _ (same_expr e) (same_expr f))
+    same_expr (index p e i) = both _ _ _ _ (same_expr e) (same_expr i)
+    same_expr (slice p e l h d) = both _ _ _ _ (same_expr e) (both _ _ _ _ (same_optional l) (both _ _ _ _ (same_optional h) (same_optional d)))
     same_expr (call p f es) = ap (λ l. l ++ p ∷ []) (same_expr f)
-    same_expr (index p e i) = ap (λ l. l ++ p ∷ []) (same_expr e)
-    same_expr (slice p e l h d) = ap (λ l. l ++ p ∷ []) (same_expr e)
     same_expr (attribute p e x) = ap (λ l. l ++ p ∷ []) (same_expr e)
-    same_expr (list p es) = refl
-    same_expr (dict p es) = refl
     same_expr (named p x e) = refl
     same_expr (starred p e) = refl
     same_expr (double_starred p e) = refl
@@ -89,6 +89,14 @@ module _ (a c : List Name) (same : (x : Name) → is_among x a ≡ is_among x c)
     same_exprs : (es : Exprs) → unbuilt_exprs a es ≡ unbuilt_exprs c es
     same_exprs no_exprs = refl
     same_exprs (an_expr e es) = both _ _ _ _ (same_expr e) (same_exprs es)
+
+    same_entries : (es : Entries) → unbuilt_entries a es ≡ unbuilt_entries c es
+    same_entries no_entries = refl
+    same_entries (an_entry e f es) = both _ _ _ _ (same_expr e) (both _ _ _ _ (same_expr f) (same_entries es))
+
+    same_optional : (o : OptionalExpr) → unbuilt_optional a o ≡ unbuilt_optional c o
+    same_optional absent = refl
+    same_optional (present e) = same_expr e
 
   mutual
     same_target : (e : Expr) → unbuilt_target a e ≡ unbuilt_target c e
@@ -106,7 +114,7 @@ module _ (a c : List Name) (same : (x : Name) → is_among x a ≡ is_among x c)
     same_target (index p e i) = same_expr (index p e i)
     same_target (slice p e l h d) = same_expr (slice p e l h d)
     same_target (attribute p e x) = same_expr (attribute p e x)
-    same_target (dict p es) = refl
+    same_target (dict p es) = same_expr (dict p es)
     same_target (named p x e) = refl
     same_target (starred p e) = refl
     same_target (double_starred p e) = refl

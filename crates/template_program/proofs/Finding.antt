@@ -6,8 +6,9 @@ use Rattle.ytt_base.specs.declared.fault.Place.{Place}
 use Rattle.ytt_base.specs.Outcomes.{place_at}
 use Rattle.code_spec.specs.Code as plain
 use Rattle.code_spec.specs.Code.{Name}
-use Rattle.code_spec.specs.Unbuilt.{unbuilt_expr, unless_built}
-use Rattle.star_tree.proofs.Forms.{expr_of-And, expr_of-Binary, expr_of-Or, expr_of-Text}
+use Rattle.code_spec.specs.Unbuilt.{unbuilt_expr, unbuilt_optional, unless_built}
+use Rattle.star_tree.proofs.Forms.{expr_of-And, expr_of-Binary, expr_of-Index, expr_of-Or, expr_of-Slice, expr_of-Text}
+use Rattle.star_tree.specs.Listed.{optional_of}
 use Rattle.star_tree.specs.Whole.{expr_of}
 use Rattle.star_tree.specs.declared.code.BinOp.{BinOp}
 use Rattle.star_tree.specs.declared.code.Expr as held
@@ -70,12 +71,20 @@ module _ (names : List Name) (file : ℕ) (x : plain.Expr) (e : Expr) (is : expr
 -- of two operands, whichever the form is
 abbrev pub OfTwo : Expr → Expr → Expr → Type 0
 OfTwo e a b =
-    ((line : ℕ) × (op : BinOp) × (e ≡ held.Binary line op a b)) ⊎ (((line : ℕ) × (e ≡ held.And line a b)) ⊎ ((line : ℕ) × (e ≡ held.Or line a b)))
+    ((line : ℕ) × (op : BinOp) × (e ≡ held.Binary line op a b)) ⊎ (((line : ℕ) × (e ≡ held.And line a b)) ⊎ (((line : ℕ) × (e ≡ held.Or line a b)) ⊎ ((line : ℕ) × (e ≡ held.Index line a b))))
 
 pub in_operands : (names : List Name) (file : ℕ) (a b c d e : Expr) → OfTwo e a b → c ≡ a → d ≡ b → PlacesIn names file c ++ PlacesIn names file d ≡ PlacesIn names file e
 in_operands names file a b c d e (inl (line, op, is)) = in_two names file _ e (ap (expr_of file) is ∙ expr_of-Binary file line op a b) a b c d refl
 in_operands names file a b c d e (inr (inl (line, is))) = in_two names file _ e (ap (expr_of file) is ∙ expr_of-And file line a b) a b c d refl
-in_operands names file a b c d e (inr (inr (line, is))) = in_two names file _ e (ap (expr_of file) is ∙ expr_of-Or file line a b) a b c d refl
+in_operands names file a b c d e (inr (inr (inl (line, is)))) = in_two names file _ e (ap (expr_of file) is ∙ expr_of-Or file line a b) a b c d refl
+in_operands names file a b c d e (inr (inr (inr (line, is)))) = in_two names file _ e (ap (expr_of file) is ∙ expr_of-Index file line a b) a b c d refl
+
+-- in a slice
+pub in_slice : (names : List Name) (file line : ℕ) (a b e : Expr) (l h d : Option Expr) → e ≡ held.Slice line a l h d → b ≡ a →
+    PlacesIn names file b ++ (unbuilt_optional names (optional_of file l) ++ (unbuilt_optional names (optional_of file h) ++ unbuilt_optional names (optional_of file d))) ≡ PlacesIn names file e
+in_slice names file line a b e l h d is got =
+    ap (λ x. PlacesIn names file x ++ (unbuilt_optional names (optional_of file l) ++ (unbuilt_optional names (optional_of file h) ++ unbuilt_optional names (optional_of file d)))) got
+    ∙ sym (ap (PlacesIn names file) is ∙ ap (unbuilt_expr names) (expr_of-Slice file line a l h d))
 
 -- nowhere in a text
 pub in_text : (names : List Name) (file line : ℕ) (t : List ℕ) (e : Expr) (old : Option Place) → e ≡ held.Text line t → is_utf8 t ≡ true → old ≡ earlier old (unbuilt_expr names (expr_of file e))

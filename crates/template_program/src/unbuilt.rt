@@ -1,16 +1,17 @@
 // Where a program isn't built yet.
 ghost use Rattle.std.specs.Prelude.{◌≡◌, List, [], ◌∷◌, ◌++◌, true, ℕ};
 ghost use Rattle.std.specs.Str.{is_utf8};
+ghost use Rattle.star_tree.specs.Listed.{entries_of, optional_of};
 ghost use Rattle.star_tree.specs.Whole.{expr_of, exprs_of, instruction_of, part_of, program_of};
 ghost use Rattle.code_spec.specs.Code.{Name, int, name as plain_name};
-ghost use Rattle.code_spec.specs.Unbuilt.{is_built_name, unbuilt_code, unbuilt_expr, unbuilt_exprs, unbuilt_instruction, unbuilt_part, unbuilt_target, unbuilt_targets, unless_built};
+ghost use Rattle.code_spec.specs.Unbuilt.{is_built_name, unbuilt_code, unbuilt_entries, unbuilt_expr, unbuilt_exprs, unbuilt_instruction, unbuilt_optional, unbuilt_part, unbuilt_target, unbuilt_targets, unless_built};
 ghost use Rattle.template_program.specs.Places.{earlier};
 ghost use Rattle.template_spec.specs.Unbuilt.{first_unbuilt as plain_first};
 ghost use Rattle.ytt_base.specs.Outcomes.{place_at};
 
-use sqlite_items::Items;
+use sqlite_items::{Boxed, Items};
 use star_resolve::Scope;
-use star_tree::code::{Expr, NodeOp, Program, Stmt};
+use star_tree::code::{Entry, Expr, NodeOp, Program, Stmt};
 use star_tree::names::is_own_function;
 use ytt_base::fault::Place;
 use ytt_base::text::Text;
@@ -74,24 +75,29 @@ fn see_expr(file: u32, bound: &Scope, expr: &Expr, first: &mut Option<Place>)
         Expr::Int(line, n) => see_integer(*line, *n),
         Expr::Text(_, text) => see_text(text),
         Expr::Name(line, name) => see_name(file, bound, *line, name, first),
+        Expr::List(_, members) => see_exprs(file, bound, members, first),
         Expr::Tuple(_, members) => see_exprs(file, bound, members, first),
+        Expr::Dict(_, entries) => see_entries(file, bound, entries, first),
         Expr::Unary(_, _, a) => see_expr(file, bound, a.get(), first),
-        Expr::Binary(_, _, a, b) | Expr::And(_, a, b) | Expr::Or(_, a, b) => {
-            see_expr(file, bound, a.get(), first);
-            see_expr(file, bound, b.get(), first);
-        }
+        Expr::Binary(_, _, a, b) | Expr::And(_, a, b) | Expr::Or(_, a, b) | Expr::Index(_, a, b) =>
+            {
+                see_expr(file, bound, a.get(), first);
+                see_expr(file, bound, b.get(), first);
+            }
         Expr::If(_, test, a, b) => {
             see_expr(file, bound, test.get(), first);
             see_expr(file, bound, a.get(), first);
             see_expr(file, bound, b.get(), first);
         }
+        Expr::Slice(_, a, low, high, step) => {
+            see_expr(file, bound, a.get(), first);
+            see_optional(file, bound, low, first);
+            see_optional(file, bound, high, first);
+            see_optional(file, bound, step, first);
+        }
         Expr::Call(line, a, _) => see_behind(file, bound, *line, a.get(), first),
-        Expr::Index(line, a, _) => see_behind(file, bound, *line, a.get(), first),
-        Expr::Slice(line, a, _, _, _) => see_behind(file, bound, *line, a.get(), first),
         Expr::Dot(line, a, _) => see_behind(file, bound, *line, a.get(), first),
-        Expr::List(line, _)
-        | Expr::Dict(line, _)
-        | Expr::Named(line, _, _)
+        Expr::Named(line, _, _)
         | Expr::Star(line, _)
         | Expr::Stars(line, _)
         | Expr::Lambda(line, _, _, _)
@@ -117,6 +123,32 @@ fn see_exprs(file: u32, bound: &Scope, members: &Items<Expr>, first: &mut Option
 {
     for member in members.as_slice() {
         see_expr(file, bound, member, first);
+    }
+}
+
+/// Sees where the keys and values of a dict aren't built.
+#[cycle(expressions)]
+fn see_entries(file: u32, bound: &Scope, entries: &Items<Entry>, first: &mut Option<Place>)
+    ensures { first.new ≡ earlier first.old (unbuilt_entries bound.now (entries_of file entries.now)) }
+{
+    for entry in entries.as_slice() {
+        match entry {
+            Entry::Pair(key, value) => {
+                see_expr(file, bound, key.get(), first);
+                see_expr(file, bound, value.get(), first);
+            }
+        }
+    }
+}
+
+/// Sees where a part of a slice isn't built.
+#[cycle(expressions)]
+fn see_optional(file: u32, bound: &Scope, part: &Option<Boxed<Expr>>, first: &mut Option<Place>)
+    ensures { first.new ≡ earlier first.old (unbuilt_optional bound.now (optional_of file part.now)) }
+{
+    match part {
+        Some(expr) => see_expr(file, bound, expr.get(), first),
+        None => {}
     }
 }
 

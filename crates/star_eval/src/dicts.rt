@@ -1,0 +1,83 @@
+// Displays of dicts.
+ghost use Rattle.std.specs.Prelude.{◌≡◌};
+ghost use Rattle.star_spec.specs.Eval.{display_pair};
+ghost use Rattle.star_tree.specs.Listed.{entries_of, entry_of};
+ghost use Rattle.star_values.specs.Objects.{pairs_in};
+ghost use Rattle.star_values.specs.Owns.{Each, Owns, OwnsPair};
+ghost use Rattle.star_values.specs.View.{value_of};
+ghost use Rattle.value_spec.specs.Outcomes.{then_do};
+ghost use Rattle.star_eval.specs.Frames.{GoesToValue};
+ghost use Rattle.star_eval.specs.SoFar.{dict_so_far, with_entry};
+ghost use Rattle.star_eval.specs.View.{Sound, arena_in, env_of};
+
+use crate::frame::{Control, Frame, InValue, Machine};
+use crate::machine::{failed, push, settle};
+use crate::session::make_dict;
+use object_arena::{Pairs, Value};
+use star_compare::key_offence;
+use star_tree::code::Entry;
+use ytt_base::fault::{FaultKind, Place};
+use ytt_base::text::Memory;
+
+/// The dict of these pairs, and behind them those of these entries.
+pub(crate) fn entries<'p>(
+    m: &mut Machine<'p>,
+    place: Place,
+    entries: &'p [Entry],
+    pairs: Pairs,
+) -> Result<Control<'p>, Memory>
+    requires sound { Sound m.old }
+    requires pairs { Each (OwnsPair (arena_in m.old)) pairs.entries }
+    ensures { GoesToValue result m.new m.old (dict_so_far place (entries_of m.old.file entries.now) (env_of m.old) (pairs_in (arena_in m.old).held pairs.entries)) }
+{
+    match entries.split_first() {
+        None => settle(make_dict(&mut m.session, pairs)),
+        Some((entry, rest)) => first_entry(m, place, entry, rest, pairs),
+    }
+}
+
+/// The dict of these pairs, and behind them of this entry and of the further ones.
+fn first_entry<'p>(
+    m: &mut Machine<'p>,
+    place: Place,
+    entry: &'p Entry,
+    rest: &'p [Entry],
+    pairs: Pairs,
+) -> Result<Control<'p>, Memory>
+    requires sound { Sound m.old }
+    requires pairs { Each (OwnsPair (arena_in m.old)) pairs.entries }
+    ensures { GoesToValue result m.new m.old (dict_so_far place (with_entry (entry_of m.old.file entry.now) (entries_of m.old.file rest.now)) (env_of m.old) (pairs_in (arena_in m.old).held pairs.entries)) }
+{
+    match entry {
+        Entry::Pair(key, value) => {
+            let frame = Frame::Value(InValue::KeyOf(place, value.get(), rest, pairs));
+            push(m, frame, Control::Eval(key.get()))
+        }
+    }
+}
+
+/// One more pair, and then those of the further entries. What isn't a key is `ValueKind`, or `TooDeep` where tuples nest too deep; so is
+/// a key that stands already.
+pub(crate) fn pair<'p>(
+    m: &mut Machine<'p>,
+    place: Place,
+    key: Value,
+    value: Value,
+    rest: &'p [Entry],
+    mut pairs: Pairs,
+) -> Result<Control<'p>, Memory>
+    requires sound { Sound m.old }
+    requires key { Owns (arena_in m.old) key }
+    requires value { Owns (arena_in m.old) value }
+    requires pairs { Each (OwnsPair (arena_in m.old)) pairs.entries }
+    ensures { GoesToValue result m.new m.old (λ s. then_do (display_pair place (pairs_in (arena_in m.old).held pairs.entries) (value_of (arena_in m.old) key) (value_of (arena_in m.old) value) s) (λ more. dict_so_far place (entries_of m.old.file rest.now) (env_of m.old) more)) }
+{
+    if let Some(kind) = key_offence(&m.session.arena, key) {
+        return Ok(failed(m, kind, place));
+    }
+    if m.session.arena.has_key(&pairs, key) {
+        return Ok(failed(m, FaultKind::ValueKind, place));
+    }
+    m.session.arena.put_pair(&mut pairs, key, value)?;
+    entries(m, place, rest, pairs)
+}
