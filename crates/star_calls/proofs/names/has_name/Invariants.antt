@@ -1,0 +1,11 @@
+use Rattle.std.proofs.Common.{◌≡◌, length}
+use Rattle.star_spec.specs.Binding.{has_field}
+use Rattle.star_values.specs.View.{View, fields_in}
+use Rattle.star_calls.proofs.names.has_name.Given as goal
+
+-- what is left decides
+abbrev pub invariant-loop-field : goal.invariant-loop-field
+invariant-loop-field l = (a : View) → has_field l.name (fields_in a.held l.named) ≡ has_field l.name (fields_in a.held l.rest)
+
+abbrev pub decreases-loop-field : goal.decreases-loop-field
+decreases-loop-field l = length l.rest

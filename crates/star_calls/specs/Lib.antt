@@ -1,0 +1,3 @@
+pub mod Bound
+pub mod Left
+pub mod Named

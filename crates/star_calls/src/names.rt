@@ -1,0 +1,60 @@
+// Arguments by name.
+ghost use Rattle.std.specs.Prelude.{◌≡◌, MatchOption, length};
+ghost use Rattle.star_spec.specs.Binding.{field_of, has_field, has_twice, without_field};
+ghost use Rattle.star_values.specs.Owns.{OwnsFields, OwnsOption};
+ghost use Rattle.star_values.specs.View.{View, fields_in, option_in};
+ghost use Rattle.star_calls.specs.Named.{NamedAt, OtherNames};
+
+use star_values::{NamedValue, NamedValues, Value};
+
+/// Whether an argument has this name.
+pub(crate) fn has_name(named: &[NamedValue], name: &str) -> bool
+    ensures { (a : View) → result ≡ has_field name.now (fields_in a.held named.now) }
+{
+    let mut rest = named;
+    while let Some((field, more)) = rest.split_first() {
+        if name == field.name.as_str() {
+            return true;
+        }
+        rest = more;
+    }
+    false
+}
+
+/// Whether two arguments have one name.
+pub(crate) fn has_twice(named: &[NamedValue]) -> bool
+    ensures { (a : View) → result ≡ has_twice (fields_in a.held named.now) }
+{
+    let mut rest = named;
+    while let Some((field, more)) = rest.split_first() {
+        if has_name(more, field.name.as_str()) {
+            return true;
+        }
+        rest = more;
+    }
+    false
+}
+
+/// Takes the argument of this name out, if there is one.
+pub(crate) fn take_named(named: &mut NamedValues, name: &str) -> Option<Value>
+    ensures value { (a : View) → option_in a.held result ≡ field_of name.now (fields_in a.held named.old) }
+    ensures left { (a : View) → fields_in a.held named.new ≡ without_field name.now (fields_in a.held named.old) }
+    ensures owned { (a : View) → OwnsFields a named.old → OwnsOption a result × OwnsFields a named.new }
+{
+    match place_of(named.as_slice(), name) {
+        Some(at) => Some(named.remove(at).value),
+        None => None,
+    }
+}
+
+/// The place of the first argument of this name, if there is one.
+fn place_of(named: &[NamedValue], name: &str) -> Option<usize>
+    ensures { MatchOption result (OtherNames name.now named.now (length named.now)) (λ at. NamedAt name.now named.now at) }
+{
+    for (at, field) in named.iter().enumerate() {
+        if name == field.name.as_str() {
+            return Some(at);
+        }
+    }
+    None
+}

@@ -1,0 +1,4 @@
+pub mod Finding
+pub mod Indexing
+pub mod Looking
+pub mod Walking
