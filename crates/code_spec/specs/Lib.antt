@@ -7,3 +7,4 @@ pub mod Numbering
 pub mod Options
 pub mod Program
 pub mod Scopes
+pub mod Unbuilt

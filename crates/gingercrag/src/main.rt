@@ -1,6 +1,5 @@
-//! Renders Carvel ytt templates:
-//! `gingercrag [render] -f PATH [--steps N] [--depth N] [--ignore-unknown-comments]`, where the numbers may also be
-//! written `--steps=N` and `--depth=N`.
+//! Renders Carvel ytt templates: `gingercrag [render] -f PATH [--steps N] [--ignore-unknown-comments]`,
+//! where the steps may also be written `--steps=N`.
 #![tactic(auto)]
 
 use std::process::ExitCode;

@@ -1,5 +1,3 @@
-pub mod Arguments
+pub mod Bound
 pub mod Left
 pub mod Named
-pub mod Scope
-pub mod View

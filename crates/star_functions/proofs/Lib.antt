@@ -1,5 +1,4 @@
 pub mod Finding
 pub mod Indexing
 pub mod Looking
-pub mod Naming
 pub mod Walking

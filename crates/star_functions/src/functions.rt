@@ -1,13 +1,12 @@
 // The functions of a program by their numbers.
 ghost use Rattle.std.specs.Prelude.{◌≡◌, ℕ, IfOk};
-ghost use Rattle.std.specs.Option.{option_copied, option_map};
+ghost use Rattle.std.specs.Option.{option_map};
 ghost use Rattle.star_blocks.specs.Nested.{ops_of};
-ghost use Rattle.star_functions.specs.Table.{code_with, function_with};
-ghost use Rattle.star_functions.specs.View.{code_of};
+ghost use Rattle.star_functions.specs.View.{code_of, code_with};
 ghost use Rattle.template_meaning.specs.Calls.{ops_function};
 
 use crate::blocks::find_in_block;
-use crate::function::Function;
+use crate::function::FunctionCode;
 use indexmap::IndexMap;
 use sqlite_items::Items;
 use star_blocks::Op;
@@ -17,7 +16,7 @@ use ytt_base::text::Memory;
 /// The functions of a program: the first with each number.
 #[derive(Drop)]
 pub struct Functions<'p> {
-    by_number: IndexMap<usize, Function<'p>>,
+    by_number: IndexMap<usize, FunctionCode<'p>>,
 }
 
 /// The functions of a block.
@@ -27,21 +26,19 @@ pub fn functions_of<'p>(alloc: Global, block: &'p [Op]) -> Result<Functions<'p>,
     let mut found = Items::new(alloc);
     find_in_block(block, &mut found)?;
     let mut by_number = IndexMap::new(alloc);
-    for numbered in found.as_slice() {
-        if !by_number.contains_key(&numbered.number) {
-            let function = Function::of(alloc, numbered.code)?;
-            by_number.insert(numbered.number, function)?;
+    for function in found.as_slice() {
+        if !by_number.contains_key(&function.number) {
+            by_number.insert(function.number, function.code)?;
         }
     }
     Ok(Functions { by_number })
 }
 
 impl<'p> Functions<'p> {
-    /// The function with a number.
-    pub fn find(&self, number: usize) -> Option<&Function<'p>>
-        ensures function { option_copied result ≡ function_with number self.now }
-        ensures code { option_map (λ f. f.now.code) result ≡ code_with number self.now }
+    /// The code of the function with a number.
+    pub fn find(&self, number: usize) -> Option<FunctionCode<'p>>
+        ensures { result ≡ code_with number self.now }
     {
-        self.by_number.get(&number)
+        self.by_number.get(&number).copied()
     }
 }

@@ -1,5 +1,4 @@
 pub mod Announced
-pub mod Besides
 pub mod Binders
 pub mod Boxes
 pub mod Clauses

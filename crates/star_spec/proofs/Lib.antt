@@ -1,4 +1,3 @@
-pub mod BoundNames
 pub mod CallsKeep
 pub mod CutsHeld
 pub mod EvalKeeps
