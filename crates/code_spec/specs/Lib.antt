@@ -7,4 +7,3 @@ pub mod Numbering
 pub mod Options
 pub mod Program
 pub mod Scopes
-pub mod Unbuilt

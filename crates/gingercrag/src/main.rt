@@ -1,5 +1,6 @@
-//! Renders Carvel ytt templates: `gingercrag [render] -f PATH [--steps N] [--ignore-unknown-comments]`,
-//! where the steps may also be written `--steps=N`.
+//! Renders Carvel ytt templates:
+//! `gingercrag [render] -f PATH [--steps N] [--depth N] [--ignore-unknown-comments]`, where the numbers may also be
+//! written `--steps=N` and `--depth=N`.
 #![tactic(auto)]
 
 use std::process::ExitCode;

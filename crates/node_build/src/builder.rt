@@ -207,6 +207,14 @@ impl Builder {
             .into_items()
     }
 
+    /// The children of the node on top.
+    pub fn into_children(self) -> Built
+        ensures children { (a : View) → built_in a.held result ≡ bottom_children (nodes_of a self) }
+        ensures owned { (a : View) → OwnsNodes a self → OwnsBuilt a result }
+    {
+        self.top.into_items()
+    }
+
     /// The outermost node.
     fn outermost(self) -> OpenNode
         ensures children { (a : View) → built_in a.held result.children.items.items ≡ finished (nodes_of a self) }

@@ -1,17 +1,16 @@
 -- What is to be completed after a parameter got its value, or is refused.
-use Rattle.std.proofs.Common.{◌≡◌, ◌++◌, length, List, [], ◌∷◌, Option, Some, None, refl, sym, ap, ◌∙◌, append-nil, append_assoc}
+use Rattle.std.proofs.Common.{◌≡◌, ◌++◌, length, true, false, List, [], ◌∷◌, Option, Some, None, is_some, refl, sym, ap, ◌∙◌, append-nil, append_assoc}
 use Rattle.ytt_base.specs.Outcomes.{fault_at}
 use Rattle.ytt_base.specs.declared.fault.FaultKind.TheVariants as kind
 use Rattle.ytt_base.specs.declared.fault.Place.{Place}
 use Rattle.code_spec.specs.Code.{Expr, Name, Parameters, no_parameters, required, defaulted, bare_star, starred_parameter, double_starred_parameter}
 use Rattle.value_spec.specs.Values as plain
-use Rattle.value_spec.specs.Values.{Fields, no_fields, a_field, dict_value, of_dict, tuple_value, values_from}
+use Rattle.value_spec.specs.Values.{Fields, no_fields, a_field, dict_value, no_values, of_dict, tuple_value, values_from}
 use Rattle.value_spec.specs.Store.{with_object}
 use Rattle.value_spec.specs.Outcomes.{Computation, State, bad, done, give, or_fail, then_do, ◌>>=◌}
 use Rattle.value_spec.proofs.Computations.{then_assoc, then_ext}
-use Rattle.star_spec.specs.Binding.{Given, given, bound, field_of, in_front, or_default, text_pairs}
-use Rattle.star_calls.specs.Bound.{values_given}
-use Rattle.star_calls.specs.Left.{Rest, completed, got_by, named_behind, positions_behind, rest_behind, taken}
+use Rattle.star_spec.specs.Binding.{Given, given, bound, field_of, in_front, or_default, rest_in_front, text_pairs, values_given}
+use Rattle.star_calls.specs.Left.{Rest, completed, got_by, named_behind, need_nothing, positions_behind, rest_behind, taken}
 
 -- the values of these, behind those that were got
 abbrev ends : Place → List plain.Value → Option (List (Name × Given)) → Computation (Unit {0}) (List plain.Value)
@@ -32,6 +31,19 @@ ends_first p x v got (Some bs) s = values_first x v bs got s
 ends_none : (p : Place) (x : Name) (got : List plain.Value) (o : Option (List (Name × Given))) (s : Here) → ends p got (in_front x None o) s ≡ bad (fault_at kind.ArgBind p) s
 ends_none p x got None s = refl
 ends_none p x got (Some bs) s = refl
+
+-- a dict of what is left comes first
+abbrev with_dict : Fields → Here → Here
+with_dict fs s = record s { store = with_object (of_dict (text_pairs fs)) s.store }
+
+ends_rest : (p : Place) (x : Name) (fs : Fields) (got : List plain.Value) (o : Option (List (Name × Given))) (s : Here) → true ≡ is_some o →
+    ends p got (rest_in_front x fs o) s ≡ ends p (got ++ dict_value (length s.store) ∷ []) o (with_dict fs s)
+ends_rest p x fs got None s e = cc
+ends_rest p x fs got (Some bs) s e = values_first x (dict_value (length s.store)) bs got (with_dict fs s)
+
+ends_short : (p : Place) (x : Name) (fs : Fields) (got : List plain.Value) (o : Option (List (Name × Given))) (s : Here) → false ≡ is_some o → ends p got (rest_in_front x fs o) s ≡ bad (fault_at kind.ArgBind p) s
+ends_short p x fs got None s e = refl
+ends_short p x fs got (Some bs) s e = cc
 
 -- ---- parameters of a name
 
@@ -96,8 +108,17 @@ stars_refused p x ps r s h = by r.positions h where
   by [] h = absurd (h refl)
   by (v ∷ vs) h = refl
 
-pub stars_filled : (p : Place) (x : Name) (ps : Parameters) (r : Rest) (s : Here) → r.positions ≡ [] → completed p (double_starred_parameter x ps) r s ≡ done (r.got ++ dict_value (length s.store) ∷ []) (record s { store = with_object (of_dict (text_pairs r.named)) s.store })
-stars_filled p x ps r s e = ap (λ vs. completed p (double_starred_parameter x ps) (record r { positions = vs }) s) e
+pub stars_short : (p : Place) (x : Name) (ps : Parameters) (r : Rest) (s : Here) → r.positions ≡ [] → false ≡ need_nothing ps r.defaults → completed p (double_starred_parameter x ps) r s ≡ bad (fault_at kind.ArgBind p) s
+stars_short p x ps r s e n =
+    ap (λ vs. completed p (double_starred_parameter x ps) (record r { positions = vs }) s) e ∙ ends_short p x r.named r.got (bound ps r.defaults no_values no_fields) s n
+
+pub stars_filled : (p : Place) (x : Name) (ps : Parameters) (r new : Rest) (s : Here) → r.positions ≡ [] → true ≡ need_nothing ps r.defaults →
+    new ≡ record r { named = no_fields; got = r.got ++ dict_value (length s.store) ∷ [] } → completed p (double_starred_parameter x ps) r s ≡ completed p ps new (record s { store = with_object (of_dict (text_pairs r.named)) s.store })
+stars_filled p x ps r new s e n f =
+    ap (λ vs. completed p (double_starred_parameter x ps) (record r { positions = vs }) s) e
+    ∙ ends_rest p x r.named r.got (bound ps r.defaults no_values no_fields) s n
+    ∙ ap (λ vs. completed p ps (record r { positions = vs; named = no_fields; got = r.got ++ dict_value (length s.store) ∷ [] }) (with_dict r.named s)) (sym e)
+    ∙ ap (λ r1. completed p ps r1 (with_dict r.named s)) (sym f)
 
 -- ---- the end
 

@@ -1,5 +1,5 @@
 -- Whether a parameter was filled, from how the computation of its kind goes.
-use Rattle.std.proofs.Common.{◌≡◌, ℕ, List, ◌∷◌, Bool, Result, Ok, Err, OnOk, sym, subst}
+use Rattle.std.proofs.Common.{◌≡◌, ℕ, List, ◌∷◌, Result, Ok, Err, OnOk, sym, subst}
 use Rattle.ytt_base.specs.Outcomes.{fault_at}
 use Rattle.ytt_base.specs.declared.fault.FaultKind.TheVariants as kind
 use Rattle.ytt_base.specs.declared.fault.Place.{Place}
@@ -19,17 +19,17 @@ use Rattle.std.proofs.Common.{rules}
 abbrev Ends : Type 0
 Ends = Ending (Unit {0}) (List plain.Value)
 
-pub fills_same : (r : Result Bool Stop) (whole other after : Ends) (got : List plain.Value) (s : State (Unit {0})) → other ≡ whole → Fills r whole after got s → Fills r other after got s
-fills_same r whole other after got s e f = subst (λ w. Fills r w after got s) (sym e) f
+pub fills_same : (r : Result (Unit {0}) Stop) (whole other after : Ends) (s : State (Unit {0})) → other ≡ whole → Fills r whole after s → Fills r other after s
+fills_same r whole other after s e f = subst (λ w. Fills r w after s) (sym e) f
 
-pub fills_refused : (p : Place) (e : Stop) (whole after : Ends) (got : List plain.Value) (s : State (Unit {0})) → e ≡ stop.Fault (fault_at kind.ArgBind p) → whole ≡ bad (fault_at kind.ArgBind p) s → Fills (Err e) whole after got s
-fills_refused p e whole after got s is w = subst (λ e. Fills (Err e) whole after got s) (sym is) w
+pub fills_refused : (p : Place) (e : Stop) (whole after : Ends) (s : State (Unit {0})) → e ≡ stop.Fault (fault_at kind.ArgBind p) → whole ≡ bad (fault_at kind.ArgBind p) s → Fills (Err e) whole after s
+fills_refused p e whole after s is w = subst (λ e. Fills (Err e) whole after s) (sym is) w
 
 pub same_state : (a b : View) (n : ℕ) → b.store ≡ a.store → state_in b n ≡ state_in a n
 same_state a b n e = λ i. record { store = e i; steps = n; host = tt }
 
-pub fills_form : (p : Place) (e q : Parameter) (qs : List Parameter) (l : Rest) (t s : State (Unit {0})) (r : Result Bool Stop) (after : Ends) (got : List plain.Value) → e ≡ q → Fills r (completed p (parameters_from (q ∷ qs)) l t) after got s → Fills r (completed p (parameters_from (e ∷ qs)) l t) after got s
-fills_form p e q qs l t s r after got same f = subst (λ q. Fills r (completed p (parameters_from (q ∷ qs)) l t) after got s) (sym same) f
+pub fills_form : (p : Place) (e q : Parameter) (qs : List Parameter) (l : Rest) (t s : State (Unit {0})) (r : Result (Unit {0}) Stop) (after : Ends) → e ≡ q → Fills r (completed p (parameters_from (q ∷ qs)) l t) after s → Fills r (completed p (parameters_from (e ∷ qs)) l t) after s
+fills_form p e q qs l t s r after same f = subst (λ q. Fills r (completed p (parameters_from (q ∷ qs)) l t) after s) (sym same) f
 
 pub when_ok : {A E : Type 0} (r : Result A E) (P : Type 0) → P → OnOk r P
 when_ok (Ok x) P p = p

@@ -1,14 +1,16 @@
 -- What is left stays what it is where the arena grows.
-use Rattle.std.proofs.Common.{◌≡◌, List, [], ◌∷◌, refl, sym, ap, subst, ◌∙◌}
+use Rattle.std.proofs.Common.{◌≡◌, List, [], ◌∷◌, reverse, refl, sym, ap, subst, ◌∙◌}
+use Rattle.std.proofs.lemmas.List.{reverse-append}
 use Rattle.value_spec.specs.Values as plain
 use Rattle.value_spec.specs.Keys.{IsKey}
 use Rattle.star_spec.specs.Binding.{has_twice}
-use Rattle.star_values.specs.Objects.{pairs_in}
-use Rattle.star_values.specs.Owns.{Each, Grows, OwnsFields, OwnsPair}
+use Rattle.star_values.specs.Objects.{env_in, pairs_in}
+use Rattle.star_values.specs.Owns.{Each, Grows, OwnsEnv, OwnsFields, OwnsPair}
 use Rattle.star_values.specs.View.{View, fields_in}
+use Rattle.star_values.specs.declared.object.NamedBox.{NamedBox}
 use Rattle.star_values.specs.declared.value.NamedValue.{NamedValue}
 use Rattle.star_values.specs.declared.value.Value.{Value}
-use Rattle.star_values.proofs.Growing.{owns_all_kept, owns_kept, value_kept, values_kept}
+use Rattle.star_values.proofs.Growing.{each_joined, owns_all_kept, owns_kept, value_kept, values_kept, variable_kept}
 use Rattle.star_calls.specs.Left.{OwnsRest, rest_of}
 use Rattle.star_calls.specs.declared.left.Left.{Left}
 
@@ -44,3 +46,16 @@ owns_rest_kept a b l g o =
       got = owns_all_kept a b l.got g o.got;
       once = ap has_twice fs.1 ∙ o.once;
     }
+
+-- ---- scopes
+
+pub env_kept : (a b : View) (bs : List NamedBox) → Grows a b → OwnsEnv a bs → OwnsEnv b bs × (env_in b.held bs ≡ env_in a.held bs)
+env_kept a b [] g w = (tt, refl)
+env_kept a b (x ∷ bs) g w =
+    let k = variable_kept a b x g w.0 in
+    let more = env_kept a b bs g w.1 in
+    ((k.0, more.0), λ i. k.1 i ∷ more.1 i)
+
+pub reversed_each : {A : Type 0} (P : A → Type 0) (xs : List A) → Each P xs → Each P (reverse xs)
+reversed_each P [] w = tt
+reversed_each P (x ∷ xs) w = subst (Each P) (sym (reverse-append (x ∷ []) xs)) (each_joined P (reverse xs) (x ∷ []) (reversed_each P xs w.1) (w.0, tt))

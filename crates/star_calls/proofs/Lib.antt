@@ -6,3 +6,7 @@ pub mod Taking
 pub mod Fills
 pub mod Made
 pub mod Whole
+pub mod Opened
+pub mod Behind
+pub mod Called
+pub mod Stars

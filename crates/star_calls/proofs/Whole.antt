@@ -1,5 +1,5 @@
 -- How the values of all parameters end.
-use Rattle.std.proofs.Common.{◌≡◌, ℕ, Bool, true, false, if◌then◌else◌, List, [], ◌∷◌, Result, Ok, Err, None, refl, sym, ap, subst, ◌∙◌}
+use Rattle.std.proofs.Common.{◌≡◌, ℕ, true, false, if◌then◌else◌, List, [], ◌∷◌, Result, Err, None, refl, sym, ap, subst, ◌∙◌}
 use Rattle.ytt_base.specs.Outcomes.{fault_at}
 use Rattle.ytt_base.specs.declared.fault.FaultKind.TheVariants as kind
 use Rattle.ytt_base.specs.declared.fault.Place.{Place}
@@ -10,14 +10,13 @@ use Rattle.value_spec.specs.Values as plain
 use Rattle.value_spec.specs.Values.{Fields, no_fields, arguments, values_from}
 use Rattle.value_spec.specs.Outcomes.{Ending, State, bad, done, give, or_fail, then_do, ◌>>=◌}
 use Rattle.value_spec.proofs.Computations.{then_ext}
-use Rattle.star_spec.specs.Binding.{bound, has_twice}
+use Rattle.star_spec.specs.Binding.{bound, bound_values, has_twice, values_given}
 use Rattle.star_steps.specs.Meets.{state_in}
 use Rattle.star_values.specs.Owns.{Grows}
 use Rattle.star_values.specs.View.{View, fields_in}
 use Rattle.star_values.specs.declared.value.NamedValue.{NamedValue}
 use Rattle.star_values.specs.declared.value.Value.{Value}
 use Rattle.star_values.proofs.Growing.{grows_same}
-use Rattle.star_calls.specs.Bound.{bound_values, values_given}
 use Rattle.star_calls.specs.Left.{Fills, GivesAll, completed}
 
 abbrev Ends : Type 0
@@ -29,21 +28,13 @@ gives_same o p r a b n e g = subst (λ o. GivesAll o r a b n) (sym e) g
 pub gives_refused : (p : Place) (e : Stop) (a : View) (n : ℕ) (o : Ends) → e ≡ stop.Fault (fault_at kind.ArgBind p) → o ≡ bad (fault_at kind.ArgBind p) (state_in a n) → GivesAll o (Err e) a a n
 gives_refused p e a n o is h = subst (λ e. GivesAll o (Err e) a a n) (sym is) (record { meaning = h; owns = tt; grows = grows_same a })
 
-stopped : (e : Stop) (a b : View) (n : ℕ) (o whole after : Ends) (got : List plain.Value) → o ≡ whole → Fills (Err e) whole after got (state_in b n) → Grows a b → GivesAll o (Err e) a b n
-stopped (stop.Fault f) a b n o whole after got h w g = record { meaning = h ∙ w; owns = tt; grows = g }
-stopped stop.Memory a b n o whole after got h w g = record { meaning = tt; owns = tt; grows = g }
+stopped : (e : Stop) (a b : View) (n : ℕ) (o whole after : Ends) → o ≡ whole → Fills (Err e) whole after (state_in b n) → Grows a b → GivesAll o (Err e) a b n
+stopped (stop.Fault f) a b n o whole after h w g = record { meaning = h ∙ w; owns = tt; grows = g }
+stopped stop.Memory a b n o whole after h w g = record { meaning = tt; owns = tt; grows = g }
 
 -- a parameter is refused
-pub gives_stopped : (r : Result (List Value) Stop) (e : Stop) (a b : View) (n : ℕ) (o whole after : Ends) (got : List plain.Value) → r ≡ Err e → o ≡ whole → Fills (Err e) whole after got (state_in b n) → Grows a b → GivesAll o r a b n
-gives_stopped r e a b n o whole after got is h w g = subst (λ r. GivesAll o r a b n) (sym is) (stopped e a b n o whole after got h w g)
-
--- ---- a parameter was filled
-
-pub goes_on : (t : Bool) (whole after : Ends) (got : List plain.Value) (s : State (Unit {0})) → t ≡ false → Fills (Ok t) whole after got s → whole ≡ after
-goes_on t whole after got s e f = subst (λ t. Fills (Ok t) whole after got s) e f
-
-pub is_done : (t : Bool) (whole after : Ends) (got : List plain.Value) (s : State (Unit {0})) → t ≡ true → Fills (Ok t) whole after got s → whole ≡ done got s
-is_done t whole after got s e f = subst (λ t. Fills (Ok t) whole after got s) e f
+pub gives_stopped : (r : Result (List Value) Stop) (e : Stop) (a b : View) (n : ℕ) (o whole after : Ends) → r ≡ Err e → o ≡ whole → Fills (Err e) whole after (state_in b n) → Grows a b → GivesAll o r a b n
+gives_stopped r e a b n o whole after is h w g = subst (λ r. GivesAll o r a b n) (sym is) (stopped e a b n o whole after h w g)
 
 -- ---- nothing is left
 

@@ -1,5 +1,5 @@
 -- What is left for the parameters that are still to come, and how what a call returned stands to the values that they get.
-use Rattle.std.specs.Prelude.{◌≡◌, ◌++◌, ◌∷◌, ℕ, Bool, true, false, Result, Ok, Err, IfOk, OnErr, OnOk, length, Option, List, []}
+use Rattle.std.specs.Prelude.{◌≡◌, ◌++◌, ◌∷◌, ℕ, Bool, false, Result, Ok, Err, IfOk, OnErr, OnOk, length, Option, is_some, List, []}
 use Rattle.ytt_base.specs.declared.fault.FaultKind.TheVariants as kind
 use Rattle.ytt_base.specs.declared.fault.Place.{Place}
 use Rattle.ytt_base.specs.declared.fault.Stop.{Stop}
@@ -7,15 +7,14 @@ use Rattle.ytt_base.specs.declared.fault.Stop.TheVariants as stop
 use Rattle.ytt_base.specs.declared.text.Memory.{Memory}
 use Rattle.code_spec.specs.Code.{Name, Parameters}
 use Rattle.value_spec.specs.Values as plain
-use Rattle.value_spec.specs.Values.{Fields, dict_value, of_dict, values_from}
+use Rattle.value_spec.specs.Values.{Fields, dict_value, no_fields, no_values, of_dict, values_from}
 use Rattle.value_spec.specs.Store.{with_object}
-use Rattle.value_spec.specs.Outcomes.{Computation, Ending, State, bad, done, give, or_fail, ◌>>=◌}
-use Rattle.star_spec.specs.Binding.{bound, field_of, has_twice, in_front, or_default, unless_named, without_field}
+use Rattle.value_spec.specs.Outcomes.{Computation, Ending, State, bad, give, or_fail, ◌>>=◌}
+use Rattle.star_spec.specs.Binding.{bound, field_of, has_twice, in_front, or_default, unless_named, values_given, without_field}
 use Rattle.star_values.specs.Owns.{Grows, Owns, OwnsAll, OwnsFields}
 use Rattle.star_values.specs.View.{View, fields_in, value_of, values_of}
 use Rattle.star_values.specs.declared.value.Value.{Value}
 use Rattle.star_steps.specs.Meets.{Meets, state_in}
-use Rattle.star_calls.specs.Bound.{values_given}
 use Rattle.star_calls.specs.declared.left.Left.{Left}
 
 -- the arguments by position, the defaults and the arguments by name that are left, and the values that were got
@@ -42,6 +41,10 @@ completed p ps r = do
   bs ← or_fail kind.ArgBind p (bound ps r.defaults (values_from r.positions) r.named)
   vs ← values_given bs
   give (r.got ++ vs)
+
+-- parameters get values where no argument is left for them
+abbrev pub need_nothing : Parameters → (defaults : List plain.Value) → Bool
+need_nothing ps ds = is_some (bound ps ds no_values no_fields)
 
 -- ---- one parameter
 
@@ -71,13 +74,11 @@ taken p x d ps r = do
 
 -- ---- what calls return
 
--- A parameter was filled: what was to be completed is what is to be completed after it, or it is complete where all that
--- follows is ignored; or it ends in this refusal.
-abbrev pub Fills : Result Bool Stop → (whole after : Ending (Unit {0}) (List plain.Value)) → (got : List plain.Value) → State (Unit {0}) → Type 0
-Fills (Ok false) whole after got s = whole ≡ after
-Fills (Ok true) whole after got s = whole ≡ done got s
-Fills (Err (stop.Fault f)) whole after got s = whole ≡ bad f s
-Fills (Err stop.Memory) whole after got s = Unit {0}
+-- a parameter was filled: what was to be completed is what is to be completed after it; or it ends in this refusal
+abbrev pub Fills : Result (Unit {0}) Stop → (whole after : Ending (Unit {0}) (List plain.Value)) → State (Unit {0}) → Type 0
+Fills (Ok u) whole after s = whole ≡ after
+Fills (Err (stop.Fault f)) whole after s = whole ≡ bad f s
+Fills (Err stop.Memory) whole after s = Unit {0}
 
 -- The computation ends so: the arena that is left, which has grown from the one that was, owns its values.
 pub record GivesAll (ending : Ending (Unit {0}) (List plain.Value)) (result : Result (List Value) Stop) (a b : View) (steps : ℕ) : Type 0 where

@@ -1,3 +1,5 @@
-pub mod Bound
+pub mod Arguments
 pub mod Left
 pub mod Named
+pub mod Scope
+pub mod View

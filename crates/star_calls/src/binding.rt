@@ -2,11 +2,11 @@
 ghost use Rattle.std.specs.Prelude.{◌≡◌, ℕ};
 ghost use Rattle.code_spec.specs.Code.{no_parameters};
 ghost use Rattle.object_arena.specs.Names.{OwnsAll, seen, values_of};
+ghost use Rattle.star_spec.specs.Binding.{bound_values};
 ghost use Rattle.star_steps.specs.Meets.{state_in};
 ghost use Rattle.star_tree.specs.Whole.{parameters_of};
 ghost use Rattle.star_values.specs.Owns.{OwnsArguments};
 ghost use Rattle.star_values.specs.View.{arguments_in};
-ghost use Rattle.star_calls.specs.Bound.{bound_values};
 ghost use Rattle.star_calls.specs.Left.{GivesAll, OwnsRest, completed, rest_of};
 
 use crate::filling::fill;
@@ -56,9 +56,7 @@ fn fill_all(
 {
     let mut rest = params;
     while let Some((param, more)) = rest.split_first() {
-        if fill(arena, param, &mut left, at)? {
-            return Ok(left.got);
-        }
+        fill(arena, param, more, &mut left, at)?;
         rest = more;
     }
     all_taken(arena, left, at)

@@ -1,4 +1,8 @@
-//! How the arguments of a call are bound to the parameters of a function.
+//! All that a call needs over the arena: its arguments, how they are bound to the parameters of a function, and its scope.
+//!
+//! `add_argument` puts what one more argument gives behind those that are given. `call_scope` gives the scope of a call: boxes
+//! for its parameters and for the names that its block binds, in front of the variables that stood around the function;
+//! `open_scope` gives boxes without values for names.
 //!
 //! `bind` gives the values that the parameters get, in their order: the arguments by position first, then those by name,
 //! then the defaults. A star takes the positions that are left, as a tuple, and two stars the names that are left, as a new
@@ -6,10 +10,18 @@
 //! and no dict is made.
 #![tactic(auto)]
 
+mod arguments;
 mod binding;
+mod call;
 mod filling;
 mod left;
 mod names;
+mod own;
 mod rests;
+mod scopes;
+mod spread;
 
+pub use arguments::{ArgumentForm, add_argument};
 pub use binding::bind;
+pub use call::call_scope;
+pub use scopes::open_scope;

@@ -19,7 +19,7 @@ use Rattle.star_eval.specs.declared.frame.Machine.{Machine}
 use Rattle.star_eval.specs.declared.session.Session.{Session}
 use Rattle.star_eval.specs.Frames.{Goes, GoesToFlow, GoesToValue, around_flow, around_value}
 use Rattle.star_eval.specs.Meets.{Acts, GivesFrom, Here, state_of}
-use Rattle.star_eval.specs.PartsSoFar.{Nodes, concluded}
+use Rattle.star_eval.specs.Doing.{Nodes, concluded}
 use Rattle.star_eval.specs.Settled.{Settles, SettlesFlow, SettlesNone}
 use Rattle.star_eval.specs.View.{Sound, arena_in, nodes_in, waiting_in}
 use Rattle.star_eval.specs.Waiting.{Final, unwind_flow, unwind_value, with_none}
@@ -34,10 +34,10 @@ goes (Err x) m e h = tt
 
 module _ (m n : Machine) (k : Kept m n) where
   pub value_after : (r o : Ending Here plain.Value) → o ≡ r → around_value n (waiting_in n) r ≡ around_value m (waiting_in m) o
-  value_after r o e = (λ i. unwind_value (k.env i) (k.nodes i) (k.waiting i) r) ∙ ap (around_value m (waiting_in m)) (sym e)
+  value_after r o e = (λ i. unwind_value (k.setting i) (k.nodes i) (k.waiting i) r) ∙ ap (around_value m (waiting_in m)) (sym e)
 
   pub flow_after : (r o : Ending Here (Flow Nodes)) → o ≡ r → around_flow n (waiting_in n) r ≡ around_flow m (waiting_in m) o
-  flow_after r o e = (λ i. unwind_flow (k.env i) (k.waiting i) r) ∙ ap (around_flow m (waiting_in m)) (sym e)
+  flow_after r o e = (λ i. unwind_flow (k.setting i) (k.waiting i) r) ∙ ap (around_flow m (waiting_in m)) (sym e)
 
   one_control : (c d : Control) (before : Final) → c ≡ d → Goes n d before → Goes n c before
   one_control c d before e g = subst (λ x. Goes n x before) (sym e) g
@@ -76,7 +76,7 @@ module _ (m : Machine) (s : Session) (sound : Sound m) where
   ends_on f (Ok u) (Ok c) g e =
       let k = kept m s g.grows sound in
       one_control m After k c (control.Went flow.On) _ e (record {
-        same = (λ i. unwind_flow (k.env i) (k.waiting i) (done (on (k.nodes i)) (state_of s))) ∙ ap (around_flow m (waiting_in m)) (sym (ap (λ o. then_do o (λ u. give (on (nodes_in m)))) g.meaning));
+        same = (λ i. unwind_flow (k.setting i) (k.waiting i) (done (on (k.nodes i)) (state_of s))) ∙ ap (around_flow m (waiting_in m)) (sym (ap (λ o. then_do o (λ u. give (on (nodes_in m)))) g.meaning));
         sound = k.sound;
         owned = tt;
       })

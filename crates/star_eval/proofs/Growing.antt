@@ -1,23 +1,38 @@
 -- What is held stays owned, and the same, as the arena grows.
-use Rattle.std.proofs.Common.{◌≡◌, ℕ, List, [], ◌∷◌, drop, reverse, Option, Some, None, refl, ap, subst, sym, IsTrue, rules}
+use Rattle.std.proofs.Common.{◌≡◌, ℕ, List, [], ◌∷◌, drop, reverse, Option, Some, None, option_map, refl, ap, subst, sym, IsTrue, rules}
 use Rattle.std.proofs.lemmas.List.{reverse-append}
 use Rattle.star_blocks.specs.Nested.{ops_of}
-use Rattle.star_tree.specs.Listed.{entries_of, optional_of}
-use Rattle.star_tree.specs.Whole.{binary_operator_of, expr_of, exprs_of}
+use Rattle.star_tree.specs.Listed.{clauses_of, entries_of, optional_of}
+use Rattle.star_tree.specs.Whole.{binary_operator_of, expr_of, exprs_of, parameters_of}
 use Rattle.node_build.proofs.Growing.{nodes_kept}
 use Rattle.star_values.proofs.Growing.{each_joined, owns_all_kept, owns_kept, value_kept, values_kept, variable_kept}
 use Rattle.star_values.specs.Objects.{env_in, pairs_in}
-use Rattle.star_values.specs.Owns.{Each, Grows, OwnsEnv, OwnsPair, object_at}
-use Rattle.star_values.specs.View.{View}
+use Rattle.star_values.specs.Owns.{Each, Grows, OwnsArguments, OwnsEnv, OwnsPair, object_at}
+use Rattle.star_values.specs.View.{View, arguments_in}
 use Rattle.star_values.specs.declared.object.NamedBox.{NamedBox}
 use Rattle.star_values.specs.declared.value.Ref.{Ref}
 use Rattle.star_values.specs.declared.value.Sort.{Sort}
 use Rattle.star_values.specs.declared.value.Value.{Value}
 use Rattle.value_spec.specs.Keys.{IsKey}
+use Rattle.star_calls.proofs.Kept.{fields_kept}
+use Rattle.star_calls.specs.View.{form_of}
+use Rattle.star_tree.specs.View.{item_kind_of}
+use Rattle.star_values.specs.declared.value.CallArgs.{CallArgs}
+use Rattle.value_spec.specs.Values.{arguments, values_from}
+use Rattle.star_eval.specs.Calling.{calls_at}
+use Rattle.star_eval.specs.Doing as doing
+use Rattle.star_eval.specs.declared.frame.Bag as held_bag
+use Rattle.star_eval.specs.declared.frame.Bag.TheVariants as bag
+use Rattle.star_eval.specs.declared.frame.Caller.{Caller}
+use Rattle.star_eval.specs.declared.frame.Code.{Code}
 use Rattle.star_eval.specs.declared.frame.Frame.{Frame}
 use Rattle.star_eval.specs.declared.frame.Frame.TheVariants as frame
 use Rattle.star_eval.specs.declared.frame.InBlock as held_block
 use Rattle.star_eval.specs.declared.frame.InBlock.TheVariants as in_block
+use Rattle.star_eval.specs.declared.frame.InClauses as held_clauses
+use Rattle.star_eval.specs.declared.frame.InClauses.TheVariants as in_clauses
+use Rattle.star_eval.specs.declared.frame.InElement as held_element
+use Rattle.star_eval.specs.declared.frame.InElement.TheVariants as in_element
 use Rattle.star_eval.specs.declared.frame.InIndex as held_index
 use Rattle.star_eval.specs.declared.frame.InIndex.TheVariants as in_index
 use Rattle.star_eval.specs.declared.frame.InStatement as held_statement
@@ -31,8 +46,9 @@ use Rattle.star_eval.specs.declared.source.Members.TheVariants as members
 use Rattle.star_eval.specs.declared.source.Source.{Source}
 use Rattle.star_eval.specs.Meets.{arena_of}
 use Rattle.star_eval.specs.Sources.{OwnsMembers, OwnsSource, Walked, all_members, left_of, walked_sort}
-use Rattle.star_eval.specs.View.{OwnsFrame, OwnsInBlock, OwnsInIndex, OwnsInStatement, OwnsInValue, Sound, arena_in, block_frame, env_of, frame_of, frames_of, gathering_of, index_frame, nodes_in, statement_frame, value_frame, waiting_in}
+use Rattle.star_eval.specs.View.{OwnsBag, OwnsCaller, OwnsFrame, OwnsInBlock, OwnsInClauses, OwnsInElement, OwnsInIndex, OwnsInStatement, OwnsInValue, Sound, arena_in, bag_of, block_frame, caller_of, clauses_frame, element_frame, frame_of, frames_of, gathering_of, index_frame, making_of, nodes_in, setting_of, statement_frame, value_frame, waiting_in}
 use Rattle.star_eval.specs.Waiting as plain
+use Rattle.star_eval.specs.Waiting.{setting}
 
 -- ---- scopes
 
@@ -69,6 +85,14 @@ pairs_kept a b (p ∷ ps) g w =
     let more = pairs_kept a b ps g w.1 in
     (((owns_kept a b p.0 g w.0.0, owns_kept a b p.1 g w.0.1, subst IsKey (sym key) w.0.2), more.0), λ i. (key i, value i) ∷ more.1 i)
 
+-- ---- arguments
+
+pub arguments_kept : (a b : View) (given : CallArgs) → Grows a b → OwnsArguments a given → OwnsArguments b given × (arguments_in b.held given ≡ arguments_in a.held given)
+arguments_kept a b given g w =
+    let values = values_kept a b given.positional g w.0 in
+    let fields = fields_kept a b given.named g w.1 in
+    ((owns_all_kept a b given.positional g w.0, fields.0), λ i. arguments (values_from (values i)) (fields.1 i))
+
 -- ---- frames
 
 module _ (a b : View) (file : ℕ) (g : Grows a b) where
@@ -82,6 +106,10 @@ module _ (a b : View) (file : ℕ) (g : Grows a b) where
   in_index_kept (in_index.TargetOf p i v) w = (owns_kept a b v g w, ap (plain.target_of p (expr_of file i.now)) (value_kept a b v g w))
   in_index_kept (in_index.TargetAt p x v) w = ((owns_kept a b x g w.0, owns_kept a b v g w.1), λ i. plain.target_at p (value_kept a b x g w.0 i) (value_kept a b v g w.1 i))
 
+  pub bag_kept : (x : held_bag.Bag) → OwnsBag a x → OwnsBag b x × (bag_of b file x ≡ bag_of a file x)
+  bag_kept (bag.Values e vs) w = (owns_all_kept a b vs g w, ap (doing.values_bag (expr_of file e.now)) (values_kept a b vs g w))
+  bag_kept (bag.Pairs e d ps) w = let k = pairs_kept a b ps.entries g w in (k.0, ap (doing.pairs_bag (expr_of file e.now) (expr_of file d.now)) k.1)
+
   in_value_kept : (f : held_value.InValue) → OwnsInValue a f → OwnsInValue b f × (value_frame b file f ≡ value_frame a file f)
   in_value_kept (in_value.Right p o x) w = (tt, refl)
   in_value_kept (in_value.Operate p o x) w = (owns_kept a b x g w, ap (plain.operate p (binary_operator_of o)) (value_kept a b x g w))
@@ -94,6 +122,13 @@ module _ (a b : View) (file : ℕ) (g : Grows a b) where
   in_value_kept (in_value.KeyOf p e es ps) w = let k = pairs_kept a b ps.entries g w in (k.0, ap (plain.key_of p (expr_of file e.now) (entries_of file es.now)) k.1)
   in_value_kept (in_value.PairOf p x es ps) w = let k = pairs_kept a b ps.entries g w.1 in ((owns_kept a b x g w.0, k.0), λ i. plain.pair_of p (value_kept a b x g w.0 i) (entries_of file es.now) (k.1 i))
   in_value_kept (in_value.Index f) w = in_index_kept f w
+  in_value_kept (in_value.Callee p es) w = (tt, refl)
+  in_value_kept (in_value.Argument p h f es given) w =
+      let k = arguments_kept a b given g w.1 in
+      ((owns_kept a b h g w.0, k.0), λ i. plain.argument p (value_kept a b h g w.0 i) (form_of f) (exprs_of file es.now) (k.1 i))
+  in_value_kept (in_value.Default m ps vs) w = (owns_all_kept a b vs g w, ap (plain.default_of (making_of m) (parameters_of file ps.now)) (values_kept a b vs g w))
+  in_value_kept (in_value.First p cs x) w = let k = bag_kept x w in (k.0, ap (plain.first_members p (clauses_of file cs.now)) k.1)
+  in_value_kept (in_value.Unbuilt p) w = (tt, refl)
 
   in_statement_kept : (f : held_statement.InStatement) → OwnsInStatement a f → OwnsInStatement b f × (statement_frame b file f ≡ statement_frame a file f)
   in_statement_kept in_statement.Discard w = (tt, refl)
@@ -108,18 +143,45 @@ module _ (a b : View) (file : ℕ) (g : Grows a b) where
   in_statement_kept (in_statement.Walk p x os) w = (tt, refl)
   in_statement_kept (in_statement.Enter os) w = (tt, refl)
   in_statement_kept in_statement.Take w = (tt, refl)
+  in_statement_kept (in_statement.Bind p x) w = (tt, refl)
+  in_statement_kept (in_statement.NoteArgument x f es given) w = let k = arguments_kept a b given g w in (k.0, ap (plain.note_argument x.now (form_of f) (exprs_of file es.now)) k.1)
 
   pub in_block_kept : (f : held_block.InBlock) → OwnsInBlock a f → OwnsInBlock b f × (block_frame b file f ≡ block_frame a file f)
   in_block_kept (in_block.Turn p x os s) w = let k = source_kept a b s g w in (k.0, ap (plain.turn p (expr_of file x.now) (ops_of file os.now)) k.1)
   in_block_kept (in_block.Rest os) w = (tt, refl)
   in_block_kept (in_block.WalkEnd r) w = (walked_kept a b r g w, refl)
 
-  frame_kept : (f : Frame) → OwnsFrame a f → OwnsFrame b f × (frame_of b file f ≡ frame_of a file f)
-  frame_kept (frame.Value f) w = let k = in_value_kept f w in (k.0, ap plain.in_value k.1)
-  frame_kept (frame.Statement f) w = let k = in_statement_kept f w in (k.0, ap plain.in_statement k.1)
-  frame_kept (frame.Block f) w = let k = in_block_kept f w in (k.0, ap plain.in_block k.1)
+  in_element_kept : (f : held_element.InElement) → OwnsInElement a f → OwnsInElement b f × (element_frame b file f ≡ element_frame a file f)
+  in_element_kept (in_element.Members p x cs y) w = let k = bag_kept y w in (k.0, ap (plain.members_of_clause p (expr_of file x.now) (clauses_of file cs.now)) k.1)
+  in_element_kept (in_element.Test p cs y) w = let k = bag_kept y w in (k.0, ap (plain.test_of_clause p (clauses_of file cs.now)) k.1)
+  in_element_kept (in_element.Enter p cs y) w = let k = bag_kept y w in (k.0, ap (plain.enter_clauses p (clauses_of file cs.now)) k.1)
+  in_element_kept (in_element.Single e vs) w = (owns_all_kept a b vs g w, ap (plain.element (expr_of file e.now)) (values_kept a b vs g w))
+  in_element_kept (in_element.KeyOf p e d ps) w = let k = pairs_kept a b ps.entries g w in (k.0, ap (plain.element_key p (expr_of file e.now) (expr_of file d.now)) k.1)
+  in_element_kept (in_element.PairOf p x e d ps) w =
+      let k = pairs_kept a b ps.entries g w.1 in
+      ((owns_kept a b x g w.0, k.0), λ i. plain.element_pair p (value_kept a b x g w.0 i) (expr_of file e.now) (expr_of file d.now) (k.1 i))
 
-  pub frames_kept : (fs : List Frame) → Each (OwnsFrame a) fs → Each (OwnsFrame b) fs × (frames_of b file fs ≡ frames_of a file fs)
+  pub in_clauses_kept : (f : held_clauses.InClauses) → OwnsInClauses a f → OwnsInClauses b f × (clauses_frame b file f ≡ clauses_frame a file f)
+  in_clauses_kept (in_clauses.Turn p x cs s) w = let k = source_kept a b s g w in (k.0, ap (plain.clause_turn p (expr_of file x.now) (clauses_of file cs.now)) k.1)
+  in_clauses_kept (in_clauses.WalkEnd r) w = (walked_kept a b r g w, refl)
+
+module _ (a b : View) (code : Code) (g : Grows a b) where
+  pub caller_kept : (c : Caller) → OwnsCaller a c → OwnsCaller b c × (caller_of b code c ≡ caller_of a code c)
+  caller_kept c w =
+      let env = env_kept a b c.scope g w.0 in
+      let nodes = nodes_kept a b c.nodes g w.1 in
+      ((env.0, nodes.0), λ i. plain.caller (calls_at code.file code.functions c.depth) (env.1 i) (nodes.1 i) (option_map item_kind_of c.fragment))
+
+  frame_kept : (f : Frame) → OwnsFrame a f → OwnsFrame b f × (frame_of b code f ≡ frame_of a code f)
+  frame_kept (frame.Value f) w = let k = in_value_kept a b code.file g f w in (k.0, ap plain.in_value k.1)
+  frame_kept (frame.Statement f) w = let k = in_statement_kept a b code.file g f w in (k.0, ap plain.in_statement k.1)
+  frame_kept (frame.Block f) w = let k = in_block_kept a b code.file g f w in (k.0, ap plain.in_block k.1)
+  frame_kept (frame.Element f) w = let k = in_element_kept a b code.file g f w in (k.0, ap plain.in_element k.1)
+  frame_kept (frame.Clauses f) w = let k = in_clauses_kept a b code.file g f w in (k.0, ap plain.in_clauses k.1)
+  frame_kept (frame.Gather scope) w = let k = env_kept a b scope g w in (k.0, ap plain.gather k.1)
+  frame_kept (frame.Call c) w = caller_kept c w
+
+  pub frames_kept : (fs : List Frame) → Each (OwnsFrame a) fs → Each (OwnsFrame b) fs × (frames_of b code fs ≡ frames_of a code fs)
   frames_kept [] w = (tt, refl)
   frames_kept (f ∷ fs) w =
       let k = frame_kept f w.0 in
@@ -135,7 +197,7 @@ reversed_each P (x ∷ xs) w = subst (Each P) (sym (reverse-append (x ∷ []) xs
 -- ---- a machine with a session whose arena has grown
 
 pub record Kept (m n : Machine) : Type 0 where
-  pub env : env_of n ≡ env_of m
+  pub setting : setting_of n ≡ setting_of m
   pub nodes : nodes_in n ≡ nodes_in m
   pub waiting : waiting_in n ≡ waiting_in m
   pub sound : Sound n
@@ -147,8 +209,8 @@ kept m s g w =
     let env = env_kept a b m.scope g w.scope in
     let nodes = nodes_kept a b m.nodes g w.nodes in
     record {
-      env = env.1;
+      setting = λ i. setting (calls_at m.code.file m.code.functions m.depth) (env.1 i);
       nodes = nodes.1;
-      waiting = (frames_kept a b m.file g (reverse m.frames) (reversed_each (OwnsFrame a) m.frames w.frames)).1;
-      sound = record { scope = env.0; nodes = nodes.0; frames = (frames_kept a b m.file g m.frames w.frames).0 };
+      waiting = (frames_kept a b m.code g (reverse m.frames) (reversed_each (OwnsFrame a) m.frames w.frames)).1;
+      sound = record { scope = env.0; nodes = nodes.0; frames = (frames_kept a b m.code g m.frames w.frames).0 };
     }

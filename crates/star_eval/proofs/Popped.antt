@@ -23,5 +23,5 @@ module _ (m : Machine) (fs : List Frame) (f : Frame) (is : m.frames ≡ fs ++ f 
   pub popped_owned : Sound m → OwnsFrame (arena_in m) f
   popped_owned sound = (parted sound).1
 
-  pub popped_waits : waiting_in m ≡ frame_of (arena_in m) m.file f ∷ waiting_in Popped
-  popped_waits = ap (λ l. frames_of (arena_in m) m.file (reverse l)) is ∙ ap (frames_of (arena_in m) m.file) (reverse-append fs (f ∷ []))
+  pub popped_waits : waiting_in m ≡ frame_of (arena_in m) m.code f ∷ waiting_in Popped
+  popped_waits = ap (λ l. frames_of (arena_in m) m.code (reverse l)) is ∙ ap (frames_of (arena_in m) m.code) (reverse-append fs (f ∷ []))

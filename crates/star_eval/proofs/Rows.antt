@@ -11,9 +11,9 @@ use Rattle.star_tree.specs.Whole.{exprs_of}
 use Rattle.star_tree.specs.declared.code.Expr.{Expr}
 use Rattle.value_spec.specs.Members.{members_in}
 use Rattle.value_spec.specs.Outcomes.{Computation, Ending, State, bad, done, give, need, or_fail, paid, take_if, then_do, ◌>>=◌}
-use Rattle.value_spec.specs.Values.{Env, Value, none_value}
+use Rattle.value_spec.specs.Values.{Value, none_value}
 use Rattle.star_eval.specs.Meets.{Here}
-use Rattle.star_eval.specs.PartsSoFar.{assigned, assigned_each, spread_over}
+use Rattle.star_eval.specs.Doing.{Setting, assigned, assigned_each, spread_over}
 use Rattle.star_eval.specs.Waiting.{with_none}
 
 pub as_many : (file : ℕ) (es : List Expr) → count_exprs (exprs_of file es) ≡ length es
@@ -21,32 +21,32 @@ as_many file [] = refl
 as_many file (e ∷ es) = ap suc (as_many file es)
 
 -- no member is left for the targets
-pub none_assigned : (p : Place) (env : Env) (es : Exprs) (vs : List Value) (s : State Here) → vs ≡ [] → done none_value s ≡ with_none (assigned_each p es vs env) s
-none_assigned p env es vs s e = sym (ap (λ l. with_none (assigned_each p es l env) s) e ∙ nothing es)
+pub none_assigned : (p : Place) (c : Setting) (es : Exprs) (vs : List Value) (s : State Here) → vs ≡ [] → done none_value s ≡ with_none (assigned_each c p es vs) s
+none_assigned p c es vs s e = sym (ap (λ l. with_none (assigned_each c p es l) s) e ∙ nothing es)
   where
-    nothing : (es : Exprs) → with_none (assigned_each p es [] env) s ≡ done none_value s
+    nothing : (es : Exprs) → with_none (assigned_each c p es []) s ≡ done none_value s
     nothing no_exprs = refl
     nothing (an_expr e es) = refl
 
 -- the first gets its value, and then the others
-first_by : (p : Place) (env : Env) (es : Exprs) (vs : List Value) (r : Ending Here Here) →
-    then_do (then_do r (λ u. give none_value)) (λ x. with_none (assigned_each p es vs env)) ≡ then_do (then_do r (λ u. assigned_each p es vs env)) (λ u. give none_value)
-first_by p env es vs (done u s) = refl
-first_by p env es vs (bad f s) = refl
+first_by : (p : Place) (c : Setting) (es : Exprs) (vs : List Value) (r : Ending Here Here) →
+    then_do (then_do r (λ u. give none_value)) (λ x. with_none (assigned_each c p es vs)) ≡ then_do (then_do r (λ u. assigned_each c p es vs)) (λ u. give none_value)
+first_by p c es vs (done u s) = refl
+first_by p c es vs (bad f s) = refl
 
-pub first_assigned : (p : Place) (env : Env) (t : plain.Expr) (es all : Exprs) (v : Value) (vs members : List Value) (s : State Here) → all ≡ an_expr t es → members ≡ v ∷ vs →
-    then_do (with_none (assigned p t v env) s) (λ x. with_none (assigned_each p es vs env)) ≡ with_none (assigned_each p all members env) s
-first_assigned p env t es all v vs members s e f = first_by p env es vs (assigned p t v env s) ∙ sym (λ i. with_none (assigned_each p (e i) (f i) env) s)
+pub first_assigned : (p : Place) (c : Setting) (t : plain.Expr) (es all : Exprs) (v : Value) (vs members : List Value) (s : State Here) → all ≡ an_expr t es → members ≡ v ∷ vs →
+    then_do (with_none (assigned c p t v) s) (λ x. with_none (assigned_each c p es vs)) ≡ with_none (assigned_each c p all members) s
+first_assigned p c t es all v vs members s e f = first_by p c es vs (assigned c p t v s) ∙ sym (λ i. with_none (assigned_each c p (e i) (f i)) s)
 
-module _ (p : Place) (env : Env) (es : Exprs) (v : Value) (vs : List Value) (s : State Here) (there : members_in s.store v ≡ Some vs) where
-  spread_by : spread_over p es v env s ≡ (need kind.ValueKind p (length vs == count_exprs es) >>= λ u. assigned_each p es vs env) s
-  spread_by = ap (λ o. then_do (or_fail kind.ValueKind p o s) (λ vs. need kind.ValueKind p (length vs == count_exprs es) >>= λ u. assigned_each p es vs env)) there
+module _ (p : Place) (c : Setting) (es : Exprs) (v : Value) (vs : List Value) (s : State Here) (there : members_in s.store v ≡ Some vs) where
+  spread_by : spread_over c p es v s ≡ (need kind.ValueKind p (length vs == count_exprs es) >>= λ u. assigned_each c p es vs) s
+  spread_by = ap (λ o. then_do (or_fail kind.ValueKind p o s) (λ vs. need kind.ValueKind p (length vs == count_exprs es) >>= λ u. assigned_each c p es vs)) there
 
-  pub spread_on : (length vs == count_exprs es) ≡ true → with_none (assigned_each p es vs env) s ≡ with_none (spread_over p es v env) s
-  spread_on h = sym (ap (λ o. then_do o (λ u. give none_value)) (spread_by ∙ ap (λ b. (need kind.ValueKind p b >>= λ u. assigned_each p es vs env) s) h))
+  pub spread_on : (length vs == count_exprs es) ≡ true → with_none (assigned_each c p es vs) s ≡ with_none (spread_over c p es v) s
+  spread_on h = sym (ap (λ o. then_do o (λ u. give none_value)) (spread_by ∙ ap (λ b. (need kind.ValueKind p b >>= λ u. assigned_each c p es vs) s) h))
 
-  pub spread_refused : (length vs == count_exprs es) ≡ false → bad (fault_at kind.ValueKind p) s ≡ with_none (spread_over p es v env) s
-  spread_refused h = sym (ap (λ o. then_do o (λ u. give none_value)) (spread_by ∙ ap (λ b. (need kind.ValueKind p b >>= λ u. assigned_each p es vs env) s) h))
+  pub spread_refused : (length vs == count_exprs es) ≡ false → bad (fault_at kind.ValueKind p) s ≡ with_none (spread_over c p es v) s
+  spread_refused h = sym (ap (λ o. then_do o (λ u. give none_value)) (spread_by ∙ ap (λ b. (need kind.ValueKind p b >>= λ u. assigned_each c p es vs) s) h))
 
 -- ---- steps
 

@@ -1,4 +1,4 @@
--- A machine that walks an object, with the frame that ends the walk.
+-- A machine whose session has changed, with one more frame.
 use Rattle.std.proofs.Common.{◌≡◌, List, [], ◌∷◌, ◌++◌, reverse, refl, ap, subst, sym, ◌∙◌}
 use Rattle.std.proofs.lemmas.List.{reverse-append}
 use Rattle.star_values.proofs.Growing.{each_joined, owns_kept}
@@ -16,30 +16,30 @@ use Rattle.star_eval.specs.declared.frame.Machine.{Machine}
 use Rattle.star_eval.specs.declared.session.Session.{Session}
 use Rattle.star_eval.specs.Frames.{flow_of}
 use Rattle.star_eval.specs.Meets.{arena_of}
-use Rattle.star_eval.specs.PartsSoFar.{Nodes}
+use Rattle.star_eval.specs.Doing.{Nodes}
 use Rattle.star_eval.specs.Sources.{Walked}
-use Rattle.star_eval.specs.View.{OwnsFlow, OwnsFrame, Sound, arena_in, frames_of, waiting_in}
+use Rattle.star_eval.specs.View.{OwnsFlow, OwnsFrame, Sound, arena_in, frame_of, frames_of, waiting_in}
 use Rattle.star_eval.specs.Waiting.{in_block, walk_end}
 use Rattle.star_eval.proofs.Growing.{Kept, kept, walked_kept}
 
-module _ (m : Machine) (s : Session) (o : Ref) (fs : List Frame) (g : Grows (arena_in m) (arena_of s)) (sound : Sound m) (walked : Walked (arena_in m) o) (more : fs ≡ m.frames ++ frame.Block (in_block_frame.WalkEnd o) ∷ []) where
-  abbrev Walking : Machine
-  Walking = record m { session = s; frames = fs }
+module _ (m : Machine) (s : Session) (f : Frame) (fs : List Frame) (g : Grows (arena_in m) (arena_of s)) (sound : Sound m) (owned : OwnsFrame (arena_of s) f) (more : fs ≡ m.frames ++ f ∷ []) where
+  abbrev pub Pushed : Machine
+  Pushed = record m { session = s; frames = fs }
 
   k : Kept m (record m { session = s })
   k = kept m s g sound
 
-  pub walking_sound : Sound Walking
-  walking_sound = record {
+  pub pushed_sound : Sound Pushed
+  pushed_sound = record {
     scope = k.sound.scope;
     nodes = k.sound.nodes;
-    frames = subst (Each (OwnsFrame (arena_of s))) (sym more) (each_joined (OwnsFrame (arena_of s)) m.frames (frame.Block (in_block_frame.WalkEnd o) ∷ []) k.sound.frames (walked_kept (arena_in m) (arena_of s) o g walked, tt));
+    frames = subst (Each (OwnsFrame (arena_of s))) (sym more) (each_joined (OwnsFrame (arena_of s)) m.frames (f ∷ []) k.sound.frames (owned, tt));
   }
 
-  pub walking_waits : waiting_in Walking ≡ in_block (walk_end o.at) ∷ waiting_in m
-  walking_waits =
-      ap (λ l. frames_of (arena_of s) m.file (reverse l)) more ∙ ap (frames_of (arena_of s) m.file) (reverse-append m.frames (frame.Block (in_block_frame.WalkEnd o) ∷ []))
-      ∙ ap (λ ws. in_block (walk_end o.at) ∷ ws) k.waiting
+  pub pushed_waits : waiting_in Pushed ≡ frame_of (arena_of s) m.code f ∷ waiting_in m
+  pushed_waits =
+      ap (λ l. frames_of (arena_of s) m.code (reverse l)) more ∙ ap (frames_of (arena_of s) m.code) (reverse-append m.frames (f ∷ []))
+      ∙ ap (λ ws. frame_of (arena_of s) m.code f ∷ ws) k.waiting
 
 -- ---- ends of blocks as the arena grows
 

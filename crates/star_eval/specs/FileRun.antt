@@ -4,19 +4,18 @@ use Rattle.ytt_base.specs.declared.fault.Fault.{Fault}
 use Rattle.ytt_base.specs.declared.fault.Stop.{Stop}
 use Rattle.ytt_base.specs.declared.fault.Stop.TheVariants as stop
 use Rattle.ytt_base.specs.View.{trees_of}
-use Rattle.star_spec.specs.Calls.{Host}
-use Rattle.code_spec.specs.Code.{Name}
+use Rattle.star_spec.specs.Calls.{no_natives}
+use Rattle.code_spec.specs.Blocks.{blocks}
 use Rattle.star_spec.specs.Eval.{starlark}
 use Rattle.value_spec.specs.Outcomes.{Ending, done, bad}
 use Rattle.code_spec.specs.Program.{Instruction}
-use Rattle.code_spec.specs.Unbuilt.{unbuilt_code}
 use Rattle.star_eval.specs.Meets.{Here, in_store}
 use Rattle.template_meaning.specs.Calls.{bottom_children}
 use Rattle.template_meaning.specs.Files.{FileResult, Loader}
-use Rattle.template_meaning.specs.Meaning.{RunFile, documents}
+use Rattle.template_meaning.specs.Meaning.{RunFile, documents, loads_in}
 use Rattle.star_eval.specs.declared.file.FlatResult.{FlatResult}
 use Rattle.star_eval.specs.declared.frame.Flow.{Flow}
-use Rattle.star_eval.specs.PartsSoFar.{Nodes}
+use Rattle.star_eval.specs.Doing.{Nodes}
 
 -- What a call returned is how a run ends: the same documents and as many steps left, or the same fault; want of memory
 -- says nothing.
@@ -27,10 +26,10 @@ Shows (Err (stop.Fault f)) (bad e s) = e ≡ f
 Shows (Err (stop.Fault f)) (done x s) = ⊥
 Shows (Err stop.Memory) ending = Unit {0}
 
--- a program that is built whole runs so, whatever its host gives, with so many steps from a state without objects
-abbrev pub RunsAs : List Instruction → (steps : ℕ) → Result FlatResult Stop → Type 0
-RunsAs is n result =
-    (bound : List Name) → unbuilt_code bound is ≡ [] → (host : Host Here) (loader : Loader Here) (files : ℕ → List Instruction) (depth : ℕ) → Shows result (RunFile starlark host loader files depth is (in_store [] n))
+-- a program that loads nothing runs so, with so many steps from a state without objects, where so many calls may stand in one
+-- another
+abbrev pub RunsAs : List Instruction → (steps depth : ℕ) → Result FlatResult Stop → Type 0
+RunsAs is n d result = loads_in (blocks is) ≡ [] → (loader : Loader Here) → Shows result (RunFile starlark no_natives loader (λ file. is) d is (in_store [] n))
 
 -- what a block left: the documents of the nodes that are open then with the steps that are left, or its fault; want of memory
 -- says nothing

@@ -1,11 +1,26 @@
 -- What the machine stands for: what comes of a control in what waits around it.
-use Rattle.std.specs.Prelude.{◌≡◌, Bool, true, not, List, Result, Ok, Err, IfOk}
+use Rattle.std.specs.Prelude.{◌≡◌, ◌-◌, ◌++◌, ◌∷◌, [], length, Bool, true, not, List, Option, Result, Ok, Err, IfOk}
+use Rattle.std.specs.Option.{option_map}
+use Rattle.code_spec.specs.Code.{Name}
+use Rattle.node_build.specs.View.{OwnsNodes, nodes_of}
+use Rattle.node_build.specs.declared.builder.Builder.{Builder}
+use Rattle.star_resolve.specs.Frames.{boxed, with_unset}
+use Rattle.star_resolve.specs.Variables.{each_once}
+use Rattle.star_tree.specs.View.{item_kind_of}
+use Rattle.star_tree.specs.declared.program.ItemKind.{ItemKind}
+use Rattle.star_values.specs.Objects.{env_in}
+use Rattle.star_values.specs.Owns.{Grows, Owns, OwnsEnv}
+use Rattle.star_values.specs.declared.object.NamedBox.{NamedBox}
+use Rattle.star_values.specs.declared.value.Value.{Value}
+use Rattle.template_meaning.specs.Calls.{bottom, bottom_flow, level_of, result_of}
+use Rattle.value_spec.specs.Values.{Env}
 use Rattle.ytt_base.specs.declared.fault.Fault.{Fault}
 use Rattle.value_spec.specs.Members.{is_empty}
 use Rattle.value_spec.specs.Outcomes.{State, Ending, Computation, done, bad}
 use Rattle.value_spec.specs.Values as plain
 use Rattle.star_spec.specs.Flow.{Flow, on, out}
 use Rattle.star_spec.specs.Language.{breaks, continues, returns}
+use Rattle.star_tree.specs.Listed.{clauses_of}
 use Rattle.star_tree.specs.Whole.{expr_of}
 use Rattle.star_blocks.specs.Nested.{ops_of}
 use Rattle.star_values.specs.View.{View, value_of}
@@ -13,20 +28,25 @@ use Rattle.star_eval.specs.declared.frame.Control.{Control}
 use Rattle.star_eval.specs.declared.frame.Control.TheVariants as control
 use Rattle.star_eval.specs.declared.frame.Flow as held
 use Rattle.star_eval.specs.declared.frame.Flow.TheVariants as flow
+use Rattle.star_eval.specs.declared.frame.Frame.TheVariants as frame
 use Rattle.star_eval.specs.declared.frame.Machine.{Machine}
-use Rattle.star_eval.specs.Meets.{Here, state_of}
-use Rattle.star_eval.specs.PartsSoFar.{Nodes, assigned, parts_so_far}
-use Rattle.star_eval.specs.SoFar.{value_so_far}
-use Rattle.star_eval.specs.View.{OwnsControl, Sound, arena_in, env_of, nodes_in, waiting_in}
-use Rattle.star_eval.specs.Waiting.{Final, Waiting, unwind_flow, unwind_value, with_none}
+use Rattle.star_eval.specs.declared.session.Session.{Session}
+use Rattle.star_eval.specs.Meets.{Here, arena_of, state_of}
+use Rattle.star_eval.specs.Doing.{Bag, Nodes, assigned, clauses_done, evaluated, through}
+use Rattle.star_eval.specs.View.{OwnsControl, Sound, arena_in, bag_of, nodes_in, setting_of, waiting_in}
+use Rattle.star_eval.specs.Waiting.{Final, Waiting, unwind_bag, unwind_flow, unwind_value, with_none}
 
--- what comes of an ending of a value in what waits, in the scope of the machine and with its nodes
+-- what comes of an ending of a value in what waits, in the setting of the machine and with its nodes
 abbrev pub around_value : Machine → List Waiting → Ending Here plain.Value → Final
-around_value m ws r = unwind_value (env_of m) (nodes_in m) ws r
+around_value m ws r = unwind_value (setting_of m) (nodes_in m) ws r
 
--- and of an ending of a block
+-- of an ending of a block
 abbrev pub around_flow : Machine → List Waiting → Ending Here (Flow Nodes) → Final
-around_flow m ws r = unwind_flow (env_of m) ws r
+around_flow m ws r = unwind_flow (setting_of m) ws r
+
+-- and of an ending of a comprehension
+abbrev pub around_bag : Machine → List Waiting → Ending Here (Flow Bag) → Final
+around_bag m ws r = unwind_bag (setting_of m) (nodes_in m) ws r
 
 abbrev pub flow_of : View → held.Flow → Nodes → Flow Nodes
 flow_of a flow.On k = on k
@@ -36,13 +56,16 @@ flow_of a (flow.Return v) k = out (returns (value_of a v)) k
 
 -- what comes of a control in what waits
 abbrev pub inside : Machine → List Waiting → Control → Final
-inside m ws (control.Eval e) = around_value m ws (value_so_far (expr_of m.file e.now) (env_of m) (state_of m.session))
+inside m ws (control.Eval e) = around_value m ws (evaluated (setting_of m) (expr_of m.code.file e.now) (state_of m.session))
 inside m ws (control.Gave v) = around_value m ws (done (value_of (arena_in m) v) (state_of m.session))
 inside m ws (control.Failed f) = around_value m ws (bad f (state_of m.session))
-inside m ws (control.Run os) = around_flow m ws (parts_so_far (ops_of m.file os.now) (env_of m) (nodes_in m) (state_of m.session))
+inside m ws (control.Run os) = around_flow m ws (through (setting_of m) (ops_of m.code.file os.now) (nodes_in m) (state_of m.session))
 inside m ws (control.Went w) = around_flow m ws (done (flow_of (arena_in m) w (nodes_in m)) (state_of m.session))
 inside m ws (control.Left f) = around_flow m ws (bad f (state_of m.session))
-inside m ws (control.Assign p x v) = around_value m ws (with_none (assigned p (expr_of m.file x.now) (value_of (arena_in m) v) (env_of m)) (state_of m.session))
+inside m ws (control.Assign p x v) = around_value m ws (with_none (assigned (setting_of m) p (expr_of m.code.file x.now) (value_of (arena_in m) v)) (state_of m.session))
+inside m ws (control.Clauses p cs b) = around_bag m ws (clauses_done (setting_of m) p (clauses_of m.code.file cs.now) (bag_of (arena_in m) m.code.file b) (state_of m.session))
+inside m ws (control.Bagged b) = around_bag m ws (done (on (bag_of (arena_in m) m.code.file b)) (state_of m.session))
+inside m ws (control.Lost f) = around_bag m ws (bad f (state_of m.session))
 
 abbrev pub means : Machine → Control → Final
 means m c = inside m (waiting_in m) c
@@ -53,12 +76,15 @@ pub record Goes (m : Machine) (c : Control) (before : Final) : Type 0 where
   pub sound : Sound m
   pub owned : OwnsControl (arena_in m) c
 
--- a call goes on to what comes of a value's computation, or of a part of a block, in what waited
+-- a call goes on to what comes of a value's computation, of a part of a block, or of a comprehension, in what waited
 abbrev pub GoesToValue : {E : Type 0} → Result Control E → (after before : Machine) → Computation Here plain.Value → Type 0
 GoesToValue r n m f = IfOk r (λ c. Goes n c (around_value m (waiting_in m) (f (state_of m.session))))
 
 abbrev pub GoesToFlow : {E : Type 0} → Result Control E → (after before : Machine) → Computation Here (Flow Nodes) → Type 0
 GoesToFlow r n m f = IfOk r (λ c. Goes n c (around_flow m (waiting_in m) (f (state_of m.session))))
+
+abbrev pub GoesToBag : {E : Type 0} → Result Control E → (after before : Machine) → Computation Here (Flow Bag) → Type 0
+GoesToBag r n m f = IfOk r (λ c. Goes n c (around_bag m (waiting_in m) (f (state_of m.session))))
 
 -- ---- the end
 
@@ -68,9 +94,43 @@ is_active m (control.Gave v) = not (is_empty m.frames)
 is_active m (control.Failed f) = not (is_empty m.frames)
 is_active m (control.Went w) = not (is_empty m.frames)
 is_active m (control.Left f) = not (is_empty m.frames)
+is_active m (control.Bagged b) = not (is_empty m.frames)
+is_active m (control.Lost f) = not (is_empty m.frames)
 is_active m _ = true
 
 -- an end or a fault is how a block ends with these nodes open in this state
 abbrev pub flow_ending_of : View → Result held.Flow Fault → Nodes → State Here → Ending Here (Flow Nodes)
 flow_ending_of a (Ok w) k s = done (flow_of a w k) s
 flow_ending_of a (Err f) k s = bad f s
+
+-- ---- calls
+
+-- A call has begun: its caller waits, and what it builds is empty.
+pub record Opened (fragment : Option ItemKind) (scope : List NamedBox) (before after : Machine) : Type 0 where
+  pub nodes : Builder
+  pub is : after ≡ record before {
+      depth = before.depth - 1;
+      scope = scope;
+      nodes = nodes;
+      frames = before.frames ++ frame.Call (record { depth = before.depth; scope = before.scope; nodes = before.nodes; fragment = fragment }) ∷ [];
+    }
+  pub meaning : (a : View) → nodes_of a nodes ≡ bottom (level_of (option_map item_kind_of fragment)) ∷ []
+  pub owned : (a : View) → OwnsNodes a nodes
+
+-- What a call gives whose block ended so. Nothing that waits has changed.
+pub record ResultGiven (fragment : Option ItemKind) (flow : held.Flow) (before after : Machine) (v : Value) : Type 0 where
+  pub value : value_of (arena_in after) v ≡ result_of (option_map item_kind_of fragment) (bottom_flow (flow_of (arena_in before) flow (nodes_in before)))
+  pub owned : Owns (arena_in after) v
+  pub code : after.code ≡ before.code
+  pub frames : after.frames ≡ before.frames
+  pub state : state_of after.session ≡ state_of before.session
+  pub grows : Grows (arena_in before) (arena_in after)
+
+-- ---- comprehensions
+
+-- Each of these names has got a new box, in front of these variables.
+pub record OpensClauses (names : List Name) (outer : Env) (before after : Session) (scope : List NamedBox) : Type 0 where
+  pub env : env_in (arena_of after).held scope ≡ boxed (length (arena_of before).store) (each_once names) [] ++ outer
+  pub owned : OwnsEnv (arena_of after) scope
+  pub state : state_of after ≡ with_unset (length (each_once names)) (state_of before)
+  pub grows : Grows (arena_of before) (arena_of after)

@@ -1,10 +1,10 @@
+pub mod Calling
+pub mod Doing
 pub mod FileRun
 pub mod Frames
 pub mod Meets
-pub mod PartsSoFar
 pub mod Scope
 pub mod Settled
-pub mod SoFar
 pub mod Sources
 pub mod View
 pub mod Waiting

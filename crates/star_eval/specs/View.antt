@@ -1,13 +1,24 @@
 -- The plain data that frames stand for, and what is owned in them.
-use Rattle.std.specs.Prelude.{ℕ, List, reverse, map as each}
-use Rattle.star_values.specs.Owns.{Each, Owns, OwnsAll, OwnsEnv, OwnsPair}
-use Rattle.star_values.specs.View.{View, value_of, values_of}
+use Rattle.std.specs.Prelude.{ℕ, List, Option, Some, None, codes, reverse, map as each}
+use Rattle.std.specs.Borrow.{Bor}
+use Rattle.std.specs.Option.{option_map}
+use Rattle.star_values.specs.Owns.{Each, Owns, OwnsAll, OwnsArguments, OwnsEnv, OwnsPair}
+use Rattle.star_values.specs.View.{View, arguments_in, value_of, values_of}
 use Rattle.value_spec.specs.Values.{Env}
 use Rattle.star_values.specs.Objects.{env_in, pairs_in}
 use Rattle.star_blocks.specs.Nested.{arms_of, ops_of}
-use Rattle.star_tree.specs.Listed.{entries_of, optional_of}
-use Rattle.star_tree.specs.Whole.{binary_operator_of, expr_of, exprs_of, unary_operator_of}
+use Rattle.star_calls.specs.View.{form_of}
+use Rattle.star_tree.specs.Listed.{clauses_of, entries_of, optional_of}
+use Rattle.star_tree.specs.View.{item_kind_of}
+use Rattle.star_tree.specs.Whole.{binary_operator_of, expr_of, exprs_of, parameters_of, unary_operator_of}
+use Rattle.code_spec.specs.Code as code
 use Rattle.node_build.specs.View.{nodes_of, OwnsNodes}
+use Rattle.star_tree.specs.declared.code.Expr as held_expr
+use Rattle.star_tree.specs.declared.code.Param.{Param}
+use Rattle.star_eval.specs.declared.frame.Bag as held_bag
+use Rattle.star_eval.specs.declared.frame.Bag.TheVariants as bag
+use Rattle.star_eval.specs.declared.frame.Caller.{Caller}
+use Rattle.star_eval.specs.declared.frame.Code.{Code}
 use Rattle.star_eval.specs.declared.frame.Control.{Control}
 use Rattle.star_eval.specs.declared.frame.Control.TheVariants as control
 use Rattle.star_eval.specs.declared.frame.Flow as held
@@ -18,6 +29,10 @@ use Rattle.star_eval.specs.declared.frame.Gathering as held_gathering
 use Rattle.star_eval.specs.declared.frame.Gathering.TheVariants as gathering
 use Rattle.star_eval.specs.declared.frame.InBlock as held_block
 use Rattle.star_eval.specs.declared.frame.InBlock.TheVariants as in_block
+use Rattle.star_eval.specs.declared.frame.InClauses as held_clauses
+use Rattle.star_eval.specs.declared.frame.InClauses.TheVariants as in_clauses
+use Rattle.star_eval.specs.declared.frame.InElement as held_element
+use Rattle.star_eval.specs.declared.frame.InElement.TheVariants as in_element
 use Rattle.star_eval.specs.declared.frame.InIndex as held_index
 use Rattle.star_eval.specs.declared.frame.InIndex.TheVariants as in_index
 use Rattle.star_eval.specs.declared.frame.InStatement as held_statement
@@ -25,10 +40,32 @@ use Rattle.star_eval.specs.declared.frame.InStatement.TheVariants as in_statemen
 use Rattle.star_eval.specs.declared.frame.InValue as held_value
 use Rattle.star_eval.specs.declared.frame.InValue.TheVariants as in_value
 use Rattle.star_eval.specs.declared.frame.Machine.{Machine}
+use Rattle.star_eval.specs.declared.frame.Making as held_making
 use Rattle.star_eval.specs.Meets.{arena_of}
-use Rattle.star_eval.specs.PartsSoFar.{Nodes}
+use Rattle.star_eval.specs.Calling.{calls_at}
+use Rattle.star_eval.specs.Doing as doing
+use Rattle.star_eval.specs.Doing.{Nodes, Setting}
 use Rattle.star_eval.specs.Sources.{OwnsSource, Walked, left_of}
 use Rattle.star_eval.specs.Waiting as plain
+
+-- ---- parts of frames
+
+-- an expression, with the parameters behind it
+abbrev pub default_of : (file : ℕ) → Option (Bor held_expr.Expr × Bor (List Param)) → Option (code.Expr × code.Parameters)
+default_of file None = None
+default_of file (Some found) = Some (expr_of file found.0.now, parameters_of file found.1.now)
+
+-- a lambda shows its form as its name
+abbrev pub name_of : Option (Bor (List ℕ)) → List ℕ
+name_of None = codes "lambda"
+name_of (Some x) = x.now
+
+abbrev pub making_of : held_making.Making → doing.Making
+making_of k = record { place = k.place; name = name_of k.name; number = k.number }
+
+abbrev pub bag_of : View → (file : ℕ) → held_bag.Bag → doing.Bag
+bag_of a file (bag.Values e vs) = doing.values_bag (expr_of file e.now) (values_of a vs)
+bag_of a file (bag.Pairs e d ps) = doing.pairs_bag (expr_of file e.now) (expr_of file d.now) (pairs_in a.held ps.entries)
 
 -- ---- frames
 
@@ -58,6 +95,11 @@ value_frame a file (in_value.Targets p es s) = plain.targets p (exprs_of file es
 value_frame a file (in_value.KeyOf p b es ps) = plain.key_of p (expr_of file b.now) (entries_of file es.now) (pairs_in a.held ps.entries)
 value_frame a file (in_value.PairOf p k es ps) = plain.pair_of p (value_of a k) (entries_of file es.now) (pairs_in a.held ps.entries)
 value_frame a file (in_value.Index f) = index_frame a file f
+value_frame a file (in_value.Callee p es) = plain.callee p (exprs_of file es.now)
+value_frame a file (in_value.Argument p g f es given) = plain.argument p (value_of a g) (form_of f) (exprs_of file es.now) (arguments_in a.held given)
+value_frame a file (in_value.Default k ps vs) = plain.default_of (making_of k) (parameters_of file ps.now) (values_of a vs)
+value_frame a file (in_value.First p cs b) = plain.first_members p (clauses_of file cs.now) (bag_of a file b)
+value_frame a file (in_value.Unbuilt p) = plain.unbuilt p
 
 abbrev pub statement_frame : View → (file : ℕ) → held_statement.InStatement → plain.InStatement
 statement_frame a file in_statement.Discard = plain.discard
@@ -71,19 +113,40 @@ statement_frame a file (in_statement.Branch os bs) = plain.branch (ops_of file o
 statement_frame a file (in_statement.Walk p x os) = plain.walk_over p (expr_of file x.now) (ops_of file os.now)
 statement_frame a file (in_statement.Enter os) = plain.enter (ops_of file os.now)
 statement_frame a file in_statement.Take = plain.take_it
+statement_frame a file (in_statement.Bind p x) = plain.bind_to p x.now
+statement_frame a file (in_statement.NoteArgument x f es given) = plain.note_argument x.now (form_of f) (exprs_of file es.now) (arguments_in a.held given)
 
 abbrev pub block_frame : View → (file : ℕ) → held_block.InBlock → plain.InBlock
 block_frame a file (in_block.Turn p x os s) = plain.turn p (expr_of file x.now) (ops_of file os.now) (left_of a s)
 block_frame a file (in_block.Rest os) = plain.rest (ops_of file os.now)
 block_frame a file (in_block.WalkEnd r) = plain.walk_end r.at
 
-abbrev pub frame_of : View → (file : ℕ) → Frame → plain.Waiting
-frame_of a file (frame.Value f) = plain.in_value (value_frame a file f)
-frame_of a file (frame.Statement f) = plain.in_statement (statement_frame a file f)
-frame_of a file (frame.Block f) = plain.in_block (block_frame a file f)
+abbrev pub element_frame : View → (file : ℕ) → held_element.InElement → plain.InElement
+element_frame a file (in_element.Members p x cs b) = plain.members_of_clause p (expr_of file x.now) (clauses_of file cs.now) (bag_of a file b)
+element_frame a file (in_element.Test p cs b) = plain.test_of_clause p (clauses_of file cs.now) (bag_of a file b)
+element_frame a file (in_element.Enter p cs b) = plain.enter_clauses p (clauses_of file cs.now) (bag_of a file b)
+element_frame a file (in_element.Single e vs) = plain.element (expr_of file e.now) (values_of a vs)
+element_frame a file (in_element.KeyOf p e d ps) = plain.element_key p (expr_of file e.now) (expr_of file d.now) (pairs_in a.held ps.entries)
+element_frame a file (in_element.PairOf p k e d ps) = plain.element_pair p (value_of a k) (expr_of file e.now) (expr_of file d.now) (pairs_in a.held ps.entries)
 
-abbrev pub frames_of : View → (file : ℕ) → List Frame → List plain.Waiting
-frames_of a file fs = each (frame_of a file) fs
+abbrev pub clauses_frame : View → (file : ℕ) → held_clauses.InClauses → plain.InClauses
+clauses_frame a file (in_clauses.Turn p x cs s) = plain.clause_turn p (expr_of file x.now) (clauses_of file cs.now) (left_of a s)
+clauses_frame a file (in_clauses.WalkEnd r) = plain.clause_walk_end r.at
+
+abbrev pub caller_of : View → Code → Caller → plain.Waiting
+caller_of a code c = plain.caller (calls_at code.file code.functions c.depth) (env_in a.held c.scope) (nodes_of a c.nodes) (option_map item_kind_of c.fragment)
+
+abbrev pub frame_of : View → Code → Frame → plain.Waiting
+frame_of a code (frame.Value f) = plain.in_value (value_frame a code.file f)
+frame_of a code (frame.Statement f) = plain.in_statement (statement_frame a code.file f)
+frame_of a code (frame.Block f) = plain.in_block (block_frame a code.file f)
+frame_of a code (frame.Element f) = plain.in_element (element_frame a code.file f)
+frame_of a code (frame.Clauses f) = plain.in_clauses (clauses_frame a code.file f)
+frame_of a code (frame.Gather scope) = plain.gather (env_in a.held scope)
+frame_of a code (frame.Call c) = caller_of a code c
+
+abbrev pub frames_of : View → Code → List Frame → List plain.Waiting
+frames_of a code fs = each (frame_of a code) fs
 
 -- ---- a machine
 
@@ -93,14 +156,21 @@ arena_in m = arena_of m.session
 abbrev pub env_of : Machine → Env
 env_of m = env_in (arena_in m).held m.scope
 
+abbrev pub setting_of : Machine → Setting
+setting_of m = record { call = calls_at m.code.file m.code.functions m.depth; env = env_of m }
+
 abbrev pub nodes_in : Machine → Nodes
 nodes_in m = nodes_of (arena_in m) m.nodes
 
 -- what waits, the innermost first
 abbrev pub waiting_in : Machine → List plain.Waiting
-waiting_in m = frames_of (arena_in m) m.file (reverse m.frames)
+waiting_in m = frames_of (arena_in m) m.code (reverse m.frames)
 
 -- ---- what is owned
+
+abbrev pub OwnsBag : View → held_bag.Bag → Type 0
+OwnsBag a (bag.Values e vs) = OwnsAll a vs
+OwnsBag a (bag.Pairs e d ps) = Each (OwnsPair a) ps.entries
 
 abbrev pub OwnsInIndex : View → held_index.InIndex → Type 0
 OwnsInIndex a (in_index.IndexAt p x) = Owns a x
@@ -118,12 +188,16 @@ OwnsInValue a (in_value.Targets p es s) = OwnsSource a s
 OwnsInValue a (in_value.KeyOf p b es ps) = Each (OwnsPair a) ps.entries
 OwnsInValue a (in_value.PairOf p k es ps) = Owns a k × Each (OwnsPair a) ps.entries
 OwnsInValue a (in_value.Index f) = OwnsInIndex a f
+OwnsInValue a (in_value.Argument p g f es given) = Owns a g × OwnsArguments a given
+OwnsInValue a (in_value.Default k ps vs) = OwnsAll a vs
+OwnsInValue a (in_value.First p cs b) = OwnsBag a b
 OwnsInValue a _ = Unit {0}
 
 abbrev pub OwnsInStatement : View → held_statement.InStatement → Type 0
 OwnsInStatement a (in_statement.Augment q o p x old) = Owns a old
 OwnsInStatement a (in_statement.AugmentAt q o r x e) = Owns a x
 OwnsInStatement a (in_statement.AugmentIndex q o r x y old) = Owns a x × Owns a y × Owns a old
+OwnsInStatement a (in_statement.NoteArgument x f es given) = OwnsArguments a given
 OwnsInStatement a _ = Unit {0}
 
 -- a list or a dict that is walked
@@ -132,10 +206,29 @@ OwnsInBlock a (in_block.Turn p x os s) = OwnsSource a s
 OwnsInBlock a (in_block.Rest os) = Unit {0}
 OwnsInBlock a (in_block.WalkEnd r) = Walked a r
 
+abbrev pub OwnsInElement : View → held_element.InElement → Type 0
+OwnsInElement a (in_element.Members p x cs b) = OwnsBag a b
+OwnsInElement a (in_element.Test p cs b) = OwnsBag a b
+OwnsInElement a (in_element.Enter p cs b) = OwnsBag a b
+OwnsInElement a (in_element.Single e vs) = OwnsAll a vs
+OwnsInElement a (in_element.KeyOf p e d ps) = Each (OwnsPair a) ps.entries
+OwnsInElement a (in_element.PairOf p k e d ps) = Owns a k × Each (OwnsPair a) ps.entries
+
+abbrev pub OwnsInClauses : View → held_clauses.InClauses → Type 0
+OwnsInClauses a (in_clauses.Turn p x cs s) = OwnsSource a s
+OwnsInClauses a (in_clauses.WalkEnd r) = Walked a r
+
+abbrev pub OwnsCaller : View → Caller → Type 0
+OwnsCaller a c = OwnsEnv a c.scope × OwnsNodes a c.nodes
+
 abbrev pub OwnsFrame : View → Frame → Type 0
 OwnsFrame a (frame.Value f) = OwnsInValue a f
 OwnsFrame a (frame.Statement f) = OwnsInStatement a f
 OwnsFrame a (frame.Block f) = OwnsInBlock a f
+OwnsFrame a (frame.Element f) = OwnsInElement a f
+OwnsFrame a (frame.Clauses f) = OwnsInClauses a f
+OwnsFrame a (frame.Gather scope) = OwnsEnv a scope
+OwnsFrame a (frame.Call c) = OwnsCaller a c
 
 abbrev pub OwnsFlow : View → held.Flow → Type 0
 OwnsFlow a (flow.Return v) = Owns a v
@@ -145,6 +238,8 @@ abbrev pub OwnsControl : View → Control → Type 0
 OwnsControl a (control.Gave v) = Owns a v
 OwnsControl a (control.Went w) = OwnsFlow a w
 OwnsControl a (control.Assign p x v) = Owns a v
+OwnsControl a (control.Clauses p cs b) = OwnsBag a b
+OwnsControl a (control.Bagged b) = OwnsBag a b
 OwnsControl a _ = Unit {0}
 
 -- all that the machine holds is owned by its arena

@@ -8,9 +8,9 @@ ghost use Rattle.star_values.specs.Owns.{Owns};
 ghost use Rattle.star_values.specs.View.{value_of};
 ghost use Rattle.value_spec.specs.Outcomes.{then_do};
 ghost use Rattle.star_eval.specs.Frames.{GoesToFlow, GoesToValue};
-ghost use Rattle.star_eval.specs.PartsSoFar.{assigned, assigned_each, augmented_in, changed_at, concluded, spread_over};
+ghost use Rattle.star_eval.specs.Doing.{assigned, assigned_each, augmented_in, changed_at, concluded, spread_over};
 ghost use Rattle.star_eval.specs.Sources.{OwnsSource, left_of};
-ghost use Rattle.star_eval.specs.View.{Sound, arena_in, env_of, nodes_in};
+ghost use Rattle.star_eval.specs.View.{Sound, arena_in, env_of, nodes_in, setting_of};
 ghost use Rattle.star_eval.specs.Waiting.{with_none};
 
 use crate::frame::{Control, Frame, InIndex, InStatement, InValue, Machine};
@@ -34,12 +34,12 @@ pub(crate) fn assign<'p>(
 ) -> Result<Control<'p>, Memory>
     requires sound { Sound m.old }
     requires value { Owns (arena_in m.old) value }
-    ensures { GoesToValue result m.new m.old (with_none (assigned place (expr_of m.old.file target.now) (value_of (arena_in m.old) value) (env_of m.old))) }
+    ensures { GoesToValue result m.new m.old (with_none (assigned (setting_of m.old) place (expr_of m.old.code.file target.now) (value_of (arena_in m.old) value))) }
 {
     match target {
         Expr::Name(line, name) => {
             let at = Place {
-                file: m.file,
+                file: m.code.file,
                 line: *line,
             };
             settle_none(write(&mut m.session, m.scope.as_slice(), at, name, value))
@@ -48,7 +48,7 @@ pub(crate) fn assign<'p>(
         Expr::Tuple(_, targets) => spread(m, place, targets.as_slice(), value),
         Expr::Index(line, a, index) => {
             let at = Place {
-                file: m.file,
+                file: m.code.file,
                 line: *line,
             };
             within_index(m, InIndex::TargetOf(at, index.get(), value), a.get())
@@ -83,7 +83,7 @@ fn spread<'p>(
 ) -> Result<Control<'p>, Memory>
     requires sound { Sound m.old }
     requires value { Owns (arena_in m.old) value }
-    ensures { GoesToValue result m.new m.old (with_none (spread_over place (exprs_of m.old.file targets.now) (value_of (arena_in m.old) value) (env_of m.old))) }
+    ensures { GoesToValue result m.new m.old (with_none (spread_over (setting_of m.old) place (exprs_of m.old.code.file targets.now) (value_of (arena_in m.old) value))) }
 {
     let members = match members_of(&m.session.arena, value)? {
         None => return Ok(failed(m, FaultKind::ValueKind, place)),
@@ -104,7 +104,7 @@ pub(crate) fn next_target<'p>(
 ) -> Result<Control<'p>, Memory>
     requires sound { Sound m.old }
     requires source { OwnsSource (arena_in m.old) source }
-    ensures { GoesToValue result m.new m.old (with_none (assigned_each place (exprs_of m.old.file targets.now) (left_of (arena_in m.old) source) (env_of m.old))) }
+    ensures { GoesToValue result m.new m.old (with_none (assigned_each (setting_of m.old) place (exprs_of m.old.code.file targets.now) (left_of (arena_in m.old) source))) }
 {
     let (target, rest) = match targets.split_first() {
         None => return Ok(Control::Gave(Value::None)),
@@ -149,7 +149,7 @@ pub(crate) fn augmented<'p>(
 }
 
 /// A name, at a place, gets a value, and the statement ends.
-fn name_gets<'p>(
+pub(crate) fn name_gets<'p>(
     m: &mut Machine<'p>,
     place: Place,
     name: &Text,
@@ -175,7 +175,7 @@ pub(crate) fn augment_at<'p>(
     requires sound { Sound m.old }
     requires indexed { Owns (arena_in m.old) indexed }
     requires index { Owns (arena_in m.old) index }
-    ensures { GoesToFlow result m.new m.old (λ s. then_do (index_row at (value_of (arena_in m.old) indexed) (value_of (arena_in m.old) index) s) (λ old. augmented_in place (binary_operator_of op) at (value_of (arena_in m.old) indexed) (value_of (arena_in m.old) index) (expr_of m.old.file expr.now) (env_of m.old) old (nodes_in m.old))) }
+    ensures { GoesToFlow result m.new m.old (λ s. then_do (index_row at (value_of (arena_in m.old) indexed) (value_of (arena_in m.old) index) s) (λ old. augmented_in (setting_of m.old) place (binary_operator_of op) at (value_of (arena_in m.old) indexed) (value_of (arena_in m.old) index) (expr_of m.old.code.file expr.now) old (nodes_in m.old))) }
 {
     let session = &mut m.session;
     match star_ops::index(&mut session.arena, &mut session.work, indexed, index, at) {

@@ -7,8 +7,8 @@ ghost use Rattle.star_values.specs.Owns.{Each, Owns, OwnsPair};
 ghost use Rattle.star_values.specs.View.{value_of};
 ghost use Rattle.value_spec.specs.Outcomes.{then_do};
 ghost use Rattle.star_eval.specs.Frames.{GoesToValue};
-ghost use Rattle.star_eval.specs.SoFar.{dict_so_far, with_entry};
-ghost use Rattle.star_eval.specs.View.{Sound, arena_in, env_of};
+ghost use Rattle.star_eval.specs.Doing.{entries_done, with_entry};
+ghost use Rattle.star_eval.specs.View.{Sound, arena_in, setting_of};
 
 use crate::frame::{Control, Frame, InValue, Machine};
 use crate::machine::{failed, push, settle};
@@ -28,7 +28,7 @@ pub(crate) fn entries<'p>(
 ) -> Result<Control<'p>, Memory>
     requires sound { Sound m.old }
     requires pairs { Each (OwnsPair (arena_in m.old)) pairs.entries }
-    ensures { GoesToValue result m.new m.old (dict_so_far place (entries_of m.old.file entries.now) (env_of m.old) (pairs_in (arena_in m.old).held pairs.entries)) }
+    ensures { GoesToValue result m.new m.old (entries_done (setting_of m.old) place (entries_of m.old.code.file entries.now) (pairs_in (arena_in m.old).held pairs.entries)) }
 {
     match entries.split_first() {
         None => settle(make_dict(&mut m.session, pairs)),
@@ -46,7 +46,7 @@ fn first_entry<'p>(
 ) -> Result<Control<'p>, Memory>
     requires sound { Sound m.old }
     requires pairs { Each (OwnsPair (arena_in m.old)) pairs.entries }
-    ensures { GoesToValue result m.new m.old (dict_so_far place (with_entry (entry_of m.old.file entry.now) (entries_of m.old.file rest.now)) (env_of m.old) (pairs_in (arena_in m.old).held pairs.entries)) }
+    ensures { GoesToValue result m.new m.old (entries_done (setting_of m.old) place (with_entry (entry_of m.old.code.file entry.now) (entries_of m.old.code.file rest.now)) (pairs_in (arena_in m.old).held pairs.entries)) }
 {
     match entry {
         Entry::Pair(key, value) => {
@@ -70,7 +70,7 @@ pub(crate) fn pair<'p>(
     requires key { Owns (arena_in m.old) key }
     requires value { Owns (arena_in m.old) value }
     requires pairs { Each (OwnsPair (arena_in m.old)) pairs.entries }
-    ensures { GoesToValue result m.new m.old (λ s. then_do (display_pair place (pairs_in (arena_in m.old).held pairs.entries) (value_of (arena_in m.old) key) (value_of (arena_in m.old) value) s) (λ more. dict_so_far place (entries_of m.old.file rest.now) (env_of m.old) more)) }
+    ensures { GoesToValue result m.new m.old (λ s. then_do (display_pair place (pairs_in (arena_in m.old).held pairs.entries) (value_of (arena_in m.old) key) (value_of (arena_in m.old) value) s) (λ more. entries_done (setting_of m.old) place (entries_of m.old.code.file rest.now) more)) }
 {
     if let Some(kind) = key_offence(&m.session.arena, key) {
         return Ok(failed(m, kind, place));

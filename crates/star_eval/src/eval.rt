@@ -1,20 +1,23 @@
 // Expressions.
-ghost use Rattle.std.specs.Prelude.{◌≡◌, ◌++◌, IfOk};
+ghost use Rattle.std.specs.Prelude.{◌≡◌, ◌++◌, [], codes, IfOk, option_map, ℕ};
 ghost use Rattle.operator_spec.specs.Operators.{binary_row, unary_row};
 ghost use Rattle.star_spec.specs.Names.{box_of, read_name};
-ghost use Rattle.star_tree.specs.Whole.{binary_operator_of, expr_of, exprs_of, unary_operator_of};
+ghost use Rattle.star_tree.specs.Listed.{clauses_of, pieces_of};
+ghost use Rattle.star_tree.specs.Whole.{binary_operator_of, expr_of, exprs_of, parameters_of, unary_operator_of};
 ghost use Rattle.star_values.specs.Owns.{Owns, OwnsAll};
 ghost use Rattle.star_values.specs.View.{value_of, values_of};
 ghost use Rattle.value_spec.specs.Outcomes.{give, then_do};
 ghost use Rattle.value_spec.specs.Values.{text_value};
 ghost use Rattle.star_eval.specs.declared.frame.Control.TheVariants as control;
 ghost use Rattle.star_eval.specs.Frames.{Goes, GoesToValue, means};
-ghost use Rattle.star_eval.specs.SoFar.{acted, place_in, values_so_far};
-ghost use Rattle.star_eval.specs.View.{Sound, arena_in, env_of, gathering_of};
+ghost use Rattle.star_eval.specs.Doing.{acted, all_evaluated, comprehended, first_shown, making, pairs_bag, pieces_done, place_in, values_bag, written_text};
+ghost use Rattle.star_eval.specs.View.{Sound, arena_in, env_of, gathering_of, setting_of};
 ghost use Rattle.star_eval.specs.Waiting.{gathered};
 
+use crate::comprehensions::comprehension;
 use crate::dicts::entries;
-use crate::frame::{Control, Frame, Gathering, InIndex, InValue, Machine};
+use crate::frame::{Bag, Control, Frame, Gathering, InIndex, InValue, Machine, Making};
+use crate::functions::make_function;
 use crate::indexes::within_index;
 use crate::machine::{failed, ill_formed, push, settle};
 use crate::names::read;
@@ -22,7 +25,8 @@ use crate::session::{make_list, make_text, make_tuple};
 use indexmap::IndexMap;
 use object_arena::{Value, Values};
 use sqlite_items::Items;
-use star_tree::code::{BinOp, Expr, UnOp};
+use star_tree::code::{BinOp, Clause, Expr, Param, Piece, UnOp};
+use std::alloc::Global;
 use ytt_base::fault::{FaultKind, Place};
 use ytt_base::text::{Memory, Text};
 
@@ -60,7 +64,7 @@ pub(crate) fn eval<'p>(m: &mut Machine<'p>, expr: &'p Expr) -> Result<Control<'p
     requires { Sound m.old }
     ensures { IfOk result (λ c. Goes m.new c (means m.old (control.Eval expr.entry))) }
 {
-    match place_of(m.file, expr) {
+    match place_of(m.code.file, expr) {
         None => Ok(ill_formed(m)),
         Some(place) => {
             if m.session.work.steps == 0 {
@@ -75,7 +79,7 @@ pub(crate) fn eval<'p>(m: &mut Machine<'p>, expr: &'p Expr) -> Result<Control<'p
 /// What an expression does after its step at this place.
 fn act<'p>(m: &mut Machine<'p>, place: Place, expr: &'p Expr) -> Result<Control<'p>, Memory>
     requires { Sound m.old }
-    ensures { GoesToValue result m.new m.old (acted place (expr_of m.old.file expr.now) (env_of m.old)) }
+    ensures { GoesToValue result m.new m.old (acted (setting_of m.old) place (expr_of m.old.code.file expr.now)) }
 {
     match expr {
         Expr::Int(_, n) => Ok(Control::Gave(Value::Int(*n))),
@@ -111,15 +115,120 @@ fn act<'p>(m: &mut Machine<'p>, place: Place, expr: &'p Expr) -> Result<Control<
             let frame = Frame::Value(InValue::Choose(a.get(), b.get()));
             push(m, frame, Control::Eval(test.get()))
         }
-        Expr::Call(_, _, _)
-        | Expr::Named(_, _, _)
-        | Expr::Star(_, _)
-        | Expr::Stars(_, _)
-        | Expr::Dot(_, _, _)
-        | Expr::Lambda(_, _, _, _)
-        | Expr::ListFor(_, _, _)
-        | Expr::DictFor(_, _, _, _)
-        | Expr::Template(_, _) => Ok(failed(m, FaultKind::NotBuilt, place)),
+        Expr::Call(_, function, args) => {
+            let frame = Frame::Value(InValue::Callee(place, args.as_slice()));
+            push(m, frame, Control::Eval(function.get()))
+        }
+        Expr::Dot(_, a, _) => {
+            let frame = Frame::Value(InValue::Unbuilt(place));
+            push(m, frame, Control::Eval(a.get()))
+        }
+        Expr::Lambda(_, number, params, _) => lambda(m, place, *number, params.as_slice()),
+        Expr::ListFor(_, expr, clauses) => list_for(m, place, expr.get(), clauses),
+        Expr::DictFor(_, key, value, clauses) => {
+            dict_for(m, place, key.get(), value.get(), clauses)
+        }
+        Expr::Template(_, pieces) => template(m, place, pieces.as_slice()),
+        Expr::Named(_, _, _) | Expr::Star(_, _) | Expr::Stars(_, _) => Ok(ill_formed(m)),
+    }
+}
+
+/// A lambda with a number, in the scope here.
+fn lambda<'p>(
+    m: &mut Machine<'p>,
+    place: Place,
+    number: usize,
+    params: &'p [Param],
+) -> Result<Control<'p>, Memory>
+    requires { Sound m.old }
+    ensures { GoesToValue result m.new m.old (making (setting_of m.old) (record { place = place; name = codes "lambda"; number = number }) (parameters_of m.old.code.file params.now) []) }
+{
+    let making = Making {
+        place,
+        name: None,
+        number,
+    };
+    let none = Items::new(m.session.arena.alloc());
+    make_function(m, making, params, none)
+}
+
+/// A list of the values of an expression, for the members of clauses.
+fn list_for<'p>(
+    m: &mut Machine<'p>,
+    place: Place,
+    expr: &'p Expr,
+    clauses: &'p Items<Clause>,
+) -> Result<Control<'p>, Memory>
+    requires { Sound m.old }
+    ensures { GoesToValue result m.new m.old (comprehended (setting_of m.old) place (clauses_of m.old.code.file clauses.now) (values_bag (expr_of m.old.code.file expr.now) [])) }
+{
+    let none = Items::new(m.session.arena.alloc());
+    comprehension(m, place, clauses, Bag::Values(expr, none))
+}
+
+/// A dict of the pairs of two expressions, for the members of clauses.
+fn dict_for<'p>(
+    m: &mut Machine<'p>,
+    place: Place,
+    key: &'p Expr,
+    value: &'p Expr,
+    clauses: &'p Items<Clause>,
+) -> Result<Control<'p>, Memory>
+    requires { Sound m.old }
+    ensures { GoesToValue result m.new m.old (comprehended (setting_of m.old) place (clauses_of m.old.code.file clauses.now) (pairs_bag (expr_of m.old.code.file key.now) (expr_of m.old.code.file value.now) [])) }
+{
+    let none = IndexMap::new(m.session.arena.alloc());
+    comprehension(m, place, clauses, Bag::Pairs(key, value, none))
+}
+
+/// The first piece that is an expression.
+fn first_shown<'p>(pieces: &'p [Piece]) -> Option<&'p Expr>
+    ensures { (file : ℕ) → option_map (λ e. expr_of file e.now) result ≡ first_shown (pieces_of file pieces.now) }
+{
+    let mut rest = pieces;
+    while let Some((piece, more)) = rest.split_first() {
+        match piece {
+            Piece::Shown(expr) => return Some(expr.get()),
+            Piece::Written(_) => rest = more,
+        }
+    }
+    None
+}
+
+/// The texts of pieces that are written.
+fn written_text(alloc: Global, pieces: &[Piece]) -> Result<Text, Memory>
+    ensures { (file : ℕ) → IfOk result (λ text. text ≡ written_text (pieces_of file pieces.now)) }
+{
+    let mut text = String::new(alloc);
+    let mut rest = pieces;
+    while let Some((piece, more)) = rest.split_first() {
+        match piece {
+            Piece::Written(written) => text.push_str(written.as_str())?,
+            Piece::Shown(_) => {}
+        }
+        rest = more;
+    }
+    Ok(Text::of_string(text))
+}
+
+/// A text with expressions in it, whose texts aren't built yet.
+fn template<'p>(
+    m: &mut Machine<'p>,
+    place: Place,
+    pieces: &'p [Piece],
+) -> Result<Control<'p>, Memory>
+    requires { Sound m.old }
+    ensures { GoesToValue result m.new m.old (pieces_done (setting_of m.old) place (pieces_of m.old.code.file pieces.now)) }
+{
+    match first_shown(pieces) {
+        Some(expr) => {
+            let frame = Frame::Value(InValue::Unbuilt(place));
+            push(m, frame, Control::Eval(expr))
+        }
+        None => {
+            let text = written_text(m.session.arena.alloc(), pieces)?;
+            literal(m, &text)
+        }
     }
 }
 
@@ -145,7 +254,7 @@ fn row<'p>(
     members: &'p [Expr],
 ) -> Result<Control<'p>, Memory>
     requires { Sound m.old }
-    ensures { GoesToValue result m.new m.old (λ s. then_do (values_so_far (exprs_of m.old.file members.now) (env_of m.old) s) (gathered (gathering_of gathering))) }
+    ensures { GoesToValue result m.new m.old (λ s. then_do (all_evaluated (setting_of m.old) (exprs_of m.old.code.file members.now) s) (gathered (gathering_of gathering))) }
 {
     let before = Items::new(m.session.arena.alloc());
     gather(m, gathering, members, before)
@@ -160,7 +269,7 @@ pub(crate) fn gather<'p>(
 ) -> Result<Control<'p>, Memory>
     requires sound { Sound m.old }
     requires values { OwnsAll (arena_in m.old) values }
-    ensures { GoesToValue result m.new m.old (λ s. then_do (values_so_far (exprs_of m.old.file members.now) (env_of m.old) s) (λ ws. gathered (gathering_of gathering) (values_of (arena_in m.old) values ++ ws))) }
+    ensures { GoesToValue result m.new m.old (λ s. then_do (all_evaluated (setting_of m.old) (exprs_of m.old.code.file members.now) s) (λ ws. gathered (gathering_of gathering) (values_of (arena_in m.old) values ++ ws))) }
 {
     match members.split_first() {
         Some((member, rest)) => {

@@ -10,12 +10,14 @@ ghost use Rattle.star_resolve.specs.Variables.{each_once};
 ghost use Rattle.star_eval.specs.FileRun.{LeftBy, RunsAs};
 ghost use Rattle.star_eval.specs.Meets.{arena_of};
 
+use crate::frame::Code;
 use crate::looped::{Finished, run_block};
-use crate::scope::open_scope;
+use star_calls::open_scope;
 use crate::session::Session;
 use node_build::Builder;
 use object_arena::{Arena, Work};
 use star_blocks::nest;
+use star_functions::functions_of;
 use star_resolve::Resolved;
 use std::alloc::Global;
 use ytt_base::fault::{Fault, FaultKind, Stop};
@@ -58,16 +60,21 @@ fn left(alloc: Global, finished: Finished) -> Result<FlatResult, Stop>
     }
 }
 
-/// Runs a program with so many steps, where it is built whole and its scope has the names of its file, as `compile` of
-/// `template_program` gives it. The result is what the program means, whatever its host gives: the same documents
-/// and the same steps left, or the fault that it ends with, at its place.
+/// Runs a program with so many steps, where so many calls of its functions may stand in one another, it loads nothing, and its
+/// scope has the names of its file, as `compile` of `template_program` gives it. The result is what the program means: the same
+/// documents and the same steps left, or the fault that it ends with, at its place.
 ///
 /// A pair whose key stands already is `KeyTwice` with the key, a name that has no value yet `NameUnset` with the
 /// name, a value that an operator, a loop or a target isn't for `ValueKind`, an integer outside 128 bits
-/// `IntOverflow`, a division by zero `DivideZero`, tuples that nest too deep `TooDeep`, and an act for which no step
-/// is left `Steps`. A program whose blocks aren't closed as they should be is `CodeForm` at no place.
-pub fn run_flat(alloc: Global, resolved: &Resolved, steps: u64) -> Result<FlatResult, Stop>
-    ensures { resolved.now.globals ≡ each_once (program_names (program_of resolved.now.program)) → RunsAs (program_of resolved.now.program) steps result }
+/// `IntOverflow`, a division by zero `DivideZero`, tuples that nest too deep `TooDeep`, arguments that don't fit parameters `ArgBind`,
+/// a call past the depth `Depth`, and an act for which no step is left `Steps`. A program whose blocks aren't closed as they should be is `CodeForm` at no place.
+pub fn run_flat(
+    alloc: Global,
+    resolved: &Resolved,
+    steps: u64,
+    depth: u32,
+) -> Result<FlatResult, Stop>
+    ensures { resolved.now.globals ≡ each_once (program_names (program_of resolved.now.program)) → RunsAs (program_of resolved.now.program) steps depth result }
 {
     let program = &resolved.program;
     let block = match nest(alloc, &program.code)? {
@@ -79,7 +86,10 @@ pub fn run_flat(alloc: Global, resolved: &Resolved, steps: u64) -> Result<FlatRe
     let work = Work { steps, depth: 0 };
     let session = Session { arena, work };
     let nodes = Builder::new(alloc);
-    let file = program.file;
-    let finished = run_block(alloc, file, block.as_slice(), scope, session, nodes)?;
+    let code = Code {
+        file: program.file,
+        functions: functions_of(alloc, block.as_slice())?,
+    };
+    let finished = run_block(alloc, code, depth, block.as_slice(), scope, session, nodes)?;
     left(alloc, finished)
 }

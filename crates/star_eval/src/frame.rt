@@ -3,10 +3,13 @@
 use crate::session::Session;
 use crate::source::Source;
 use node_build::Builder;
-use object_arena::{Boxes, Pairs, Ref, Value, Values};
+use object_arena::{Boxes, CallArgs, Pairs, Ref, Value, Values};
 use sqlite_items::{Boxed, Items};
 use star_blocks::{Arm, Op};
-use star_tree::code::{BinOp, Entry, Expr, UnOp};
+use star_calls::ArgumentForm;
+use star_functions::Functions;
+use star_tree::ItemKind;
+use star_tree::code::{BinOp, Clause, Entry, Expr, Param, UnOp};
 use ytt_base::fault::{Fault, Place};
 use ytt_base::text::Text;
 
@@ -24,6 +27,21 @@ pub enum Flow {
 pub(crate) enum Gathering {
     Tuple,
     List,
+}
+
+/// What a new function is made with besides its defaults: where, the name of a `def`, and the number of its code.
+#[derive(Clone, Copy)]
+pub(crate) struct Making<'p> {
+    pub place: Place,
+    pub name: Option<&'p Text>,
+    pub number: usize,
+}
+
+/// What a comprehension has gathered, with the expressions of its elements: values, or pairs of a key and a value.
+#[derive(Drop)]
+pub(crate) enum Bag<'p> {
+    Values(&'p Expr, Values),
+    Pairs(&'p Expr, &'p Expr, Pairs),
 }
 
 /// A part of a slice, if it stands there.
@@ -74,6 +92,16 @@ pub(crate) enum InValue<'p> {
     /// The pair of this key, and the further entries.
     PairOf(Place, Value, &'p [Entry], Pairs),
     Index(InIndex<'p>),
+    /// The arguments of a call of the value.
+    Callee(Place, &'p [Expr]),
+    /// This argument of a call of a value, and the further ones, behind those that are given.
+    Argument(Place, Value, ArgumentForm<'p>, &'p [Expr], CallArgs),
+    /// The default of a function, and those of the further parameters, behind these.
+    Default(Making<'p>, &'p [Param], Values),
+    /// The first members of a comprehension of these clauses.
+    First(Place, &'p Items<Clause>, Bag<'p>),
+    /// What isn't built yet.
+    Unbuilt(Place),
 }
 
 /// What goes on from a value to the end of a statement, or of a part of a node.
@@ -99,6 +127,10 @@ pub(crate) enum InStatement<'p> {
     Enter(&'p [Op]),
     /// The node that takes the value over.
     Take,
+    /// The name that gets the value.
+    Bind(Place, &'p Text),
+    /// This argument of a note, and the further ones, behind those that are given.
+    NoteArgument(&'p Text, ArgumentForm<'p>, &'p [Expr], CallArgs),
 }
 
 /// What goes on from the end of a statement, or of a turn of a loop.
@@ -112,12 +144,53 @@ pub(crate) enum InBlock<'p> {
     WalkEnd(Ref),
 }
 
-/// What waits for a value or for the end of a block.
+/// What goes on from a value to what a comprehension has gathered.
+#[derive(Drop)]
+pub(crate) enum InElement<'p> {
+    /// The members of a clause: its target, and the clauses behind it.
+    Members(Place, &'p Expr, &'p [Clause], Bag<'p>),
+    /// The test of a clause, and the clauses behind it.
+    Test(Place, &'p [Clause], Bag<'p>),
+    /// These clauses, whatever value comes.
+    Enter(Place, &'p [Clause], Bag<'p>),
+    /// One more value.
+    Single(&'p Expr, Values),
+    /// The key of one more pair.
+    KeyOf(Place, &'p Expr, &'p Expr, Pairs),
+    /// The value of one more pair.
+    PairOf(Place, Value, &'p Expr, &'p Expr, Pairs),
+}
+
+/// What goes on from the end of a turn of a clause.
+#[derive(Drop)]
+pub(crate) enum InClauses<'p> {
+    /// The turns of a clause for the members that are left: its target, and the clauses behind it.
+    Turn(Place, &'p Expr, &'p [Clause], Source),
+    /// The end of a walk over an object.
+    WalkEnd(Ref),
+}
+
+/// What goes on where a call ends: how many calls could stand in one another, the scope and the open nodes; and the kind of the
+/// items that the function builds a fragment of.
+#[derive(Drop)]
+pub(crate) struct Caller {
+    pub depth: u32,
+    pub scope: Boxes,
+    pub nodes: Builder,
+    pub fragment: Option<ItemKind>,
+}
+
+/// What waits for a value, for the end of a block, or for what a comprehension has gathered.
 #[derive(Drop)]
 pub(crate) enum Frame<'p> {
     Value(InValue<'p>),
     Statement(InStatement<'p>),
     Block(InBlock<'p>),
+    Element(Boxed<InElement<'p>>),
+    Clauses(Boxed<InClauses<'p>>),
+    /// What is made of what a comprehension has gathered, in this scope.
+    Gather(Boxes),
+    Call(Caller),
 }
 
 /// What is to be done next.
@@ -133,13 +206,26 @@ pub(crate) enum Control<'p> {
     Left(Fault),
     /// A target of a statement at a place gets a value; None is given then.
     Assign(Place, &'p Expr, Value),
+    /// Clauses of a comprehension at a place, which go on from what was gathered.
+    Clauses(Place, &'p [Clause], Bag<'p>),
+    Bagged(Bag<'p>),
+    /// A fault in the place of what a comprehension has gathered.
+    Lost(Fault),
 }
 
-/// All else: the number of the file, the scope, the session, the open nodes, and what waits, the innermost frame
-/// last.
+/// The code of a file: its number, and its functions.
+#[derive(Drop)]
+pub(crate) struct Code<'p> {
+    pub file: u32,
+    pub functions: Functions<'p>,
+}
+
+/// All else: the code, how many calls may still stand in one another, the scope, the session, the open nodes, and what
+/// waits, the innermost frame last.
 #[derive(Drop)]
 pub(crate) struct Machine<'p> {
-    pub file: u32,
+    pub code: Code<'p>,
+    pub depth: u32,
     pub scope: Boxes,
     pub session: Session,
     pub nodes: Builder,

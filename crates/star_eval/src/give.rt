@@ -5,20 +5,25 @@ ghost use Rattle.star_values.specs.View.{value_of};
 ghost use Rattle.node_build.specs.Parts.{taking};
 ghost use Rattle.star_eval.specs.declared.frame.Control.TheVariants as control;
 ghost use Rattle.star_eval.specs.Frames.{Goes, GoesToFlow, GoesToValue, inside};
-ghost use Rattle.star_eval.specs.View.{OwnsFrame, OwnsInStatement, OwnsInValue, Sound, arena_in, env_of, frame_of, nodes_in, statement_frame, value_frame, waiting_in};
+ghost use Rattle.star_eval.specs.View.{OwnsFrame, OwnsInStatement, OwnsInValue, Sound, arena_in, frame_of, nodes_in, setting_of, statement_frame, value_frame, waiting_in};
 ghost use Rattle.star_eval.specs.Waiting.{statement_goes, value_goes};
 
-use crate::assign::{augment_at, augmented, augmented_at, next_target};
+use crate::arguments::{argued, call_with, no_arguments, note_argued};
+use crate::assign::{augment_at, augmented, augmented_at, name_gets, next_target};
+use crate::calls::restore;
+use crate::comprehensions::{first, give_element};
 use crate::dicts::pair;
 use crate::eval::{gather, operated, operated_on};
 use crate::frame::{Control, Flow, Frame, InStatement, InValue, Machine};
+use crate::functions::make_function;
 use crate::indexes::give_index;
-use crate::machine::{form_fault, push, settle_flow};
+use crate::machine::{failed, push, settle_flow};
 use crate::run::{choose, within};
 use crate::walk::walk;
-use crate::went::leave_block;
+use crate::went::misplaced;
 use object_arena::Value;
 use star_ops::truth;
+use ytt_base::fault::FaultKind;
 use ytt_base::text::Memory;
 
 /// A frame with this value in its hole.
@@ -30,15 +35,19 @@ pub(crate) fn give<'p>(
     requires sound { Sound m.old }
     requires frame { OwnsFrame (arena_in m.old) frame }
     requires value { Owns (arena_in m.old) value }
-    ensures { IfOk result (λ c. Goes m.new c (inside m.old (frame_of (arena_in m.old) m.old.file frame.entry ∷ waiting_in m.old) (control.Gave value))) }
+    ensures { IfOk result (λ c. Goes m.new c (inside m.old (frame_of (arena_in m.old) m.old.code frame.entry ∷ waiting_in m.old) (control.Gave value))) }
 {
     match frame {
         Frame::Value(inner) => give_value(m, inner, value),
         Frame::Statement(inner) => give_statement(m, inner, value),
-        Frame::Block(inner) => {
-            let fault = form_fault(&m.session.arena);
-            Ok(leave_block(m, inner, fault))
+        Frame::Element(inner) => give_element(m, inner.into_inner(), value),
+        Frame::Call(caller) => {
+            restore(m, caller);
+            Ok(Control::Gave(value))
         }
+        Frame::Block(inner) => Ok(misplaced(m, Frame::Block(inner))),
+        Frame::Clauses(inner) => Ok(misplaced(m, Frame::Clauses(inner))),
+        Frame::Gather(scope) => Ok(misplaced(m, Frame::Gather(scope))),
     }
 }
 
@@ -51,7 +60,7 @@ fn give_value<'p>(
     requires sound { Sound m.old }
     requires frame { OwnsInValue (arena_in m.old) frame }
     requires value { Owns (arena_in m.old) value }
-    ensures { GoesToValue result m.new m.old (value_goes (env_of m.old) (value_frame (arena_in m.old) m.old.file frame.entry) (value_of (arena_in m.old) value)) }
+    ensures { GoesToValue result m.new m.old (value_goes (setting_of m.old) (value_frame (arena_in m.old) m.old.code.file frame.entry) (value_of (arena_in m.old) value)) }
 {
     match frame {
         InValue::Right(place, op, right) => {
@@ -92,6 +101,19 @@ fn give_value<'p>(
         }
         InValue::PairOf(place, key, rest, pairs) => pair(m, place, key, value, rest, pairs),
         InValue::Index(inner) => give_index(m, inner, value),
+        InValue::Callee(place, exprs) => {
+            let given = no_arguments(m.session.arena.alloc());
+            call_with(m, place, value, exprs, given)
+        }
+        InValue::Argument(place, function, form, rest, given) => {
+            argued(m, place, function, form, rest, given, value)
+        }
+        InValue::Default(making, rest, mut defaults) => {
+            defaults.push(value)?;
+            make_function(m, making, rest, defaults)
+        }
+        InValue::First(place, clauses, bag) => first(m, place, clauses, bag, value),
+        InValue::Unbuilt(place) => Ok(failed(m, FaultKind::NotBuilt, place)),
     }
 }
 
@@ -104,7 +126,7 @@ fn give_statement<'p>(
     requires sound { Sound m.old }
     requires frame { OwnsInStatement (arena_in m.old) frame }
     requires value { Owns (arena_in m.old) value }
-    ensures { GoesToFlow result m.new m.old (statement_goes (env_of m.old) (statement_frame (arena_in m.old) m.old.file frame.entry) (value_of (arena_in m.old) value) (nodes_in m.old)) }
+    ensures { GoesToFlow result m.new m.old (statement_goes (setting_of m.old) (statement_frame (arena_in m.old) m.old.code.file frame.entry) (value_of (arena_in m.old) value) (nodes_in m.old)) }
 {
     match frame {
         InStatement::Discard => Ok(Control::Went(Flow::On)),
@@ -135,6 +157,10 @@ fn give_statement<'p>(
         InStatement::Walk(place, target, body) => walk(m, place, target, body, value),
         InStatement::Enter(body) => Ok(Control::Run(body)),
         InStatement::Take => take(m, value),
+        InStatement::Bind(place, name) => name_gets(m, place, name, value),
+        InStatement::NoteArgument(name, form, rest, given) => {
+            note_argued(m, name, form, rest, given, value)
+        }
     }
 }
 

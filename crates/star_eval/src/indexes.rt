@@ -8,8 +8,8 @@ ghost use Rattle.star_values.specs.Owns.{Owns};
 ghost use Rattle.star_values.specs.View.{value_of};
 ghost use Rattle.value_spec.specs.Outcomes.{then_do};
 ghost use Rattle.star_eval.specs.Frames.{GoesToValue};
-ghost use Rattle.star_eval.specs.SoFar.{bound_so_far, cut, value_so_far};
-ghost use Rattle.star_eval.specs.View.{OwnsInIndex, Sound, arena_in, env_of, index_frame};
+ghost use Rattle.star_eval.specs.Doing.{bound_then, cut, evaluated};
+ghost use Rattle.star_eval.specs.View.{OwnsInIndex, Sound, arena_in, index_frame, setting_of};
 ghost use Rattle.star_eval.specs.Waiting.{cut_at, end_of, step_of, value_goes, with_none};
 
 use crate::frame::{Bound, Control, Frame, InIndex, InValue, Machine};
@@ -28,7 +28,7 @@ pub(crate) fn within_index<'p>(
 ) -> Result<Control<'p>, Memory>
     requires sound { Sound m.old }
     requires frame { OwnsInIndex (arena_in m.old) frame }
-    ensures { GoesToValue result m.new m.old (λ s. then_do (value_so_far (expr_of m.old.file expr.now) (env_of m.old) s) (value_goes (env_of m.old) (index_frame (arena_in m.old) m.old.file frame.entry))) }
+    ensures { GoesToValue result m.new m.old (λ s. then_do (evaluated (setting_of m.old) (expr_of m.old.code.file expr.now) s) (value_goes (setting_of m.old) (index_frame (arena_in m.old) m.old.code.file frame.entry))) }
 {
     push(m, Frame::Value(InValue::Index(frame)), Control::Eval(expr))
 }
@@ -42,7 +42,7 @@ pub(crate) fn give_index<'p>(
     requires sound { Sound m.old }
     requires frame { OwnsInIndex (arena_in m.old) frame }
     requires value { Owns (arena_in m.old) value }
-    ensures { GoesToValue result m.new m.old (value_goes (env_of m.old) (index_frame (arena_in m.old) m.old.file frame.entry) (value_of (arena_in m.old) value)) }
+    ensures { GoesToValue result m.new m.old (value_goes (setting_of m.old) (index_frame (arena_in m.old) m.old.code.file frame.entry) (value_of (arena_in m.old) value)) }
 {
     match frame {
         InIndex::IndexOf(place, index) => within_index(m, InIndex::IndexAt(place, value), index),
@@ -113,7 +113,7 @@ fn bounds<'p>(
 ) -> Result<Control<'p>, Memory>
     requires sound { Sound m.old }
     requires value { Owns (arena_in m.old) value }
-    ensures { GoesToValue result m.new m.old (λ s. then_do (bound_so_far (optional_of m.old.file from.now) (env_of m.old) s) (value_goes (env_of m.old) (end_of place (value_of (arena_in m.old) value) (optional_of m.old.file to.now) (optional_of m.old.file step.now)))) }
+    ensures { GoesToValue result m.new m.old (bound_then (setting_of m.old) (optional_of m.old.code.file from.now) (value_goes (setting_of m.old) (end_of place (value_of (arena_in m.old) value) (optional_of m.old.code.file to.now) (optional_of m.old.code.file step.now)))) }
 {
     match from {
         None => end_bound(m, place, value, Value::None, to, step),
@@ -133,7 +133,7 @@ fn end_bound<'p>(
     requires sound { Sound m.old }
     requires value { Owns (arena_in m.old) value }
     requires from { Owns (arena_in m.old) from }
-    ensures { GoesToValue result m.new m.old (λ s. then_do (bound_so_far (optional_of m.old.file to.now) (env_of m.old) s) (value_goes (env_of m.old) (step_of place (value_of (arena_in m.old) value) (value_of (arena_in m.old) from) (optional_of m.old.file step.now)))) }
+    ensures { GoesToValue result m.new m.old (bound_then (setting_of m.old) (optional_of m.old.code.file to.now) (value_goes (setting_of m.old) (step_of place (value_of (arena_in m.old) value) (value_of (arena_in m.old) from) (optional_of m.old.code.file step.now)))) }
 {
     match to {
         None => step_bound(m, place, value, from, Value::None, step),
@@ -154,7 +154,7 @@ fn step_bound<'p>(
     requires value { Owns (arena_in m.old) value }
     requires from { Owns (arena_in m.old) from }
     requires to { Owns (arena_in m.old) to }
-    ensures { GoesToValue result m.new m.old (λ s. then_do (bound_so_far (optional_of m.old.file step.now) (env_of m.old) s) (value_goes (env_of m.old) (cut_at place (value_of (arena_in m.old) value) (value_of (arena_in m.old) from) (value_of (arena_in m.old) to)))) }
+    ensures { GoesToValue result m.new m.old (bound_then (setting_of m.old) (optional_of m.old.code.file step.now) (value_goes (setting_of m.old) (cut_at place (value_of (arena_in m.old) value) (value_of (arena_in m.old) from) (value_of (arena_in m.old) to)))) }
 {
     match step {
         None => {

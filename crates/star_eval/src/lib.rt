@@ -6,11 +6,15 @@
 //! (`specs/Frames`). What parts of nodes build is `node_build`'s.
 #![tactic(auto)]
 
+mod arguments;
 mod assign;
+mod calls;
+mod comprehensions;
 mod dicts;
 mod eval;
 mod file;
 mod frame;
+mod functions;
 mod give;
 mod indexes;
 mod looped;
@@ -19,7 +23,6 @@ mod names;
 mod numbers;
 mod parts;
 mod run;
-mod scope;
 mod session;
 mod source;
 mod walk;

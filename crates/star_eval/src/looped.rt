@@ -1,28 +1,27 @@
 // The loop.
-ghost use Rattle.std.specs.Prelude.{◌≡◌, [], List, IfOk, true, false};
+ghost use Rattle.std.specs.Prelude.{◌≡◌, IfOk, true, false};
 ghost use Rattle.ytt_base.specs.declared.fault.FaultKind.TheVariants as kind;
-ghost use Rattle.code_spec.specs.Code.{Name};
-ghost use Rattle.code_spec.specs.Unbuilt.{unbuilt_ops};
 ghost use Rattle.node_build.specs.View.{OwnsNodes, nodes_of};
 ghost use Rattle.star_blocks.specs.Nested.{ops_of};
 ghost use Rattle.star_spec.specs.Eval.{starlark};
-ghost use Rattle.star_spec.specs.Language.{Call};
 ghost use Rattle.star_values.specs.Objects.{env_in};
 ghost use Rattle.star_values.specs.Owns.{OwnsEnv};
 ghost use Rattle.template_meaning.specs.Run.{runs};
 ghost use Rattle.star_eval.specs.Frames.{Goes, flow_ending_of, is_active, means};
-ghost use Rattle.star_eval.specs.Meets.{Here, arena_of, state_of};
+ghost use Rattle.star_eval.specs.Calling.{calls_at};
+ghost use Rattle.star_eval.specs.Meets.{arena_of, state_of};
 ghost use Rattle.star_eval.specs.View.{OwnsControl, Sound, arena_in};
 ghost use Rattle.star_eval.specs.Waiting.{flow_ends};
 
 use crate::assign::assign;
+use crate::comprehensions::clauses;
 use crate::eval::eval;
-use crate::frame::{Control, Flow, Machine};
+use crate::frame::{Code, Control, Flow, Machine};
 use crate::give::give;
 use crate::machine::form_fault;
 use crate::run::run;
 use crate::session::Session;
-use crate::went::{fail, leave, went};
+use crate::went::{bagged, fail, went};
 use node_build::Builder;
 use object_arena::Boxes;
 use sqlite_items::Items;
@@ -50,6 +49,9 @@ fn goes_on<'p>(m: &Machine<'p>, control: &Control<'p>) -> bool
         Control::Went(_) => !m.frames.is_empty(),
         Control::Left(_) => !m.frames.is_empty(),
         Control::Assign(_, _, _) => true,
+        Control::Clauses(_, _, _) => true,
+        Control::Bagged(_) => !m.frames.is_empty(),
+        Control::Lost(_) => !m.frames.is_empty(),
     }
 }
 
@@ -77,9 +79,18 @@ fn step<'p>(m: &mut Machine<'p>, control: Control<'p>) -> Result<Control<'p>, Me
         },
         Control::Left(fault) => match m.frames.pop() {
             None => Ok(Control::Left(fault)),
-            Some(frame) => Ok(leave(m, frame, fault)),
+            Some(frame) => Ok(fail(m, frame, fault)),
         },
         Control::Assign(place, target, value) => assign(m, place, target, value),
+        Control::Clauses(place, rest, bag) => clauses(m, place, rest, bag),
+        Control::Bagged(bag) => match m.frames.pop() {
+            None => Ok(Control::Bagged(bag)),
+            Some(frame) => bagged(m, frame, bag),
+        },
+        Control::Lost(fault) => match m.frames.pop() {
+            None => Ok(Control::Lost(fault)),
+            Some(frame) => Ok(fail(m, frame, fault)),
+        },
     }
 }
 
@@ -127,6 +138,9 @@ fn flow_at_end<'p>(machine: Machine<'p>, control: Control<'p>) -> Finished
         Control::Run(_block) => Err(form),
         Control::Gave(_value) => Err(form),
         Control::Assign(_place, _target, _value) => Err(form),
+        Control::Clauses(_place, _clauses, _bag) => Err(form),
+        Control::Bagged(_bag) => Err(form),
+        Control::Lost(fault) => Err(fault),
     };
     Finished {
         session,
@@ -135,21 +149,24 @@ fn flow_at_end<'p>(machine: Machine<'p>, control: Control<'p>) -> Finished
     }
 }
 
-/// Runs a block of this file in a scope, with the session and the open nodes that it leaves.
-pub(crate) fn run_block(
+/// Runs a block of this code in a scope, where so many calls may stand in one another, with the session and the open nodes
+/// that it leaves.
+pub(crate) fn run_block<'p>(
     alloc: Global,
-    file: u32,
-    block: &[Op],
+    code: Code<'p>,
+    depth: u32,
+    block: &'p [Op],
     scope: Boxes,
     session: Session,
     nodes: Builder,
 ) -> Result<Finished, Memory>
     requires scope { OwnsEnv (arena_of session) scope }
     requires nodes { OwnsNodes (arena_of session) nodes }
-    ensures { IfOk result (λ e. (call : Call Here) (bound : List Name) → unbuilt_ops bound (ops_of file block.now) ≡ [] → flow_ending_of (arena_of e.session) e.result (nodes_of (arena_of e.session) e.nodes) (state_of e.session) ≡ runs starlark call (ops_of file block.now) (env_in (arena_of session).held scope) (nodes_of (arena_of session) nodes) (state_of session)) }
+    ensures { IfOk result (λ e. flow_ending_of (arena_of e.session) e.result (nodes_of (arena_of e.session) e.nodes) (state_of e.session) ≡ runs starlark (calls_at code.entry.file code.entry.functions depth) (ops_of code.entry.file block.now) (env_in (arena_of session).held scope) (nodes_of (arena_of session) nodes) (state_of session)) }
 {
     let machine = Machine {
-        file,
+        code,
+        depth,
         scope,
         session,
         nodes,

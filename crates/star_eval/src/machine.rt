@@ -21,7 +21,7 @@ pub(crate) fn push<'p>(
     requires sound { Sound m.old }
     requires frame { OwnsFrame (arena_in m.old) frame }
     requires control { OwnsControl (arena_in m.old) control }
-    ensures { IfOk result (λ c. Goes m.new c (inside m.old (frame_of (arena_in m.old) m.old.file frame.entry ∷ waiting_in m.old) control.entry)) }
+    ensures { IfOk result (λ c. Goes m.new c (inside m.old (frame_of (arena_in m.old) m.old.code frame.entry ∷ waiting_in m.old) control.entry)) }
 {
     m.frames.push(frame)?;
     Ok(control)
@@ -94,6 +94,13 @@ pub(crate) fn left<'p>(m: &Machine<'p>, kind: FaultKind, place: Place) -> Contro
     ensures { result ≡ control.Left (fault_at kind place) }
 {
     Control::Left(fault_at(&m.session.arena, kind, place))
+}
+
+/// The same in the place of what a comprehension has gathered.
+pub(crate) fn lost<'p>(m: &Machine<'p>, kind: FaultKind, place: Place) -> Control<'p>
+    ensures { result ≡ control.Lost (fault_at kind place) }
+{
+    Control::Lost(fault_at(&m.session.arena, kind, place))
 }
 
 /// The fault of a program in no proper form, in the place of a value.

@@ -7,9 +7,10 @@ ghost use Rattle.star_tree.specs.View.{holds_of, item_kind_of};
 ghost use Rattle.star_tree.specs.Whole.{part_of};
 ghost use Rattle.value_spec.specs.Outcomes.{then_do};
 ghost use Rattle.star_eval.specs.Frames.{GoesToFlow};
-ghost use Rattle.star_eval.specs.PartsSoFar.{part_done, parts_so_far, written_part};
-ghost use Rattle.star_eval.specs.View.{Sound, env_of, nodes_in};
+ghost use Rattle.star_eval.specs.Doing.{part_done, through, written_part};
+ghost use Rattle.star_eval.specs.View.{Sound, nodes_in, setting_of};
 
+use crate::arguments::{no_arguments, note_with};
 use crate::frame::{Control, Flow, Frame, InBlock, InStatement, Machine};
 use crate::machine::{ill_flow, left, push, settle_flow};
 use star_blocks::Op;
@@ -25,7 +26,7 @@ pub(crate) fn node_part<'p>(
     rest: &'p [Op],
 ) -> Result<Control<'p>, Memory>
     requires { Sound m.old }
-    ensures { GoesToFlow result m.new m.old (λ s. then_do (part_done (part_of m.old.file part.now) (env_of m.old) (nodes_in m.old) s) (go_on (parts_so_far (ops_of m.old.file rest.now) (env_of m.old)))) }
+    ensures { GoesToFlow result m.new m.old (λ s. then_do (part_done (setting_of m.old) (part_of m.old.code.file part.now) (nodes_in m.old) s) (go_on (through (setting_of m.old) (ops_of m.old.code.file rest.now)))) }
 {
     m.frames.push(Frame::Block(InBlock::Rest(rest)))?;
     build(m, part)
@@ -34,7 +35,7 @@ pub(crate) fn node_part<'p>(
 /// What a part of a node does. A start takes a step.
 fn build<'p>(m: &mut Machine<'p>, part: &'p NodeOp) -> Result<Control<'p>, Memory>
     requires { Sound m.old }
-    ensures { GoesToFlow result m.new m.old (part_done (part_of m.old.file part.now) (env_of m.old) (nodes_in m.old)) }
+    ensures { GoesToFlow result m.new m.old (part_done (setting_of m.old) (part_of m.old.code.file part.now) (nodes_in m.old)) }
 {
     match part {
         NodeOp::Start(place, kind, holds) => start(m, *place, *kind, *holds),
@@ -59,7 +60,10 @@ fn build<'p>(m: &mut Machine<'p>, part: &'p NodeOp) -> Result<Control<'p>, Memor
                 Ok(ill_flow(m))
             }
         }
-        NodeOp::Note(place, _, _) => Ok(left(m, FaultKind::NotBuilt, *place)),
+        NodeOp::Note(_, name, args) => {
+            let none = no_arguments(m.session.arena.alloc());
+            note_with(m, name, args.as_slice(), none)
+        }
     }
 }
 

@@ -1,23 +1,25 @@
 // Blocks and statements.
-ghost use Rattle.std.specs.Prelude.{◌≡◌, Some, IfOk};
+ghost use Rattle.std.specs.Prelude.{◌≡◌, [], Some, IfOk};
 ghost use Rattle.code_spec.specs.Code as plain;
 ghost use Rattle.star_blocks.specs.Nested.{arms_of, op_of, ops_of, statement_of};
 ghost use Rattle.star_spec.specs.Flow.{go_on};
-ghost use Rattle.star_tree.specs.Whole.{binary_operator_of, expr_of};
+ghost use Rattle.star_spec.specs.Names.{box_of, write_name};
+ghost use Rattle.star_tree.specs.Whole.{binary_operator_of, expr_of, parameters_of};
 ghost use Rattle.value_spec.specs.Outcomes.{then_do};
 ghost use Rattle.star_eval.specs.declared.frame.Control.TheVariants as control;
 ghost use Rattle.star_eval.specs.Frames.{Goes, GoesToFlow, means};
-ghost use Rattle.star_eval.specs.PartsSoFar.{arms_so_far, augmented, done_after, op_place, part_so_far, parts_so_far};
-ghost use Rattle.star_eval.specs.SoFar.{value_so_far};
-ghost use Rattle.star_eval.specs.View.{OwnsInStatement, Sound, arena_in, env_of, nodes_in, statement_frame};
+ghost use Rattle.star_eval.specs.Doing.{arms_done, augmented, concluded, done_after, evaluated, making, op_done, op_place, op_through, through};
+ghost use Rattle.star_eval.specs.View.{OwnsInStatement, Sound, arena_in, nodes_in, setting_of, statement_frame};
 ghost use Rattle.star_eval.specs.Waiting.{statement_goes};
 
-use crate::frame::{Control, Flow, Frame, InBlock, InStatement, Machine};
+use crate::frame::{Control, Flow, Frame, InBlock, InStatement, Machine, Making};
+use crate::functions::make_function;
 use crate::machine::{ill_flow, left, push};
 use crate::names::read;
 use crate::parts::node_part;
+use sqlite_items::Items;
 use star_blocks::{Arm, Op, Statement};
-use star_tree::code::{BinOp, Expr};
+use star_tree::code::{BinOp, Expr, Param};
 use ytt_base::fault::{FaultKind, Place, Stop};
 use ytt_base::text::{Memory, Text};
 
@@ -55,7 +57,7 @@ pub(crate) fn run<'p>(m: &mut Machine<'p>, block: &'p [Op]) -> Result<Control<'p
 /// What stands first in a block, and then the rest.
 fn run_first<'p>(m: &mut Machine<'p>, first: &'p Op, rest: &'p [Op]) -> Result<Control<'p>, Memory>
     requires { Sound m.old }
-    ensures { GoesToFlow result m.new m.old (λ s. then_do (part_so_far (op_of m.old.file first.now) (env_of m.old) (nodes_in m.old) s) (go_on (parts_so_far (ops_of m.old.file rest.now) (env_of m.old)))) }
+    ensures { GoesToFlow result m.new m.old (λ s. then_do (op_through (setting_of m.old) (op_of m.old.code.file first.now) (nodes_in m.old) s) (go_on (through (setting_of m.old) (ops_of m.old.code.file rest.now)))) }
 {
     match first {
         Op::Node(part) => node_part(m, part, rest),
@@ -70,7 +72,7 @@ fn run_statement<'p>(
     rest: &'p [Op],
 ) -> Result<Control<'p>, Memory>
     requires { Sound m.old }
-    ensures { GoesToFlow result m.new m.old (λ s. then_do (part_so_far (statement_of m.old.file statement.now) (env_of m.old) (nodes_in m.old) s) (go_on (parts_so_far (ops_of m.old.file rest.now) (env_of m.old)))) }
+    ensures { GoesToFlow result m.new m.old (λ s. then_do (op_done (setting_of m.old) (statement_of m.old.code.file statement.now) (nodes_in m.old) s) (go_on (through (setting_of m.old) (ops_of m.old.code.file rest.now)))) }
 {
     m.frames.push(Frame::Block(InBlock::Rest(rest)))?;
     begin(m, statement)
@@ -78,9 +80,9 @@ fn run_statement<'p>(
 
 fn begin<'p>(m: &mut Machine<'p>, statement: &'p Statement) -> Result<Control<'p>, Memory>
     requires { Sound m.old }
-    ensures { GoesToFlow result m.new m.old (part_so_far (statement_of m.old.file statement.now) (env_of m.old) (nodes_in m.old)) }
+    ensures { GoesToFlow result m.new m.old (op_done (setting_of m.old) (statement_of m.old.code.file statement.now) (nodes_in m.old)) }
 {
-    let place = place_of(m.file, statement);
+    let place = place_of(m.code.file, statement);
     if m.session.work.steps == 0 {
         return Ok(left(m, FaultKind::Steps, place));
     }
@@ -95,7 +97,7 @@ fn act<'p>(
     statement: &'p Statement,
 ) -> Result<Control<'p>, Memory>
     requires { Sound m.old }
-    ensures { GoesToFlow result m.new m.old (done_after place (statement_of m.old.file statement.now) (env_of m.old) (nodes_in m.old)) }
+    ensures { GoesToFlow result m.new m.old (done_after (setting_of m.old) place (statement_of m.old.code.file statement.now) (nodes_in m.old)) }
 {
     match statement {
         Statement::Expr(_, expr) => within(m, InStatement::Discard, expr.get()),
@@ -104,7 +106,7 @@ fn act<'p>(
         }
         Statement::Augment(_, op, line, target, expr) => {
             let at = Place {
-                file: m.file,
+                file: m.code.file,
                 line: *line,
             };
             augment(m, at, *op, target.get(), expr.get())
@@ -119,8 +121,32 @@ fn act<'p>(
             let frame = InStatement::Walk(place, target.get(), body.as_slice());
             within(m, frame, expr.get())
         }
-        Statement::Def(_, _, _, _, _, _) => Ok(left(m, FaultKind::NotBuilt, place)),
+        Statement::Def(_, number, _, name, params, _) => {
+            define(m, place, *number, name, params.as_slice())
+        }
     }
+}
+
+/// A function with this name and number, which the name gets.
+fn define<'p>(
+    m: &mut Machine<'p>,
+    place: Place,
+    number: usize,
+    name: &'p Text,
+    params: &'p [Param],
+) -> Result<Control<'p>, Memory>
+    requires { Sound m.old }
+    ensures { GoesToFlow result m.new m.old (λ s. then_do (making (setting_of m.old) (record { place = place; name = name.now; number = number }) (parameters_of m.old.code.file params.now) [] s) (λ f. concluded (write_name place name.now f (box_of name.now (setting_of m.old).env)) (nodes_in m.old))) }
+{
+    m.frames
+        .push(Frame::Statement(InStatement::Bind(place, name)))?;
+    let making = Making {
+        place,
+        name: Some(name),
+        number,
+    };
+    let none = Items::new(m.session.arena.alloc());
+    make_function(m, making, params, none)
 }
 
 /// An expression in a statement.
@@ -131,7 +157,7 @@ pub(crate) fn within<'p>(
 ) -> Result<Control<'p>, Memory>
     requires sound { Sound m.old }
     requires frame { OwnsInStatement (arena_in m.old) frame }
-    ensures { GoesToFlow result m.new m.old (λ s. then_do (value_so_far (expr_of m.old.file expr.now) (env_of m.old) s) (λ v. statement_goes (env_of m.old) (statement_frame (arena_in m.old) m.old.file frame.entry) v (nodes_in m.old))) }
+    ensures { GoesToFlow result m.new m.old (λ s. then_do (evaluated (setting_of m.old) (expr_of m.old.code.file expr.now) s) (λ v. statement_goes (setting_of m.old) (statement_frame (arena_in m.old) m.old.code.file frame.entry) v (nodes_in m.old))) }
 {
     push(m, Frame::Statement(frame), Control::Eval(expr))
 }
@@ -145,19 +171,19 @@ fn augment<'p>(
     expr: &'p Expr,
 ) -> Result<Control<'p>, Memory>
     requires { Sound m.old }
-    ensures { GoesToFlow result m.new m.old (augmented (binary_operator_of op) place (expr_of m.old.file target.now) (expr_of m.old.file expr.now) (env_of m.old) (nodes_in m.old)) }
+    ensures { GoesToFlow result m.new m.old (augmented (setting_of m.old) (binary_operator_of op) place (expr_of m.old.code.file target.now) (expr_of m.old.code.file expr.now) (nodes_in m.old)) }
 {
     match target {
         Expr::Name(line, name) => {
             let at = Place {
-                file: m.file,
+                file: m.code.file,
                 line: *line,
             };
             augment_name(m, place, op, at, name, expr)
         }
         Expr::Index(line, a, index) => {
             let at = Place {
-                file: m.file,
+                file: m.code.file,
                 line: *line,
             };
             within(
@@ -199,7 +225,7 @@ fn augment_name<'p>(
     expr: &'p Expr,
 ) -> Result<Control<'p>, Memory>
     requires { Sound m.old }
-    ensures { GoesToFlow result m.new m.old (augmented (binary_operator_of op) place (plain.name at name.now) (expr_of m.old.file expr.now) (env_of m.old) (nodes_in m.old)) }
+    ensures { GoesToFlow result m.new m.old (augmented (setting_of m.old) (binary_operator_of op) place (plain.name at name.now) (expr_of m.old.code.file expr.now) (nodes_in m.old)) }
 {
     match read(&m.session, m.scope.as_slice(), at, name) {
         Ok(old) => within(m, InStatement::Augment(place, op, at, name, old), expr),
@@ -211,7 +237,7 @@ fn augment_name<'p>(
 /// The first of these branches whose test holds.
 pub(crate) fn choose<'p>(m: &mut Machine<'p>, arms: &'p [Arm]) -> Result<Control<'p>, Memory>
     requires { Sound m.old }
-    ensures { GoesToFlow result m.new m.old (arms_so_far (arms_of m.old.file arms.now) (env_of m.old) (nodes_in m.old)) }
+    ensures { GoesToFlow result m.new m.old (arms_done (setting_of m.old) (arms_of m.old.code.file arms.now) (nodes_in m.old)) }
 {
     match arms.split_first() {
         None => Ok(Control::Went(Flow::On)),

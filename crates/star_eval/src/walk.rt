@@ -9,9 +9,9 @@ ghost use Rattle.value_spec.specs.Outcomes.{on_store, then_do};
 ghost use Rattle.value_spec.specs.Store.{begin_loop};
 ghost use Rattle.star_eval.specs.Frames.{GoesToFlow, around_flow};
 ghost use Rattle.star_eval.specs.Meets.{Begins, arena_of, state_of};
-ghost use Rattle.star_eval.specs.PartsSoFar.{looped, parts_so_far};
+ghost use Rattle.star_eval.specs.Doing.{looped, through};
 ghost use Rattle.star_eval.specs.Sources.{IsWalkOf, OwnsMembers, OwnsSource, Walked, all_members, left_of};
-ghost use Rattle.star_eval.specs.View.{Sound, arena_in, env_of, nodes_in};
+ghost use Rattle.star_eval.specs.View.{Sound, arena_in, nodes_in, setting_of};
 ghost use Rattle.star_eval.specs.Waiting.{turn_of, walked};
 
 use crate::frame::{Control, Flow, Frame, InBlock, InStatement, Machine};
@@ -25,7 +25,7 @@ use ytt_base::fault::{FaultKind, Place};
 use ytt_base::text::Memory;
 
 /// The object that a walk over a value goes through, if there is one.
-fn walk_of(value: Value) -> Option<Ref>
+pub(crate) fn walk_of(value: Value) -> Option<Ref>
     ensures { (a : View) → Owns a value → IsWalkOf a (value_of a value) result }
 {
     match value {
@@ -45,7 +45,7 @@ pub(crate) fn walk<'p>(
 ) -> Result<Control<'p>, Memory>
     requires sound { Sound m.old }
     requires value { Owns (arena_in m.old) value }
-    ensures { GoesToFlow result m.new m.old (looped place (expr_of m.old.file target.now) (env_of m.old) (parts_so_far (ops_of m.old.file body.now) (env_of m.old)) (value_of (arena_in m.old) value) (nodes_in m.old)) }
+    ensures { GoesToFlow result m.new m.old (looped (setting_of m.old) place (expr_of m.old.code.file target.now) (through (setting_of m.old) (ops_of m.old.code.file body.now)) (value_of (arena_in m.old) value) (nodes_in m.old)) }
 {
     match members_of(&m.session.arena, value)? {
         None => Ok(left(m, FaultKind::ValueKind, place)),
@@ -57,7 +57,7 @@ pub(crate) fn walk<'p>(
 }
 
 /// One more loop walks an object.
-fn begin(session: &mut Session, object: Ref) -> Result<(), Memory>
+pub(crate) fn begin(session: &mut Session, object: Ref) -> Result<(), Memory>
     requires { Walked (arena_of session.old) object }
     ensures { IfOk result (λ u. Begins object.at session.new session.old) }
 {
@@ -80,7 +80,7 @@ fn walk_object<'p>(
     requires sound { Sound m.old }
     requires object { Walked (arena_in m.old) object }
     requires members { OwnsMembers (arena_in m.old) members }
-    ensures { GoesToFlow result m.new m.old (walked object.at (turns place (turn_of (env_of m.old) place (expr_of m.old.file target.now) (ops_of m.old.file body.now)) (all_members (arena_in m.old) members)) (nodes_in m.old)) }
+    ensures { GoesToFlow result m.new m.old (walked object.at (turns place (turn_of (setting_of m.old) place (expr_of m.old.code.file target.now) (ops_of m.old.code.file body.now)) (all_members (arena_in m.old) members)) (nodes_in m.old)) }
 {
     begin(&mut m.session, object)?;
     m.frames.push(Frame::Block(InBlock::WalkEnd(object)))?;
@@ -97,7 +97,7 @@ pub(crate) fn turn<'p>(
 ) -> Result<Control<'p>, Memory>
     requires sound { Sound m.old }
     requires source { OwnsSource (arena_in m.old) source }
-    ensures { GoesToFlow result m.new m.old (turns place (turn_of (env_of m.old) place (expr_of m.old.file target.now) (ops_of m.old.file body.now)) (left_of (arena_in m.old) source) (nodes_in m.old)) }
+    ensures { GoesToFlow result m.new m.old (turns place (turn_of (setting_of m.old) place (expr_of m.old.code.file target.now) (ops_of m.old.code.file body.now)) (left_of (arena_in m.old) source) (nodes_in m.old)) }
 {
     match source.advance()? {
         None => Ok(Control::Went(Flow::On)),
@@ -123,7 +123,7 @@ fn enter<'p>(
     requires sound { Sound m.old }
     requires value { Owns (arena_in m.old) value }
     requires source { OwnsSource (arena_in m.old) source }
-    ensures { GoesToFlow result m.new m.old (λ s. then_do (turn_of (env_of m.old) place (expr_of m.old.file target.now) (ops_of m.old.file body.now) (value_of (arena_in m.old) value) (nodes_in m.old) s) (next_turn (turns place (turn_of (env_of m.old) place (expr_of m.old.file target.now) (ops_of m.old.file body.now)) (left_of (arena_in m.old) source)))) }
+    ensures { GoesToFlow result m.new m.old (λ s. then_do (turn_of (setting_of m.old) place (expr_of m.old.code.file target.now) (ops_of m.old.code.file body.now) (value_of (arena_in m.old) value) (nodes_in m.old) s) (next_turn (turns place (turn_of (setting_of m.old) place (expr_of m.old.code.file target.now) (ops_of m.old.code.file body.now)) (left_of (arena_in m.old) source)))) }
 {
     m.frames
         .push(Frame::Block(InBlock::Turn(place, target, body, source)))?;

@@ -1,18 +1,25 @@
-// What goes on from the end of a block, or from a fault.
+// What goes on from the end of a block, from what a comprehension has gathered, or from a fault.
 ghost use Rattle.std.specs.Prelude.{◌≡◌, ◌∷◌, IfOk};
+ghost use Rattle.ytt_base.specs.declared.fault.FaultKind.TheVariants as kind;
+ghost use Rattle.ytt_base.specs.Outcomes.{fault_of};
 ghost use Rattle.value_spec.specs.Outcomes.{bad, done};
+ghost use Rattle.star_spec.specs.Flow.{on};
 ghost use Rattle.star_eval.specs.declared.frame.Control.TheVariants as control;
-ghost use Rattle.star_eval.specs.Frames.{Goes, around_flow, flow_of, inside};
+ghost use Rattle.star_eval.specs.Frames.{Goes, around_bag, around_flow, flow_of, inside};
 ghost use Rattle.star_eval.specs.Meets.{Ends, arena_of, state_of};
 ghost use Rattle.star_eval.specs.Sources.{Walked};
-ghost use Rattle.star_eval.specs.View.{OwnsFlow, OwnsFrame, OwnsInBlock, Sound, arena_in, block_frame, env_of, frame_of, nodes_in, waiting_in};
-ghost use Rattle.star_eval.specs.Waiting.{block_ends};
+ghost use Rattle.star_eval.specs.View.{OwnsBag, OwnsCaller, OwnsFlow, OwnsFrame, OwnsInBlock, OwnsInClauses, Sound, arena_in, bag_of, block_frame, caller_of, clauses_frame, frame_of, nodes_in, setting_of, waiting_in};
+ghost use Rattle.star_eval.specs.Waiting.{block_ends, clauses_end, gather};
+ghost use Rattle.star_values.specs.Objects.{env_in};
+ghost use Rattle.star_values.specs.Owns.{OwnsEnv};
 
-use crate::frame::{Control, Flow, Frame, InBlock, Machine};
-use crate::machine::{ill_flow, ill_formed};
+use crate::calls::{restore, returned};
+use crate::comprehensions::{bag_made, clause_turn};
+use crate::frame::{Bag, Caller, Control, Flow, Frame, InBlock, InClauses, Machine};
+use crate::machine::form_fault;
 use crate::session::Session;
 use crate::walk::turn;
-use object_arena::Ref;
+use object_arena::{Boxes, Ref};
 use ytt_base::fault::Fault;
 use ytt_base::text::Memory;
 
@@ -25,12 +32,16 @@ pub(crate) fn went<'p>(
     requires sound { Sound m.old }
     requires frame { OwnsFrame (arena_in m.old) frame }
     requires flow { OwnsFlow (arena_in m.old) flow }
-    ensures { IfOk result (λ c. Goes m.new c (inside m.old (frame_of (arena_in m.old) m.old.file frame.entry ∷ waiting_in m.old) (control.Went flow))) }
+    ensures { IfOk result (λ c. Goes m.new c (inside m.old (frame_of (arena_in m.old) m.old.code frame.entry ∷ waiting_in m.old) (control.Went flow))) }
 {
     match frame {
-        Frame::Value(_inner) => Ok(ill_formed(m)),
-        Frame::Statement(_inner) => Ok(ill_flow(m)),
         Frame::Block(inner) => go_on(m, inner, flow),
+        Frame::Call(caller) => returned(m, caller, flow),
+        Frame::Value(inner) => Ok(misplaced(m, Frame::Value(inner))),
+        Frame::Statement(inner) => Ok(misplaced(m, Frame::Statement(inner))),
+        Frame::Element(inner) => Ok(misplaced(m, Frame::Element(inner))),
+        Frame::Clauses(inner) => Ok(misplaced(m, Frame::Clauses(inner))),
+        Frame::Gather(scope) => Ok(misplaced(m, Frame::Gather(scope))),
     }
 }
 
@@ -39,7 +50,7 @@ fn go_on<'p>(m: &mut Machine<'p>, frame: InBlock<'p>, flow: Flow) -> Result<Cont
     requires sound { Sound m.old }
     requires frame { OwnsInBlock (arena_in m.old) frame }
     requires flow { OwnsFlow (arena_in m.old) flow }
-    ensures { IfOk result (λ c. Goes m.new c (around_flow m.old (waiting_in m.old) (block_ends (env_of m.old) (block_frame (arena_in m.old) m.old.file frame.entry) (done (flow_of (arena_in m.old) flow (nodes_in m.old)) (state_of m.old.session))))) }
+    ensures { IfOk result (λ c. Goes m.new c (around_flow m.old (waiting_in m.old) (block_ends (setting_of m.old) (block_frame (arena_in m.old) m.old.code.file frame.entry) (done (flow_of (arena_in m.old) flow (nodes_in m.old)) (state_of m.old.session))))) }
 {
     match frame {
         InBlock::Rest(rest) => match flow {
@@ -61,6 +72,61 @@ fn go_on<'p>(m: &mut Machine<'p>, frame: InBlock<'p>, flow: Flow) -> Result<Cont
     }
 }
 
+/// A frame with what was gathered so far in its hole.
+pub(crate) fn bagged<'p>(
+    m: &mut Machine<'p>,
+    frame: Frame<'p>,
+    bag: Bag<'p>,
+) -> Result<Control<'p>, Memory>
+    requires sound { Sound m.old }
+    requires frame { OwnsFrame (arena_in m.old) frame }
+    requires bag { OwnsBag (arena_in m.old) bag }
+    ensures { IfOk result (λ c. Goes m.new c (inside m.old (frame_of (arena_in m.old) m.old.code frame.entry ∷ waiting_in m.old) (control.Bagged bag.entry))) }
+{
+    match frame {
+        Frame::Clauses(inner) => next_clause_turn(m, inner.into_inner(), bag),
+        Frame::Gather(scope) => gathered(m, scope, bag),
+        Frame::Value(inner) => Ok(misplaced(m, Frame::Value(inner))),
+        Frame::Statement(inner) => Ok(misplaced(m, Frame::Statement(inner))),
+        Frame::Block(inner) => Ok(misplaced(m, Frame::Block(inner))),
+        Frame::Element(inner) => Ok(misplaced(m, Frame::Element(inner))),
+        Frame::Call(caller) => Ok(misplaced(m, Frame::Call(caller))),
+    }
+}
+
+/// The end of a turn of a clause.
+fn next_clause_turn<'p>(
+    m: &mut Machine<'p>,
+    frame: InClauses<'p>,
+    bag: Bag<'p>,
+) -> Result<Control<'p>, Memory>
+    requires sound { Sound m.old }
+    requires frame { OwnsInClauses (arena_in m.old) frame }
+    requires bag { OwnsBag (arena_in m.old) bag }
+    ensures { IfOk result (λ c. Goes m.new c (around_bag m.old (waiting_in m.old) (clauses_end (setting_of m.old) (clauses_frame (arena_in m.old) m.old.code.file frame.entry) (done (on (bag_of (arena_in m.old) m.old.code.file bag.entry)) (state_of m.old.session))))) }
+{
+    match frame {
+        InClauses::Turn(place, target, clauses, source) => {
+            clause_turn(m, place, target, clauses, source, bag)
+        }
+        InClauses::WalkEnd(object) => {
+            end(&mut m.session, object);
+            Ok(Control::Bagged(bag))
+        }
+    }
+}
+
+/// What a comprehension has gathered, in the scope around it.
+fn gathered<'p>(m: &mut Machine<'p>, scope: Boxes, bag: Bag<'p>) -> Result<Control<'p>, Memory>
+    requires sound { Sound m.old }
+    requires scope { OwnsEnv (arena_in m.old) scope }
+    requires bag { OwnsBag (arena_in m.old) bag }
+    ensures { IfOk result (λ c. Goes m.new c (inside m.old (gather (env_in (arena_in m.old).held scope) ∷ waiting_in m.old) (control.Bagged bag.entry))) }
+{
+    m.scope = scope;
+    bag_made(m, bag)
+}
+
 /// One loop less walks an object.
 fn end(session: &mut Session, object: Ref)
     requires { Walked (arena_of session.old) object }
@@ -69,11 +135,44 @@ fn end(session: &mut Session, object: Ref)
     session.arena.end_loop(object);
 }
 
+/// A fault in the hole of a frame, which ends its walk, and brings the scope and the nodes of a caller back.
+pub(crate) fn fail<'p>(m: &mut Machine<'p>, frame: Frame<'p>, fault: Fault) -> Control<'p>
+    requires sound { Sound m.old }
+    requires frame { OwnsFrame (arena_in m.old) frame }
+    ensures { Goes m.new result (inside m.old (frame_of (arena_in m.old) m.old.code frame.entry ∷ waiting_in m.old) (control.Failed fault)) }
+{
+    match frame {
+        Frame::Value(_inner) => Control::Failed(fault),
+        Frame::Statement(_inner) => Control::Left(fault),
+        Frame::Block(inner) => leave_block(m, inner, fault),
+        Frame::Element(_inner) => Control::Lost(fault),
+        Frame::Clauses(inner) => leave_clauses(m, inner.into_inner(), fault),
+        Frame::Gather(scope) => {
+            m.scope = scope;
+            Control::Failed(fault)
+        }
+        Frame::Call(caller) => {
+            restore(m, caller);
+            Control::Failed(fault)
+        }
+    }
+}
+
+/// What comes where a frame waits for something else: the program is in no proper form.
+pub(crate) fn misplaced<'p>(m: &mut Machine<'p>, frame: Frame<'p>) -> Control<'p>
+    requires sound { Sound m.old }
+    requires frame { OwnsFrame (arena_in m.old) frame }
+    ensures { Goes m.new result (inside m.old (frame_of (arena_in m.old) m.old.code frame.entry ∷ waiting_in m.old) (control.Failed (fault_of kind.CodeForm))) }
+{
+    let fault = form_fault(&m.session.arena);
+    fail(m, frame, fault)
+}
+
 /// A fault in the hole of a part of a block, which ends its walk.
-pub(crate) fn leave_block<'p>(m: &mut Machine<'p>, frame: InBlock<'p>, fault: Fault) -> Control<'p>
+fn leave_block<'p>(m: &mut Machine<'p>, frame: InBlock<'p>, fault: Fault) -> Control<'p>
     requires sound { Sound m.old }
     requires frame { OwnsInBlock (arena_in m.old) frame }
-    ensures { Goes m.new result (around_flow m.old (waiting_in m.old) (block_ends (env_of m.old) (block_frame (arena_in m.old) m.old.file frame.entry) (bad fault (state_of m.old.session)))) }
+    ensures { Goes m.new result (around_flow m.old (waiting_in m.old) (block_ends (setting_of m.old) (block_frame (arena_in m.old) m.old.code.file frame.entry) (bad fault (state_of m.old.session)))) }
 {
     match frame {
         InBlock::WalkEnd(object) => {
@@ -85,28 +184,17 @@ pub(crate) fn leave_block<'p>(m: &mut Machine<'p>, frame: InBlock<'p>, fault: Fa
     }
 }
 
-/// A frame in whose hole a fault came in the place of a value.
-pub(crate) fn fail<'p>(m: &mut Machine<'p>, frame: Frame<'p>, fault: Fault) -> Control<'p>
+/// The same of a turn of a clause.
+fn leave_clauses<'p>(m: &mut Machine<'p>, frame: InClauses<'p>, fault: Fault) -> Control<'p>
     requires sound { Sound m.old }
-    requires frame { OwnsFrame (arena_in m.old) frame }
-    ensures { Goes m.new result (inside m.old (frame_of (arena_in m.old) m.old.file frame.entry ∷ waiting_in m.old) (control.Failed fault)) }
+    requires frame { OwnsInClauses (arena_in m.old) frame }
+    ensures { Goes m.new result (around_bag m.old (waiting_in m.old) (clauses_end (setting_of m.old) (clauses_frame (arena_in m.old) m.old.code.file frame.entry) (bad fault (state_of m.old.session)))) }
 {
     match frame {
-        Frame::Value(_inner) => Control::Failed(fault),
-        Frame::Statement(_inner) => Control::Left(fault),
-        Frame::Block(inner) => leave_block(m, inner, fault),
-    }
-}
-
-/// A frame in whose hole a fault came in the place of the end of a block.
-pub(crate) fn leave<'p>(m: &mut Machine<'p>, frame: Frame<'p>, fault: Fault) -> Control<'p>
-    requires sound { Sound m.old }
-    requires frame { OwnsFrame (arena_in m.old) frame }
-    ensures { Goes m.new result (inside m.old (frame_of (arena_in m.old) m.old.file frame.entry ∷ waiting_in m.old) (control.Left fault)) }
-{
-    match frame {
-        Frame::Value(_inner) => Control::Failed(fault),
-        Frame::Statement(_inner) => Control::Left(fault),
-        Frame::Block(inner) => leave_block(m, inner, fault),
+        InClauses::WalkEnd(object) => {
+            end(&mut m.session, object);
+            Control::Lost(fault)
+        }
+        InClauses::Turn(_place, _target, _clauses, _source) => Control::Lost(fault),
     }
 }

@@ -136,7 +136,7 @@ in_part file o a c is got = ap (λ x. optional_functions (optional_of file x)) i
 abbrev pub Within : ℕ → Statement → List numbered.Numbered
 Within file s = op_functions (statement_of file s)
 
-of_code : (file : ℕ) (s : Statement) → op_of file (op.Code s) ≡ statement_of file s
+pub of_code : (file : ℕ) (s : Statement) → op_of file (op.Code s) ≡ statement_of file s
 of_code file s = search (rules, the_lemmas)
 
 pub in_code : (file : ℕ) (o : Op) (s : Statement) → o ≡ op.Code s → op_functions (op_of file o) ≡ Within file s

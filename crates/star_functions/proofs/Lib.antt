@@ -1,4 +1,5 @@
 pub mod Finding
 pub mod Indexing
 pub mod Looking
+pub mod Naming
 pub mod Walking

@@ -10,7 +10,7 @@ use Rattle.star_spec.specs.Lambdas.{Lambda, lambda_among, lambda_code, lambda_in
 use Rattle.template_meaning.specs.Calls.{arms_function, op_function, ops_function, part_function}
 use Rattle.star_functions.specs.Numbered.{Numbered, arms_functions, clauses_functions, entries_functions, expr_functions, exprs_functions, first_with, op_functions, ops_functions, optional_functions, parameters_functions, part_functions, pieces_functions, statement_functions}
 
-or_assoc : {A : Type 0} (a b c : Option A) → or_else (or_else a b) c ≡ or_else a (or_else b c)
+pub or_assoc : {A : Type 0} (a b c : Option A) → or_else (or_else a b) c ≡ or_else a (or_else b c)
 or_assoc None b c = refl
 or_assoc (Some x) b c = refl
 

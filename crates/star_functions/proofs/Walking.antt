@@ -1,6 +1,6 @@
 -- Members that are put behind others.
-use Rattle.std.proofs.Common.{◌≡◌, ℕ, ◌+◌, ◌<◌, List, ◌∷◌, ◌++◌, length, drop, get_or, sym, ap, ◌∙◌, append_assoc, Result, Ok, Err, OnOk}
-use Rattle.std.proofs.lemmas.List.{drop_more}
+use Rattle.std.proofs.Common.{◌≡◌, ℕ, ◌+◌, ◌<◌, List, ◌∷◌, ◌++◌, length, drop, get_or, sym, ap, ◌∙◌, append_assoc, append-nil, [], ◌≤◌, Result, Ok, Err, OnOk}
+use Rattle.std.proofs.lemmas.List.{drop_more, drop_all}
 use Rattle.ytt_base.specs.declared.text.Memory.{Memory}
 
 -- one more turn of a loop
@@ -12,6 +12,10 @@ put_next all now next xs j x rest one lt e first h k =
     ∙ append_assoc now one (rest (drop (j + 1) xs))
     ∙ ap (λ l. now ++ l) (sym (first (drop (j + 1) xs)) ∙ ap rest (ap (λ y. y ∷ drop (j + 1) xs) e ∙ sym (drop_more xs j x lt)))
     ∙ h
+
+-- at the end of a loop
+pub put_done : {T B : Type 0} (all now : List B) (xs : List T) (j : ℕ) (rest : List T → List B) → length xs ≤ j → rest [] ≡ [] → now ++ rest (drop j xs) ≡ all → now ≡ all
+put_done all now xs j rest le e h = sym (append-nil now) ∙ ap (λ l. now ++ l) (sym e ∙ ap rest (sym (drop_all j xs le))) ∙ h
 
 -- the same members, where there was room
 pub put_same : {B : Type 0} (r : Result (Unit {0}) Memory) (old new a b : List B) → OnOk r (new ≡ old ++ a) → b ≡ a → OnOk r (new ≡ old ++ b)

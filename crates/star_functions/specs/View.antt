@@ -1,8 +1,7 @@
 -- The plain data that functions stand for.
-use Rattle.std.specs.Prelude.{ℕ, List, Option, nat_eq, map as each}
+use Rattle.std.specs.Prelude.{ℕ, List, map as each}
 use Rattle.std.specs.Option.{option_map}
 use Rattle.code_spec.specs.Blocks.{Ops}
-use Rattle.indexmap.specs.IndexMap.{get}
 use Rattle.star_blocks.specs.Nested.{ops_of}
 use Rattle.star_spec.specs.Calls.{Code, of_def, of_lambda}
 use Rattle.star_tree.specs.View.{item_kind_of}
@@ -11,7 +10,6 @@ use Rattle.star_functions.specs.Numbered as plain
 use Rattle.star_functions.specs.declared.function.FunctionCode.{FunctionCode}
 use Rattle.star_functions.specs.declared.function.FunctionCode.TheVariants as function
 use Rattle.star_functions.specs.declared.function.Numbered.{Numbered}
-use Rattle.star_functions.specs.declared.functions.Functions.{Functions}
 
 -- the code of a function, in a file of this number
 abbrev pub code_of : (file : ℕ) → FunctionCode → Code Ops
@@ -23,7 +21,3 @@ numbered_of file f = record { number = f.number; code = code_of file f.code }
 
 abbrev pub all_of : (file : ℕ) → List Numbered → List plain.Numbered
 all_of file fs = each (numbered_of file) fs
-
--- the code of the function with a number
-abbrev pub code_with : ℕ → Functions → Option FunctionCode
-code_with k fs = get nat_eq fs.by_number k

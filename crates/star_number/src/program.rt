@@ -170,7 +170,8 @@ fn number_stmt(alloc: Global, file: u32, stmt: &Stmt, next: &mut usize) -> Resul
 /// The program with the number of each of its functions: of each `def` and each lambda, how many others
 /// begin before it in its text.
 pub fn numbered(alloc: Global, program: &Program) -> Result<Program, Memory>
-    ensures { IfOk result (λ p. program_of p ≡ numbered_program (program_of program.now)) }
+    ensures code { IfOk result (λ p. program_of p ≡ numbered_program (program_of program.now)) }
+    ensures file { IfOk result (λ p. p.file ≡ program.now.file) }
 {
     let mut next = 0;
     let mut code = Items::new(alloc);

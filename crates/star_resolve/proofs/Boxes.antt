@@ -2,17 +2,15 @@
 use Rattle.std.proofs.Common.{◌≡◌, ℕ, Bool, true, false, ◌||◌, List, [], ◌∷◌, ◌++◌, length, Option, Some, None, is_some, if◌then◌else◌, refl, sym, ap, ◌∙◌, map as each}
 use Rattle.std.proofs.lemmas.Slice.Eq.{bytes_eq-Decides}
 use Rattle.std.specs.Prelude.{bytes_eq}
-use Rattle.ytt_base.specs.declared.fault.FaultKind.TheVariants as kind
-use Rattle.ytt_base.specs.declared.fault.Place.{Place}
-use Rattle.code_spec.specs.Allowed.{AllowedParameters, ParametersLeft, all_left, none_left, named_left, after_default, parameter_names}
-use Rattle.star_spec.specs.Binding.{Given, given, rest_given, all_bound, bound, boxes_of, field_of, has_twice, in_front, or_default, unless_named, value_given, without_field}
-use Rattle.code_spec.specs.Code.{Name, Parameters, no_parameters, required, defaulted, bare_star, starred_parameter, double_starred_parameter}
+use Rattle.code_spec.specs.Allowed.{parameter_names}
+use Rattle.star_spec.specs.Binding.{bound_values, boxes_for}
+use Rattle.code_spec.specs.Code.{Name}
 use Rattle.code_spec.specs.Options.{further, or_else}
 use Rattle.star_spec.specs.Names.{box_of, with_box, with_boxes}
-use Rattle.value_spec.specs.Outcomes.{State, Ending, done, bad, then_do, give, on_store, or_fail}
+use Rattle.value_spec.specs.Outcomes.{State, Ending, done, bad, then_do, give}
 use Rattle.code_spec.specs.Scopes.{Around, home_by, binds, outward}
-use Rattle.value_spec.specs.Store.{with_object}
-use Rattle.value_spec.specs.Values.{Value, tuple_value, Values, no_values, a_value, Fields, no_fields, a_field, Arguments, arguments, Env, of_box}
+use Rattle.value_spec.specs.Values.{Value, Env}
+use Rattle.star_spec.proofs.BoundNames.{bound_count, names_boxed, same_end}
 use Rattle.star_resolve.specs.Environments.{BoxesOf, CallScopes, NamesHaveTheirBoxes, NewScopes, Parts, box_at_home, has_box, joined}
 
 -- ---- look-ups
@@ -98,57 +96,7 @@ fresh_box : (o : Option ℕ) (r : ℕ) (more c : Bool) → (is_some (if c then S
 fresh_box o r more true = or_true (is_some o)
 fresh_box o r more false = refl
 
--- ---- the names that arguments are bound to
-
-abbrev pub given_names : List (Name × Given) → List Name
-given_names bs = each (λ (b : Name × Given). b.0) bs
-
-front_name : (x : Name) (o : Option Value) (r : Option (List (Name × Given))) (bs : List (Name × Given)) (names : List Name) → in_front x o r ≡ Some bs →
-    ((more : List (Name × Given)) → r ≡ Some more → given_names more ≡ names) → given_names bs ≡ x ∷ names
-front_name x None r bs names h k = cc
-front_name x (Some v) None bs names h k = cc
-front_name x (Some v) (Some more) bs names h k = let same : ((x, given v) ∷ more) ≡ bs = cc in ap given_names (sym same) ∙ ap (λ l. x ∷ l) (k more refl)
-
--- nothing stands behind `**x`
-none_after : (ps : Parameters) → AllowedParameters none_left ps → parameter_names ps ≡ []
-none_after no_parameters a = refl
-none_after (required x ps) a = let no = a.0 in cc
-none_after (defaulted x e ps) a = let no = a.0 in cc
-none_after (bare_star ps) a = let no = a.0 in cc
-none_after (starred_parameter x ps) a = let no = a.0 in cc
-none_after (double_starred_parameter x ps) a = let no = a.0 in cc
-
-names_bound : (left : ParametersLeft) (ps : Parameters) (ds : List Value) (vs : Values) (fs : Fields) (bs : List (Name × Given)) →
-    AllowedParameters left ps → bound ps ds vs fs ≡ Some bs → given_names bs ≡ parameter_names ps
-names_bound left no_parameters ds no_values no_fields bs a h = let same : [] ≡ bs = cc in ap given_names (sym same)
-names_bound left no_parameters ds no_values (a_field x v fs) bs a h = cc
-names_bound left no_parameters ds (a_value v vs) no_fields bs a h = cc
-names_bound left no_parameters ds (a_value v vs) (a_field x w fs) bs a h = cc
-names_bound left (required x ps) ds (a_value v vs) fs bs a h =
-    front_name x (unless_named x v fs) (bound ps ds vs fs) bs (parameter_names ps) h (λ more. names_bound left ps ds vs fs more a.2)
-names_bound left (required x ps) ds no_values fs bs a h =
-    front_name x (field_of x fs) (bound ps ds no_values (without_field x fs)) bs (parameter_names ps) h (λ more. names_bound left ps ds no_values (without_field x fs) more a.2)
-names_bound left (defaulted x e ps) [] vs fs bs a h = cc
-names_bound left (defaulted x e ps) (d ∷ ds) (a_value v vs) fs bs a h =
-    front_name x (unless_named x v fs) (bound ps ds vs fs) bs (parameter_names ps) h (λ more. names_bound (after_default left) ps ds vs fs more a.3)
-names_bound left (defaulted x e ps) (d ∷ ds) no_values fs bs a h =
-    front_name x (or_default (field_of x fs) (Some d)) (bound ps ds no_values (without_field x fs)) bs (parameter_names ps) h
-    (λ more. names_bound (after_default left) ps ds no_values (without_field x fs) more a.3)
-names_bound left (bare_star ps) ds (a_value v vs) fs bs a h = cc
-names_bound left (bare_star ps) ds no_values fs bs a h = names_bound named_left ps ds no_values fs bs a.1 h
-names_bound left (starred_parameter x ps) ds vs fs bs a h =
-    front_name x (Some (tuple_value vs)) (bound ps ds no_values fs) bs (parameter_names ps) h (λ more. names_bound named_left ps ds no_values fs more a.2)
-names_bound left (double_starred_parameter x ps) ds (a_value v vs) fs bs a h = cc
-names_bound left (double_starred_parameter x ps) ds no_values fs bs a h =
-    let same : ((x, rest_given fs) ∷ []) ≡ bs = cc in ap given_names (sym same) ∙ ap (λ l. x ∷ l) (sym (none_after ps a.2))
-
-once_bound : (b : Bool) (ps : Parameters) (ds : List Value) (vs : Values) (fs : Fields) (bs : List (Name × Given)) →
-    AllowedParameters all_left ps → (if b then None else bound ps ds vs fs) ≡ Some bs → given_names bs ≡ parameter_names ps
-once_bound true ps ds vs fs bs a h = cc
-once_bound false ps ds vs fs bs a h = names_bound all_left ps ds vs fs bs a h
-
-pub all_names_bound : (ps : Parameters) (ds : List Value) (vs : Arguments) (bs : List (Name × Given)) → AllowedParameters all_left ps → all_bound ps ds vs ≡ Some bs → given_names bs ≡ parameter_names ps
-all_names_bound ps ds (arguments vs fs) bs a h = once_bound (has_twice fs) ps ds vs fs bs a h
+-- ---- names in environments
 
 or_both : (a b c : Bool) → (a || (b || c)) ≡ ((a || b) || c)
 or_both true b c = refl
@@ -162,14 +110,12 @@ first_box : (c : Bool) (r : ℕ) (o : Option ℕ) → is_some (if c then Some r 
 first_box true r o = refl
 first_box false r o = refl
 
+-- an environment has the boxes of its names
+pub own_names : (x : Name) (env : Env) → is_some (box_of x env) ≡ binds x (each (λ (b : Name × ℕ). b.0) env)
+own_names x [] = refl
+own_names x (b ∷ env) = first_box (bytes_eq b.0 x) b.1 (box_of x env) ∙ ap (λ c. bytes_eq b.0 x || c) (own_names x env)
+
 module _ {H : Type 0} where
-  -- after a box for a value
-  abbrev pub pushed : Value → State H → State H
-  pushed v s = on_store (with_object (of_box (Some v))) s
-
-  same_end : {A : Type 0} (a b : A) (s t : State H) → done a s ≡ done b t → a ≡ b
-  same_end a b s t e = cc
-
   one_name : (y : Name) (ys : List Name) (env own : Env) (s t : State H) (o : Option ℕ) → box_of y env ≡ o → then_do (with_box y env o s) (with_boxes ys) ≡ done own t →
       ((before : Env) (u : State H) → with_boxes ys before u ≡ done own t → (x : Name) → is_some (box_of x own) ≡ (is_some (box_of x before) || binds x ys)) →
       (x : Name) → is_some (box_of x own) ≡ (is_some (box_of x env) || (bytes_eq y x || binds x ys))
@@ -186,22 +132,9 @@ module _ {H : Type 0} where
 
   -- ---- calls
 
-  boxed : (y : Name) (r : ℕ) (names : List Name) (own : Env) (t : State H) (rest : Ending H Env) → then_do rest (λ env. give ((y, r) ∷ env)) ≡ done own t →
-      ((env : Env) (u : State H) → rest ≡ done env u → (x : Name) → is_some (box_of x env) ≡ binds x names) → (x : Name) → is_some (box_of x own) ≡ (bytes_eq y x || binds x names)
-  boxed y r names own t (done env u) e more x =
-      ap (λ all. is_some (box_of x all)) (sym (same_end ((y, r) ∷ env) own u t e)) ∙ first_box (bytes_eq y x) r (box_of x env) ∙ ap (λ b. bytes_eq y x || b) (more env u refl x)
-  boxed y r names own t (bad f u) e more x = cc
-
-  valued : (g : Given) (y : Name) (names : List Name) (own : Env) (s t : State H) (rest : State H → Ending H Env) →
-      then_do (value_given g s) (λ v. λ u. then_do (rest (pushed v u)) (λ env. give ((y, length u.store) ∷ env))) ≡ done own t →
-      ((before : State H) (env : Env) (u : State H) → rest before ≡ done env u → (x : Name) → is_some (box_of x env) ≡ binds x names) →
-      (x : Name) → is_some (box_of x own) ≡ (bytes_eq y x || binds x names)
-  valued (given v) y names own s t rest e more = boxed y (length s.store) names own t (rest (pushed v s)) e (more (pushed v s))
-  valued (rest_given fs) y names own s t rest e more = boxed y _ names own t (rest _) e (more _)
-
-  pub given_boxes : (bs : List (Name × Given)) (own : Env) (s t : State H) → boxes_of bs s ≡ done own t → (x : Name) → is_some (box_of x own) ≡ binds x (given_names bs)
-  given_boxes [] own s t e x = ap (λ all. is_some (box_of x all)) (sym (same_end [] own s t e))
-  given_boxes (b ∷ bs) own s t e x = valued b.1 b.0 (given_names bs) own s t (boxes_of bs) e (λ before env u. given_boxes bs env before u) x
+  -- where there is a value for each name, these are the names that have boxes
+  pub filled_boxes : (xs : List Name) (vs : List Value) (own : Env) (s t : State H) → length vs ≡ length xs → boxes_for xs vs s ≡ done own t → BoxesOf xs own
+  filled_boxes xs vs own s t n e x = own_names x own ∙ ap (binds x) (names_boxed xs vs own s t n e)
 
   block_boxes : (around env : Env) (t : State H) (names : List Name) (all : Ending H Env) → then_do all (λ own. give (own ++ around)) ≡ done env t →
       ((own : Env) (u : State H) → all ≡ done own u → BoxesOf names own) → (own : Env) × (env ≡ own ++ around) × BoxesOf names own
@@ -216,13 +149,13 @@ module _ {H : Type 0} where
       (λ all w h x. more_boxes names own all u w h x ∙ ap (λ b. b || binds x names) (more own u refl x) ∙ sym (binds_either x parameters names))
   parameter_boxes around env t parameters names (bad f u) e more = cc
 
-  argument_boxes : (p : Place) (around env : Env) (s t : State H) (parameters names : List Name) (o : Option (List (Name × Given))) →
-      then_do (or_fail kind.ArgBind p o s) (λ bs. λ u. then_do (boxes_of bs u) (λ own. λ v. then_do (with_boxes names own v) (λ all. give (all ++ around)))) ≡ done env t →
-      ((bs : List (Name × Given)) → o ≡ Some bs → given_names bs ≡ parameters) → (own : Env) × (env ≡ own ++ around) × BoxesOf (parameters ++ names) own
-  argument_boxes p around env s t parameters names None e more = cc
-  argument_boxes p around env s t parameters names (Some bs) e more =
-      parameter_boxes around env t parameters names (boxes_of bs s) e (λ own u h x. given_boxes bs own s u h x ∙ ap (binds x) (more bs refl))
+  value_boxes : (around env : Env) (t : State H) (parameters names : List Name) (first : Ending H (List Value)) →
+      then_do first (λ all. λ r. then_do (boxes_for parameters all r) (λ own. λ u. then_do (with_boxes names own u) (λ scope. give (scope ++ around)))) ≡ done env t →
+      ((values : List Value) (r : State H) → first ≡ done values r → length values ≡ length parameters) → (own : Env) × (env ≡ own ++ around) × BoxesOf (parameters ++ names) own
+  value_boxes around env t parameters names (done values r) e count =
+      parameter_boxes around env t parameters names (boxes_for parameters values r) e (λ own u. filled_boxes parameters values own r u (count values r refl))
+  value_boxes around env t parameters names (bad f r) e count = cc
 
   pub call_scopes : CallScopes H
-  call_scopes p ps names ds vs around env s t allowed e =
-      argument_boxes p around env s t (parameter_names ps) names (all_bound ps ds vs) e (λ bs. all_names_bound ps ds vs bs allowed)
+  call_scopes p ps names ds vs around env s t e =
+      value_boxes around env t (parameter_names ps) names (bound_values p ps ds vs s) e (λ values r. bound_count p ps ds vs values s r)

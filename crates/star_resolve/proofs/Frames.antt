@@ -4,20 +4,21 @@ use Rattle.std.proofs.lemmas.Slice.Eq.{bytes_eq-Decides}
 use Rattle.std.specs.List.{list_any, position, position_or_len, slice_get}
 use Rattle.std.specs.Prelude.{bytes_eq}
 use Rattle.code_spec.specs.Allowed.{are_distinct, has_name, parameter_names}
-use Rattle.star_spec.specs.Binding.{Given, given, rest_given, boxes_of, value_given}
 use Rattle.code_spec.specs.Code.{Name}
 use Rattle.code_spec.specs.Options.{further, or_else}
+use Rattle.star_spec.specs.Binding.{boxes_for}
 use Rattle.star_spec.specs.Names.{box_of, with_box, with_boxes}
-use Rattle.value_spec.specs.Outcomes.{State, Ending, done, bad, then_do, give, on_store}
+use Rattle.value_spec.specs.Outcomes.{State, done, then_do, on_store}
 use Rattle.code_spec.specs.Scopes.{Around, Use, Home, local, global, builtin, unknown, binds, home_by, home_of, outward}
 use Rattle.value_spec.specs.Store.{object, with_object}
-use Rattle.value_spec.specs.Values.{Env, of_box}
-use Rattle.star_resolve.specs.Environments.{Parts, box_at_home, has_box, joined, part_at}
+use Rattle.value_spec.specs.Values.{Env, Value, of_box}
+use Rattle.star_spec.proofs.BoundNames.{bound_count, names_boxed}
+use Rattle.star_resolve.specs.Environments.{BoxesOf, Parts, box_at_home, has_box, joined, part_at}
 use Rattle.star_resolve.specs.declared.levels.Variable.{Variable}
 use Rattle.star_resolve.specs.declared.levels.Variable.TheVariants as variable
 use Rattle.star_resolve.specs.Frames.{CallFrames, Frame, FrameOf, Frames, NamesAreVariables, NewFrames, OwnNamesHaveBoxes, is_own, added, box_in, boxed, counted, frame_at, unset_boxes, variable_box, with_unset}
 use Rattle.star_resolve.specs.Variables.{each_once, number_in, scope_at, variable_at, with_each, with_name}
-use Rattle.star_resolve.proofs.Boxes.{all_names_bound, binds_either, given_boxes, given_names, more_boxes, names_have_their_boxes, pushed}
+use Rattle.star_resolve.proofs.Boxes.{binds_either, filled_boxes, more_boxes, names_have_their_boxes}
 use Rattle.star_resolve.proofs.Found.{any_more, bytes_eq-sym, position_is}
 use Rattle.star_resolve.proofs.Sets.{position_by}
 
@@ -283,9 +284,6 @@ module _ {H : Type 0} where
   boxes_made [] known env s h = λ i. done env (record s { store = sym (append-nil s.store) i })
   boxes_made (y ∷ ys) known env s h = one_made y ys known env s (box_of y env) (list_any (bytes_eq y) known) (h y) (h y) h (boxes_made ys)
 
-  same_end : {A : Type 0} (a b : A) (s t : State H) → done a s ≡ done b t → a ≡ b
-  same_end a b s t e = cc
-
   pub new_frames : NewFrames H
   new_frames names s =
       let n = length s.store in
@@ -303,31 +301,23 @@ module _ {H : Type 0} where
 
   -- ---- calls
 
-  behind_box : (y : Name) (r : ℕ) (names : List Name) (own : Env) (t : State H) (rest : Ending H Env) → then_do rest (λ env. give ((y, r) ∷ env)) ≡ done own t →
-      ((env : Env) (u : State H) → rest ≡ done env u → each (λ (b : Name × ℕ). b.0) env ≡ names) → each (λ (b : Name × ℕ). b.0) own ≡ y ∷ names
-  behind_box y r names own t (done env u) e more = ap (each (λ (b : Name × ℕ). b.0)) (sym (same_end ((y, r) ∷ env) own u t e)) ∙ ap (λ l. y ∷ l) (more env u refl)
-  behind_box y r names own t (bad f u) e more = cc
-
-  behind_value : (g : Given) (y : Name) (names : List Name) (own : Env) (s t : State H) (rest : State H → Ending H Env) →
-      then_do (value_given g s) (λ v. λ u. then_do (rest (pushed v u)) (λ env. give ((y, length u.store) ∷ env))) ≡ done own t →
-      ((before : State H) (env : Env) (u : State H) → rest before ≡ done env u → each (λ (b : Name × ℕ). b.0) env ≡ names) → each (λ (b : Name × ℕ). b.0) own ≡ y ∷ names
-  behind_value (given v) y names own s t rest e more = behind_box y (length s.store) names own t (rest (pushed v s)) e (more (pushed v s))
-  behind_value (rest_given fs) y names own s t rest e more = behind_box y _ names own t (rest _) e (more _)
-
-  names_boxed : (bs : List (Name × Given)) (own : Env) (s t : State H) → boxes_of bs s ≡ done own t → each (λ (b : Name × ℕ). b.0) own ≡ given_names bs
-  names_boxed [] own s t e = ap (each (λ (b : Name × ℕ). b.0)) (sym (same_end [] own s t e))
-  names_boxed (b ∷ bs) own s t e = behind_value b.1 b.0 (given_names bs) own s t (boxes_of bs) e (λ before env u. names_boxed bs env before u)
+  -- where each of these names got the box of a value, the others get new boxes
+  pub others_made : (xs names : List Name) (values : List Value) (own : Env) (r t : State H) → length values ≡ length xs → boxes_for xs values r ≡ done own t →
+      with_boxes names own t ≡ done (boxed (length t.store) (added xs names) own) (with_unset (length (added xs names)) t)
+  others_made xs names values own r t count made = boxes_made names xs own t (λ x. filled_boxes xs values own r t count made x ∙ binds_any x xs)
 
   pub call_frames : CallFrames H
-  call_frames ps names ds vs bs own s t allowed distinct h made =
+  call_frames p ps names ds vs values own s r t distinct h made =
       let n = length t.store in
       let parameters = parameter_names ps in
       let others = added parameters names in
       let frame = each (λ (b : Name × ℕ). b.1) own in
-      let first : each (λ (b : Name × ℕ). b.0) own ≡ parameters = names_boxed bs own s t made ∙ all_names_bound ps ds vs bs allowed h in
-      let knows : Knows own parameters = λ x. given_boxes bs own s t made x ∙ ap (binds x) (all_names_bound ps ds vs bs allowed h) ∙ binds_any x parameters in
+      let count : length values ≡ length parameters = bound_count p ps ds vs values s r h in
+      let first : each (λ (b : Name × ℕ). b.0) own ≡ parameters = names_boxed parameters values own r t count made in
+      let filled : BoxesOf parameters own = filled_boxes parameters values own r t count made in
+      let knows : Knows own parameters = λ x. filled x ∙ binds_any x parameters in
       let once : each_once (parameters ++ names) ≡ parameters ++ others = once_both parameters names distinct in
-      let boxes : with_boxes names own t ≡ done (boxed n others own) (with_unset (length others) t) = boxes_made names parameters own t knows in (
+      let boxes : with_boxes names own t ≡ done (boxed n others own) (with_unset (length others) t) = others_made parameters names values own r t count made in (
         once,
         boxes,
         record {
@@ -337,6 +327,6 @@ module _ {H : Type 0} where
               ∙ by_place x (parameters ++ others) (frame ++ counted n (length others))
               ∙ ap (λ ns. box_in (frame ++ counted n (length others)) (position (bytes_eq x) ns)) (sym once);
           known = λ x. more_boxes names own (boxed n others own) t (with_unset (length others) t) boxes x
-              ∙ ap (λ b. b || binds x names) (given_boxes bs own s t made x ∙ ap (binds x) (all_names_bound ps ds vs bs allowed h)) ∙ sym (binds_either x parameters names);
+              ∙ ap (λ b. b || binds x names) (filled x) ∙ sym (binds_either x parameters names);
         },
       )

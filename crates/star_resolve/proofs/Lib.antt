@@ -1,4 +1,5 @@
 pub mod Announced
+pub mod Besides
 pub mod Binders
 pub mod Boxes
 pub mod Clauses

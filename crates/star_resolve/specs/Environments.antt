@@ -1,7 +1,7 @@
 -- The scopes of a name against the environments in which code is evaluated, which have a box for each name.
 use Rattle.std.specs.Prelude.{◌≡◌, ℕ, zero, suc, Bool, true, false, List, [], ◌∷◌, ◌++◌, Option, None, is_some}
 use Rattle.ytt_base.specs.declared.fault.Place.{Place}
-use Rattle.code_spec.specs.Allowed.{AllowedParameters, all_left, parameter_names}
+use Rattle.code_spec.specs.Allowed.{parameter_names}
 use Rattle.star_spec.specs.Binding.{scope_of_call}
 use Rattle.code_spec.specs.Code.{Name, Parameters}
 use Rattle.star_spec.specs.Names.{box_of, with_boxes}
@@ -52,9 +52,9 @@ NamesHaveTheirBoxes =
 abbrev pub NewScopes : Type 0 → Type 0
 NewScopes H = (names : List Name) (env : Env) (s t : State H) → with_boxes names [] s ≡ done env t → BoxesOf names env
 
--- A call of a function whose parameters stand as they may gets the boxes of its parameters and of the names that its block
--- binds, in front of those that stand around the function.
+-- A call of a function gets the boxes of its parameters and of the names that its block binds, in front of those that stand
+-- around the function.
 abbrev pub CallScopes : Type 0 → Type 0
 CallScopes H =
     (p : Place) (ps : Parameters) (names : List Name) (defaults : List Value) (given : Arguments) (around env : Env) (s t : State H) →
-    AllowedParameters all_left ps → scope_of_call p ps names defaults given around s ≡ done env t → (own : Env) × (env ≡ own ++ around) × BoxesOf (parameter_names ps ++ names) own
+    scope_of_call p ps names defaults given around s ≡ done env t → (own : Env) × (env ≡ own ++ around) × BoxesOf (parameter_names ps ++ names) own

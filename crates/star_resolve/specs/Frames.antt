@@ -2,8 +2,9 @@
 -- name: so that what is said of names holds of their variables.
 use Rattle.std.specs.Prelude.{◌≡◌, ℕ, zero, suc, Bool, true, false, List, [], ◌∷◌, ◌++◌, length, slice_get, Option, Some, None, is_some, bytes_eq, position, if◌then◌else◌, map as each, IsTrue}
 use Rattle.std.specs.List.{list_any}
-use Rattle.code_spec.specs.Allowed.{AllowedParameters, all_left, are_distinct, parameter_names}
-use Rattle.star_spec.specs.Binding.{Given, all_bound, boxes_of}
+use Rattle.ytt_base.specs.declared.fault.Place.{Place}
+use Rattle.code_spec.specs.Allowed.{are_distinct, parameter_names}
+use Rattle.star_spec.specs.Binding.{bound_values, boxes_for}
 use Rattle.code_spec.specs.Code.{Name, Parameters}
 use Rattle.star_spec.specs.Names.{box_of, with_boxes}
 use Rattle.value_spec.specs.Outcomes.{State, done, on_store}
@@ -96,12 +97,12 @@ NewFrames H =
     (names : List Name) (s : State H) → let first = length s.store in let each_name = each_once names in
     (with_boxes names [] s ≡ done (boxed first each_name []) (with_unset (length each_name) s)) × FrameOf names (boxed first each_name []) (counted first (length each_name))
 
--- A call of a function whose parameters stand as they may, each with its own name: these are its first variables, in their
--- order, with the boxes of what the arguments are bound to; and the others that its block binds get new boxes behind them.
+-- A call of a function whose parameters have each its own name: these are its first variables, in their order, with the boxes
+-- of the values that these get; and the others that its block binds get new boxes behind them.
 abbrev pub CallFrames : Type 0 → Type 0
 CallFrames H =
-    (ps : Parameters) (names : List Name) (defaults : List Value) (given : Arguments) (bs : List (Name × Given)) (own : Env) (s t : State H) →
-    AllowedParameters all_left ps → IsTrue (are_distinct (parameter_names ps)) → all_bound ps defaults given ≡ Some bs → boxes_of bs s ≡ done own t →
+    (p : Place) (ps : Parameters) (names : List Name) (defaults : List Value) (given : Arguments) (values : List Value) (own : Env) (s r t : State H) →
+    IsTrue (are_distinct (parameter_names ps)) → bound_values p ps defaults given s ≡ done values r → boxes_for (parameter_names ps) values r ≡ done own t →
     let first = length t.store in let others = added (parameter_names ps) names in
     (each_once (parameter_names ps ++ names) ≡ parameter_names ps ++ others)
     × (with_boxes names own t ≡ done (boxed first others own) (with_unset (length others) t))

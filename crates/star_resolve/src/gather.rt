@@ -4,7 +4,7 @@ ghost use Rattle.code_spec.specs.Names.{target_names};
 ghost use Rattle.star_resolve.specs.Gathered.{all_names, begun_by, bind, gather, gathered, gathered_of, merged, own_names, with_function};
 ghost use Rattle.star_tree.specs.Whole.{expr_of, instruction_of};
 
-use crate::names::{of_loaded, of_parameters, put_target};
+use crate::names::{of_loaded, parameter_names, put_target_names};
 use sqlite_items::Items;
 use star_tree::code::{Expr, Stmt};
 use std::alloc::Global;
@@ -71,7 +71,7 @@ fn begin(alloc: Global, stmt: &Stmt, blocks: &mut Blocks) -> Result<(), Memory>
 {
     match stmt {
         Stmt::If(..) | Stmt::For(..) => merge(blocks),
-        Stmt::Def(_, _, _, _, params) => end_function(of_parameters(alloc, params)?, blocks),
+        Stmt::Def(_, _, _, _, params) => end_function(parameter_names(alloc, params)?, blocks),
         Stmt::Close(_) => {
             blocks.inner.push(Items::new(alloc))?;
             Ok(())
@@ -85,7 +85,7 @@ fn of_target(alloc: Global, target: &Expr) -> Result<Texts, Memory>
     ensures { (file : ℕ) → IfOk result (λ names. names ≡ target_names (expr_of file target.now)) }
 {
     let mut names = Items::new(alloc);
-    put_target(target, &mut names)?;
+    put_target_names(target, &mut names)?;
     Ok(names)
 }
 

@@ -33,8 +33,8 @@ pub fn new_frames<H>()
     ensures { NewFrames H }
 {}
 
-/// The first variables of a function are its parameters, in their order, with the boxes of what arguments
-/// are bound to. The others get new boxes behind these, in the order of their numbers.
+/// The first variables of a function are its parameters, in their order, with the boxes of the values that
+/// these get. The others get new boxes behind these, in the order of their numbers.
 pub fn call_frames<H>()
     ensures { CallFrames H }
 {}

@@ -17,4 +17,5 @@ pub use laws::{
     call_frames, call_scopes, names_are_variables, names_have_their_boxes, new_frames, new_scopes,
 };
 pub use levels::Variable;
+pub use names::{clause_names, parameter_names, put_target_names};
 pub use scope::Scope;

@@ -20,7 +20,7 @@ fn put(name: &Text, names: &mut Texts) -> Result<(), Memory>
 
 /// Puts the names that a target binds behind the names.
 #[cycle(targets)]
-pub(crate) fn put_target(target: &Expr, names: &mut Texts) -> Result<(), Memory>
+pub fn put_target_names(target: &Expr, names: &mut Texts) -> Result<(), Memory>
     ensures { (file : ℕ) → OnOk result (names.new ≡ names.old ++ target_names (expr_of file target.now)) }
 {
     match target {
@@ -36,7 +36,7 @@ fn put_targets(targets: &Items<Expr>, names: &mut Texts) -> Result<(), Memory>
     ensures { (file : ℕ) → OnOk result (names.new ≡ names.old ++ targets_names (exprs_of file targets.now)) }
 {
     for target in targets.as_slice() {
-        put_target(target, names)?;
+        put_target_names(target, names)?;
     }
     Ok(())
 }
@@ -46,13 +46,13 @@ fn put_clause(clause: &Clause, names: &mut Texts) -> Result<(), Memory>
     ensures { (file : ℕ) → OnOk result (names.new ≡ names.old ++ clauses_names (clauses_of file (clause.now ∷ []))) }
 {
     match clause {
-        Clause::ForIn(target, _) => put_target(target.get(), names),
+        Clause::ForIn(target, _) => put_target_names(target.get(), names),
         Clause::OnlyIf(_) => Ok(()),
     }
 }
 
 /// The names that the clauses of a comprehension bind.
-pub(crate) fn of_clauses(alloc: Global, clauses: &Items<Clause>) -> Result<Texts, Memory>
+pub fn clause_names(alloc: Global, clauses: &Items<Clause>) -> Result<Texts, Memory>
     ensures { (file : ℕ) → IfOk result (λ names. names ≡ clauses_names (clauses_of file clauses.now)) }
 {
     let mut names = Items::new(alloc);
@@ -76,7 +76,7 @@ fn put_parameter(param: &Param, names: &mut Texts) -> Result<(), Memory>
 }
 
 /// The names of parameters.
-pub(crate) fn of_parameters(alloc: Global, params: &Params) -> Result<Texts, Memory>
+pub fn parameter_names(alloc: Global, params: &Params) -> Result<Texts, Memory>
     ensures { (file : ℕ) → IfOk result (λ names. names ≡ parameter_names (parameters_of file params.now)) }
 {
     let mut names = Items::new(alloc);

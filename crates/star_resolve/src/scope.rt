@@ -1,7 +1,7 @@
 // The names of a scope, as a set in their order.
 ghost use Rattle.std.specs.Prelude.{◌≡◌, [], bytes_eq, length, position, slice_get, IfNone, IfOk, IfSome, None, OnOk, Some};
 ghost use Rattle.star_spec.specs.Names.{box_of};
-ghost use Rattle.star_resolve.specs.Frames.{boxed};
+ghost use Rattle.star_resolve.specs.Frames.{added, boxed};
 ghost use Rattle.star_resolve.specs.Variables.{each_once, with_name};
 
 use indexmap::IndexSet;
@@ -43,12 +43,26 @@ impl Scope {
     }
 
     /// The scope that binds these names.
-    pub(crate) fn of(alloc: Global, names: &Texts) -> Result<Scope, Memory>
+    pub fn of(alloc: Global, names: &Texts) -> Result<Scope, Memory>
         ensures { IfOk result (λ scope. scope ≡ each_once names.now) }
     {
         let mut scope = Scope::new(alloc);
         for name in names.as_slice() {
             scope.add(alloc, name)?;
+        }
+        Ok(scope)
+    }
+
+    /// The scope that binds those of the names that are not among the known ones.
+    pub fn besides(alloc: Global, known: &Texts, names: &Texts) -> Result<Scope, Memory>
+        ensures { IfOk result (λ scope. scope ≡ added known.now names.now) }
+    {
+        let among = Scope::of(alloc, known)?;
+        let mut scope = Scope::new(alloc);
+        for name in names.as_slice() {
+            if among.number(name).is_none() {
+                scope.add(alloc, name)?;
+            }
         }
         Ok(scope)
     }

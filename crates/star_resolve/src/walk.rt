@@ -8,7 +8,7 @@ ghost use Rattle.star_tree.specs.Listed.{clauses_of, entries_of, optional_of, pi
 ghost use Rattle.star_tree.specs.Whole.{expr_of, exprs_of, parameters_of};
 
 use crate::event::{Event, Events, put_name};
-use crate::names;
+use crate::names::{clause_names, parameter_names};
 use crate::scopes::size_of;
 use sqlite_items::{Boxed, Items};
 use star_tree::code::{Clause, Entry, Expr, Param, Params, Piece};
@@ -58,7 +58,7 @@ pub(crate) fn put_expr(
             put_optional(alloc, file, step, events)
         }
         Expr::Lambda(_, _, params, body) => {
-            let bound = names::of_parameters(alloc, params)?;
+            let bound = parameter_names(alloc, params)?;
             put_function(alloc, &bound, events)?;
             put_params(alloc, file, params, events)?;
             events.push(Event::Enter(bound))?;
@@ -92,7 +92,7 @@ pub(crate) fn put_function(alloc: Global, names: &Texts, events: &mut Events) ->
 fn put_enter(alloc: Global, clauses: &Items<Clause>, events: &mut Events) -> Result<(), Memory>
     ensures { (file : ℕ) → OnOk result (events.new ≡ events.old ++ event.Enter (clauses_names (clauses_of file clauses.now)) ∷ []) }
 {
-    events.push(Event::Enter(names::of_clauses(alloc, clauses)?))?;
+    events.push(Event::Enter(clause_names(alloc, clauses)?))?;
     Ok(())
 }
 

@@ -3,7 +3,8 @@ use Rattle.std.proofs.Common.{◌≡◌, ℕ, zero, suc, Bool, true, false, ◌|
 use Rattle.ytt_base.specs.declared.fault.Fault.{Fault}
 use Rattle.ytt_base.specs.declared.fault.FaultKind.TheVariants as kind
 use Rattle.ytt_base.specs.declared.fault.Place.{Place}
-use Rattle.star_spec.specs.Binding.{field_of, without_field, has_field, has_twice, or_default, Given, given, rest_given, in_front, unless_named, bound, all_bound, text_pairs, value_given, boxes_of, scope_of_call}
+use Rattle.code_spec.specs.Allowed.{parameter_names}
+use Rattle.star_spec.specs.Binding.{field_of, without_field, has_field, has_twice, or_default, Given, given, rest_given, in_front, rest_in_front, unless_named, bound, all_bound, text_pairs, value_given, values_given, bound_values, boxes_for, scope_of_call}
 use Rattle.star_spec.specs.Calls.{Code, Table, parameters_of, names_of, Enter, enter_code, Reply, answer, call_then, Host, no_natives, resumed_with, after_reply, native_call, call_by_kind, no_keys, keys_by, with_keys, any_call, call_with_natives, function_of, function_call, too_deep, apply}
 use Rattle.code_spec.specs.Code.{Name, Expr, Exprs, BinaryOperator, Parameters, no_parameters, required, defaulted, bare_star, starred_parameter, double_starred_parameter, Statement, evaluate, assign, augment, load, return, break, continue, pass}
 use Rattle.star_spec.specs.Eval.{starlark}
@@ -82,6 +83,10 @@ front_held x None b h k = tt
 front_held x (Some v) None h k = tt
 front_held x (Some v) (Some bs) h k = (h, k)
 
+rest_held : (x : Name) (fs : Fields) (b : Option (List (Name × Given))) → HeldGiven (rest_given fs) → HeldBound b → HeldBound (rest_in_front x fs b)
+rest_held x fs None h k = tt
+rest_held x fs (Some bs) h k = (h, k)
+
 one_if : (b : Bool) (x y : Option Value) → HeldOne x → HeldOne y → HeldOne (if b then x else y)
 one_if true x y h k = h
 one_if false x y h k = k
@@ -148,7 +153,7 @@ bound_held (bare_star ps) ds (a_value v vs) fs d h k e = tt
 bound_held (bare_star ps) ds no_values fs d h k e = bound_held ps ds no_values fs d h k e
 bound_held (starred_parameter x ps) ds vs fs d h k e = front_held x (Some (tuple_value vs)) (bound ps ds no_values fs) h (bound_held ps ds no_values fs d tt k e)
 bound_held (double_starred_parameter x ps) ds (a_value v vs) fs d h k e = tt
-bound_held (double_starred_parameter x ps) ds no_values fs d h k e = ((k, e), tt)
+bound_held (double_starred_parameter x ps) ds no_values fs d h k e = rest_held x fs (bound ps ds no_values no_fields) (k, e) (bound_held ps ds no_values no_fields d tt tt refl)
 
 bound_if : (b : Bool) (o : Option (List (Name × Given))) → (b ≡ false → HeldBound o) → HeldBound (if b then None else o)
 bound_if true o h = tt
@@ -169,18 +174,25 @@ given_keeps : {H : Type 0} (g : Given) → HeldGiven g → Keeps {H = H} HeldVal
 given_keeps (given v) h = keeps_give v h
 given_keeps (rest_given fs) h = keeps_then (keeps_new_object (of_dict (text_pairs fs)) (texts_held fs h.0 h.1)) (λ r u. keeps_give (dict_value r) tt)
 
-given_boxes : {H : Type 0} (bs : List (Name × Given)) → AllGiven bs → Keeps {H = H} Anything (boxes_of bs)
-given_boxes [] h = keeps_give [] tt
-given_boxes (b ∷ bs) h = keeps_then (given_keeps b.1 h.0) (λ v k. keeps_then (keeps_new_object (of_box (Some v)) k) (λ r u. keeps_then (given_boxes bs h.1) (λ env t. keeps_give ((b.0, r) ∷ env) tt)))
+values_keep : {H : Type 0} (bs : List (Name × Given)) → AllGiven bs → Keeps {H = H} HeldList (values_given bs)
+values_keep [] h = keeps_give [] tt
+values_keep (b ∷ bs) h = keeps_then (given_keeps b.1 h.0) (λ v k. keeps_then (values_keep bs h.1) (λ vs j. keeps_give (v ∷ vs) (k, j)))
 
 bound_found : (o : Option (List (Name × Given))) (bs : List (Name × Given)) → HeldBound o → o ≡ Some bs → AllGiven bs
 bound_found None bs h e = cc
 bound_found (Some cs) bs h e = let same : cs ≡ bs = cc in rw (← same) h
 
+pub bound_keeps : {H : Type 0} (p : Place) (ps : Parameters) (ds : List Value) (vs : Arguments) → HeldList ds → HeldArguments vs → Keeps {H = H} HeldList (bound_values p ps ds vs)
+bound_keeps p ps ds vs d h = keeps_then (keeps_or_fail kind.ArgBind p (all_bound ps ds vs) (λ bs e. bound_found (all_bound ps ds vs) bs (arguments_bound ps ds vs d h) e)) (λ bs k. values_keep bs k)
+
+pub filled_keep : {H : Type 0} (xs : List Name) (vs : List Value) → HeldList vs → Keeps {H = H} Anything (boxes_for xs vs)
+filled_keep [] vs h = keeps_give [] tt
+filled_keep (x ∷ xs) [] h = keeps_give [] tt
+filled_keep (x ∷ xs) (v ∷ vs) h = keeps_then (keeps_new_object (of_box (Some v)) h.0) (λ r u. keeps_then (filled_keep xs vs h.1) (λ env t. keeps_give ((x, r) ∷ env) tt))
+
 pub scope_keeps : {H : Type 0} (p : Place) (ps : Parameters) (names : List Name) (ds : List Value) (vs : Arguments) (env : Env) → HeldList ds → HeldArguments vs → Keeps {H = H} Anything (scope_of_call p ps names ds vs env)
 scope_keeps p ps names ds vs env d h =
-    keeps_then (keeps_or_fail kind.ArgBind p (all_bound ps ds vs) (λ bs e. bound_found (all_bound ps ds vs) bs (arguments_bound ps ds vs d h) e))
-    (λ bs k. keeps_then (given_boxes bs k) (λ own u. keeps_then (boxes_keep names own) (λ all t. keeps_give (all ++ env) tt)))
+    keeps_then (bound_keeps p ps ds vs d h) (λ all k. keeps_then (filled_keep (parameter_names ps) all k) (λ own u. keeps_then (boxes_keep names own) (λ scope t. keeps_give (scope ++ env) tt)))
 
 pub starlark_keeps : {H : Type 0} → LanguageKeeps {H = H} starlark
 starlark_keeps = record {

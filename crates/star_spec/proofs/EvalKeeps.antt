@@ -10,7 +10,7 @@ use Rattle.code_spec.specs.Code.{Name, BinaryOperator, addition, Expr, Exprs, no
 use Rattle.star_spec.specs.Eval.{truth_of, members_of, need_key, display_pair, turn_pair, and_values, and_fields, with_values, with_fields, field_in_front, as_fields, spread_fields, built_so_far, eval, eval_all, eval_arguments, eval_optional, eval_entries, eval_pieces, comprehend, clauses_in_turn, default_values, assign_to, assign_each, augment_to}
 use Rattle.star_spec.specs.Flow.{Flow, on, out, Part, next_turn, turns, walk, over_members}
 use Rattle.star_spec.specs.Held.{HeldValue, HeldValues, HeldFields, HeldExpr, HeldExprs, HeldOptional, HeldEntries, HeldClauses, HeldPieces, HeldParameters, HeldList, HeldPairs, HeldIfAny, HeldArguments}
-use Rattle.value_spec.specs.Keys.{key_offence, key_cost, place_of_key}
+use Rattle.value_spec.specs.Keys.{key_offence, place_of_key}
 use Rattle.star_spec.specs.Language.{Call, breaks, continues, returns}
 use Rattle.value_spec.specs.Members.{walked_in, truth_in}
 use Rattle.star_spec.specs.Names.{constant, box_of, with_box, with_boxes, value_or_unset, unbound, read_name, fill_box, write_name}
@@ -18,10 +18,10 @@ use Rattle.code_spec.specs.Names.{own_functions, is_among, target_names, clauses
 use Rattle.value_spec.specs.Outcomes.{Computation, ◌>>=◌}
 use Rattle.value_spec.specs.Store.{object_at, put_pair, with_contents, end_loop, box_at}
 use Rattle.value_spec.specs.Values.{Value, none_value, bool_value, int_value, text_value, tuple_value, dict_value, function_value, Values, no_values, values_from, Fields, no_fields, a_field, Arguments, arguments, Env, of_box, of_function}
-use Rattle.star_spec.proofs.Keeping.{Keeps, Anything, keeps_then, keeps_give, keeps_fail, keeps_or_fail, keeps_ill_formed, keeps_need, keeps_steps, keeps_paid, keeps_if, keeps_reads, keeps_new_object, object_held, box_held, change_held, loops_held, kept_finally}
+use Rattle.star_spec.proofs.Keeping.{Keeps, Anything, keeps_then, keeps_give, keeps_fail, keeps_or_fail, keeps_ill_formed, keeps_need, keeps_paid, keeps_if, keeps_reads, keeps_new_object, object_held, box_held, change_held, loops_held, kept_finally}
 use Rattle.star_spec.proofs.IndexKeeps.{index_keeps, slice_keeps, set_index_keeps}
 use Rattle.star_spec.proofs.MembersHeld.{from_values, more_held, members_keep, pairs_keep, put_pair_held, new_list_keeps, new_dict_keeps}
-use Rattle.star_spec.proofs.RowsHeld.{unary_held, binary_held, augmented_held}
+use Rattle.star_spec.proofs.RowsHeld.{unary_held, binary_held, augmented_held, measured_keeps}
 
 -- a call of a value gives what the program holds
 pub record CallKeeps {H : Type 0} (call : Call H) : Type 0 where
@@ -60,7 +60,7 @@ display_keeps : {H : Type 0} (p : Place) (ps : List (Value × Value)) (k v : Val
 display_keeps p ps k v h key value = keeps_then (key_keeps p (key_offence max_depth k)) (λ u g. keeps_if (is_some (place_of_key k ps)) (λ e. keeps_fail kind.ValueKind p []) (λ e. keeps_give (put_pair k v ps) (put_pair_held k v ps key value h)))
 
 turn_keeps : {H : Type 0} (p : Place) (ps : List (Value × Value)) (k v : Value) → HeldPairs ps → HeldValue k → HeldValue v → Keeps {H = H} HeldPairs (turn_pair p ps k v)
-turn_keeps p ps k v h key value = keeps_then (key_keeps p (key_offence max_depth k)) (λ u g. keeps_then (keeps_steps (key_cost k) p) (λ w i. keeps_give (put_pair k v ps) (put_pair_held k v ps key value h)))
+turn_keeps p ps k v h key value = keeps_then (measured_keeps 5 p k) (λ u g. keeps_give (put_pair k v ps) (put_pair_held k v ps key value h))
 
 abbrev HeldSomeFields : Option Fields → Type 0
 HeldSomeFields None = Unit {0}

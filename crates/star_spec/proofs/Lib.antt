@@ -1,3 +1,4 @@
+pub mod BoundNames
 pub mod CallsKeep
 pub mod CutsHeld
 pub mod EvalKeeps

@@ -2,6 +2,7 @@
 use Rattle.std.specs.Prelude.{Bool, false, ◌||◌, List, [], ◌∷◌, ◌++◌, Option, Some, None, if◌then◌else◌, bytes_eq}
 use Rattle.ytt_base.specs.declared.fault.FaultKind.TheVariants as kind
 use Rattle.ytt_base.specs.declared.fault.Place.{Place}
+use Rattle.code_spec.specs.Allowed.{parameter_names}
 use Rattle.code_spec.specs.Code.{Name, Parameters, no_parameters, required, defaulted, bare_star, starred_parameter, double_starred_parameter}
 use Rattle.value_spec.specs.Values.{Value, text_value, tuple_value, dict_value, Values, no_values, a_value, Fields, no_fields, a_field, Arguments, arguments, Env, of_dict, of_box}
 use Rattle.value_spec.specs.Outcomes.{Computation, give, or_fail, new_object, ◌>>=◌}
@@ -41,12 +42,18 @@ abbrev pub in_front : Name → Option Value → Option (List (Name × Given)) �
 in_front x (Some v) (Some more) = Some ((x, given v) ∷ more)
 in_front x _ _ = None
 
+-- the arguments by name that are left, in front
+abbrev pub rest_in_front : Name → Fields → Option (List (Name × Given)) → Option (List (Name × Given))
+rest_in_front x fs None = None
+rest_in_front x fs (Some more) = Some ((x, rest_given fs) ∷ more)
+
 -- an argument by position, which none by name may repeat
 abbrev pub unless_named : Name → Value → Fields → Option Value
 unless_named x v fs = if has_field x fs then None else Some v
 
 -- The parameters with what they get: arguments by position first, then those by name, then defaults; nothing where one
--- gets none or an argument has no parameter. A star takes the positions that are left, or none may be left.
+-- gets none or an argument has no parameter. A star takes the positions that are left, or none may be left; two stars take
+-- the arguments by name that are left, and what stands behind them gets none.
 abbrev pub bound : Parameters → (defaults : List Value) → Values → Fields → Option (List (Name × Given))
 bound no_parameters ds no_values no_fields = Some []
 bound no_parameters ds _ _ = None
@@ -59,7 +66,7 @@ bound (bare_star ps) ds (a_value v vs) fs = None
 bound (bare_star ps) ds no_values fs = bound ps ds no_values fs
 bound (starred_parameter x ps) ds vs fs = in_front x (Some (tuple_value vs)) (bound ps ds no_values fs)
 bound (double_starred_parameter x ps) ds (a_value v vs) fs = None
-bound (double_starred_parameter x ps) ds no_values fs = Some ((x, rest_given fs) ∷ [])
+bound (double_starred_parameter x ps) ds no_values fs = rest_in_front x fs (bound ps ds no_values no_fields)
 
 -- no name may be given twice
 abbrev pub all_bound : Parameters → (defaults : List Value) → Arguments → Option (List (Name × Given))
@@ -75,19 +82,30 @@ abbrev pub value_given : {H : Type 0} → Given → Computation H Value
 value_given (given v) = give v
 value_given (rest_given fs) = new_object (of_dict (text_pairs fs)) >>= λ r. give (dict_value r)
 
--- a box for each
-abbrev pub boxes_of : {H : Type 0} → List (Name × Given) → Computation H Env
-boxes_of [] = give []
-boxes_of (b ∷ bs) = do
+-- the values that parameters get, in their order; the arguments by name that are left are a new dict
+abbrev pub values_given : {H : Type 0} → List (Name × Given) → Computation H (List Value)
+values_given [] = give []
+values_given (b ∷ bs) = do
   v ← value_given b.1
+  vs ← values_given bs
+  give (v ∷ vs)
+
+-- the values that the parameters of a call get
+abbrev pub bound_values : {H : Type 0} → Place → Parameters → (defaults : List Value) → Arguments → Computation H (List Value)
+bound_values p ps ds vs = or_fail kind.ArgBind p (all_bound ps ds vs) >>= values_given
+
+-- a new box for each name, with its value
+abbrev pub boxes_for : {H : Type 0} → List Name → List Value → Computation H Env
+boxes_for (x ∷ xs) (v ∷ vs) = do
   r ← new_object (of_box (Some v))
-  env ← boxes_of bs
-  give ((b.0, r) ∷ env)
+  env ← boxes_for xs vs
+  give ((x, r) ∷ env)
+boxes_for _ _ = give []
 
 -- the scope of a call: boxes for its parameters and for the names that its block binds, before the function's own scope
 abbrev pub scope_of_call : {H : Type 0} → Place → Parameters → (names : List Name) → (defaults : List Value) → Arguments → Env → Computation H Env
 scope_of_call p ps names ds vs env = do
-  bs ← or_fail kind.ArgBind p (all_bound ps ds vs)
-  own ← boxes_of bs
-  all ← with_boxes names own
-  give (all ++ env)
+  all ← bound_values p ps ds vs
+  own ← boxes_for (parameter_names ps) all
+  scope ← with_boxes names own
+  give (scope ++ env)

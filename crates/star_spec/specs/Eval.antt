@@ -7,12 +7,13 @@ use Rattle.ytt_base.specs.Trees.{max_depth}
 use Rattle.code_spec.specs.Code as code
 use Rattle.code_spec.specs.Code.{Name, BinaryOperator, addition, Expr, Exprs, no_exprs, an_expr, OptionalExpr, absent, present, Entries, no_entries, an_entry, Clauses, no_clauses, for_clause, if_clause, Pieces, no_pieces, text_piece, expr_piece, Parameters, no_parameters, required, defaulted, bare_star, starred_parameter, double_starred_parameter}
 use Rattle.value_spec.specs.Values.{Value, none_value, int_value, text_value, tuple_value, dict_value, Values, no_values, a_value, values_from, Fields, no_fields, a_field, Arguments, arguments, Env, of_function, function_value}
-use Rattle.value_spec.specs.Outcomes.{Computation, paid, take_steps, give, fail, or_fail, need, not_built, ill_formed, reads, new_object, new_list, new_dict, ◌>>=◌}
-use Rattle.value_spec.specs.Keys.{key_offence, key_cost, place_of_key}
+use Rattle.value_spec.specs.Outcomes.{Computation, paid, give, fail, or_fail, need, not_built, ill_formed, reads, new_object, new_list, new_dict, ◌>>=◌}
+use Rattle.value_spec.specs.Keys.{key_offence, place_of_key}
 use Rattle.value_spec.specs.Members.{members_in, truth_in}
 use Rattle.star_spec.specs.Names.{box_of, with_boxes, read_name, write_name}
 use Rattle.code_spec.specs.Names.{target_names, clauses_names}
 use Rattle.operator_spec.specs.Operators.{unary_row, binary_row, augment_row}
+use Rattle.operator_spec.specs.Order.{key_sized}
 use Rattle.index_spec.specs.Index.{index_row, set_index_row}
 use Rattle.index_spec.specs.Slices.{slice_row}
 use Rattle.value_spec.specs.Store.{pairs_at, put_pair}
@@ -49,12 +50,9 @@ display_pair p ps k v = do
   u ← need_key p (key_offence max_depth k)
   if is_some (place_of_key k ps) then fail kind.ValueKind p else give (put_pair k v ps)
 
--- one more pair of a dict comprehension; a later value stands in the earlier place
+-- one more pair of a dict comprehension, which takes the size of its key; a later value stands in the earlier place
 abbrev pub turn_pair : {H : Type 0} → Place → List (Value × Value) → (key value : Value) → Computation H (List (Value × Value))
-turn_pair p ps k v = do
-  u ← need_key p (key_offence max_depth k)
-  w ← take_steps (key_cost k) p
-  give (put_pair k v ps)
+turn_pair p ps k v = key_sized p k >>= λ u. give (put_pair k v ps)
 
 -- ---- arguments
 

@@ -4,6 +4,8 @@ pub mod Follows
 pub mod Functions
 pub mod Leaving
 pub mod Loads
+pub mod NumbersHeld
+pub mod NumbersLoad
 pub mod Runs
 pub mod TakeKeeps
 pub mod Theorem

@@ -3,9 +3,11 @@ use Rattle.std.proofs.Common.{◌≡◌, ◌++◌, refl, sym, ap, ◌∙◌, app
 use Rattle.ytt_base.specs.declared.fault.Place.{Place}
 use Rattle.template_spec.specs.Template.{Notes, no_notes, note, Key, no_key, written_key, key_from, Item, node, code, if_block, for_block, def_block, Items, no_items, an_item, Content, written_value, value_from, pairs, elements}
 use Rattle.code_spec.specs.Program.{node_end}
-use Rattle.code_spec.specs.Blocks.{op_part, Ops, no_ops, an_op}
+use Rattle.code_spec.specs.Blocks.{op_part, Ops, no_ops, an_op, blocks}
+use Rattle.template_spec.specs.Compiled.{compiled}
 use Rattle.template_meaning.specs.Files.{item_loads, items_loads, content_loads, ops_loads}
-use Rattle.template_spec.proofs.Nested.{notes_ops, key_ops, item_ops, items_ops, content_ops}
+use Rattle.template_meaning.specs.Meaning.{loads_in}
+use Rattle.template_spec.proofs.Nested.{blocks_of, notes_ops, key_ops, item_ops, items_ops, content_ops}
 
 notes_load : (ns : Notes) (os : Ops) → ops_loads (notes_ops ns os) ≡ ops_loads os
 notes_load no_notes os = refl
@@ -38,5 +40,6 @@ mutual
   content_load p (pairs is) os = items_load is os
   content_load p (elements is) os = items_load is os
 
-pub same_loads : (t : Items) → ops_loads (items_ops t no_ops) ≡ items_loads t
-same_loads t = items_load t no_ops ∙ append-nil (items_loads t)
+-- so do its blocks
+pub loads_agree : (t : Items) → loads_in (blocks (compiled t)) ≡ items_loads t
+loads_agree t = ap loads_in (blocks_of t) ∙ items_load t no_ops ∙ append-nil (items_loads t)

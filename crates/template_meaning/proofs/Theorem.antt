@@ -15,7 +15,7 @@ use Rattle.template_meaning.specs.Build.{builds, built}
 use Rattle.template_meaning.specs.Run.{runs}
 use Rattle.template_meaning.specs.Calls.{result_of, level_of, enter_items, enter_ops, bottom, bottom_flow, template_table, program_table, template_calls, program_calls}
 use Rattle.template_meaning.specs.Files.{items_loads, all_loads, bind_loaded, ended, File, Shelf, loader_of}
-use Rattle.template_meaning.specs.Meaning.{run_blocks, Run, RunFile, names_in, loads_in, build_loaded, AllStand, Agrees, FilesAgree, LoadsAgree}
+use Rattle.template_meaning.specs.Meaning.{run_blocks, Run, RunFile, names_in, build_loaded, AllStand, Agrees, FilesAgree, LoadsAgree}
 use Rattle.code_spec.specs.Scopes.{ops_names}
 use Rattle.template_spec.specs.Names.{items_names}
 use Rattle.template_spec.specs.ControlWords.{free, WordsStand}
@@ -23,7 +23,7 @@ use Rattle.value_spec.proofs.Computations.{then_ext}
 use Rattle.template_meaning.proofs.Follows.{mapped}
 use Rattle.template_meaning.proofs.Runs.{onto, as_block, items_runs}
 use Rattle.template_spec.proofs.NamesAgree.{same_names}
-use Rattle.template_meaning.proofs.Loads.{same_loads}
+use Rattle.template_meaning.proofs.Loads.{loads_agree}
 use Rattle.template_spec.proofs.Nested.{to_ops, blocks_of}
 use Rattle.template_meaning.proofs.Functions.{lifted, tables_agree, IfFound, items_found}
 
@@ -67,12 +67,9 @@ module _ {H : Type 0} (language : Language H) where
       ∙ (λ i. run_blocks language (calls_agree host files placed d i) (blocks_of t i) env s)
       ∙ block_agrees (template_calls language host files d) 0 built t env s h
 
-  -- the blocks of a compiled template bind the names of the template, and load what it loads
+  -- the blocks of a compiled template bind the names of the template
   names_agree : (t : Items) → names_in (blocks (compiled t)) ≡ items_names t
   names_agree t = ap names_in (blocks_of t) ∙ same_names t
-
-  loads_agree : (t : Items) → loads_in (blocks (compiled t)) ≡ items_loads t
-  loads_agree t = ap loads_in (blocks_of t) ∙ same_loads t
 
   pub files_agree : (host : Host H) (program : List Instruction) (t : Items) → program ≡ compiled t → WordsStand free t → FilesAgree language host program t
   files_agree host program t e h files placed loader d s =

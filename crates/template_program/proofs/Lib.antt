@@ -1,7 +1,7 @@
-pub mod Binding
 pub mod Emitting
 pub mod Finding
 pub mod Items
+pub mod Loading
 pub mod Resolving
 pub mod Telling
 pub mod Turns

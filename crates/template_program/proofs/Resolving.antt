@@ -11,11 +11,14 @@ use Rattle.star_resolve.specs.Variables.{IfFault, fault_of_use, program_fault}
 use Rattle.template_spec.specs.Compiled.{compiled}
 use Rattle.template_spec.specs.Names.{items_names}
 use Rattle.code_spec.specs.Names.{language_names}
+use Rattle.template_spec.specs.Numbered.{numbered, numbered_program}
 use Rattle.template_spec.specs.Passes.{bound, unless_unknown}
 use Rattle.template_spec.specs.Template.{Items}
 use Rattle.template_spec.specs.Uses.{items_uses}
 use Rattle.template_spec.proofs.NamesAgree.{same_names}
 use Rattle.template_spec.proofs.Nested.{compiled_blocks, items_ops}
+use Rattle.template_spec.proofs.Numbers.{numbered_compiled}
+use Rattle.template_spec.proofs.NumbersKeep.{numbered_names}
 use Rattle.template_spec.proofs.UsesAgree.{same_uses}
 
 blocks_of : (t : Items) → blocks (compiled t) ≡ Some (items_ops t no_ops)
@@ -27,6 +30,14 @@ has_blocks t is e = subst IsSome (sym (ap blocks e ∙ blocks_of t)) refl
 
 pub names_of : (t : Items) → program_names (compiled t) ≡ items_names t
 names_of t = ap names_of_file (blocks_of t) ∙ same_names t
+
+-- numbers change none of them
+pub numbers_compile : (t : Items) (is js : List Instruction) → is ≡ compiled t → js ≡ numbered_program is → js ≡ compiled (numbered t)
+numbers_compile t is js e n = n ∙ ap numbered_program e ∙ numbered_compiled t
+
+pub numbers_name : (t : Items) (is js : List Instruction) → is ≡ compiled t → js ≡ numbered_program is → program_names is ≡ program_names js
+numbers_name t is js e n =
+    ap program_names e ∙ names_of t ∙ sym (ap program_names (numbers_compile t is js e n) ∙ names_of (numbered t) ∙ numbered_names t)
 
 uses_of : (t : Items) → program_uses (compiled t) ≡ items_uses [] t
 uses_of t = ap uses_of_file (blocks_of t) ∙ same_uses t

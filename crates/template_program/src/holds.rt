@@ -10,7 +10,7 @@ use template_tree::{TBranches, TContent, TItem, TItems, TNode};
 
 /// Whether an item stands among these, outside the blocks of functions.
 #[cycle(nodes)]
-fn has_nodes(items: &TItems) -> bool
+pub(crate) fn has_nodes(items: &TItems) -> bool
     ensures { (file : ℕ) → result ≡ has_nodes (items_of file items.now) }
 {
     for item in items.as_slice() {

@@ -1,27 +1,29 @@
-// The passes over a template: its program with the variables of its names, and then what of it isn't built.
+// The passes over a template: its program with the variables of its names, what of it isn't built, and then the numbers of its
+// functions.
 ghost use Rattle.std.specs.Prelude.{◌≡◌, [], IfOk};
 ghost use Rattle.star_resolve.specs.Variables.{each_once};
 ghost use Rattle.star_spec.specs.Calls.{Host};
 ghost use Rattle.star_spec.specs.Eval.{starlark};
+ghost use Rattle.code_spec.specs.Blocks.{blocks};
 ghost use Rattle.code_spec.specs.Scopes.{program_names};
-ghost use Rattle.code_spec.specs.Unbuilt.{unbuilt_code};
 ghost use Rattle.star_tree.specs.Whole.{program_of};
 ghost use Rattle.template_tree.specs.View.{template_of};
 ghost use Rattle.template_spec.specs.Compiled.{compiled};
 ghost use Rattle.template_spec.specs.ControlWords.{WordsStand, free};
-ghost use Rattle.template_meaning.specs.Meaning.{Agrees};
-ghost use Rattle.template_spec.specs.Names.{items_names};
+ghost use Rattle.template_spec.specs.Numbered.{numbered};
+ghost use Rattle.template_meaning.specs.Meaning.{Agrees, loads_in};
 ghost use Rattle.template_spec.specs.Passes.{all_built, bound};
 ghost use Rattle.ytt_base.specs.Outcomes.{Gives, and_then};
 
 use crate::program::program;
 use crate::unbuilt::first_unbuilt;
+use star_number::numbered;
 use star_resolve::{Resolved, resolve};
 use star_tree::names::language_names;
 use std::alloc::Global;
 use template_tree::Template;
 use ytt_base::fault::{Fault, FaultKind, Stop};
-use ytt_base::text::Text;
+use ytt_base::text::{Memory, Text};
 
 /// The program of a template with the variable of each of its names, where each is bound, in the template
 /// or by the language. The first in text order that is not is a fault of the kind NameUnknown at its place,
@@ -38,24 +40,41 @@ fn bound(alloc: Global, template: &Template) -> Result<Resolved, Stop>
     Ok(resolved)
 }
 
+/// The program of a template with the number of each of its functions. Numbers change none of the names.
+fn with_numbers(alloc: Global, template: &Template, resolved: Resolved) -> Result<Resolved, Memory>
+    requires compiles { program_of resolved.program ≡ compiled (template_of template.now) }
+    requires names { resolved.globals ≡ each_once (program_names (program_of resolved.program)) }
+    ensures code { IfOk result (λ r. program_of r.program ≡ compiled (numbered (template_of template.now))) }
+    ensures globals { IfOk result (λ r. r.globals ≡ each_once (program_names (program_of r.program))) }
+    ensures file { IfOk result (λ r. r.program.file ≡ resolved.program.file) }
+{
+    let program = numbered(alloc, &resolved.program)?;
+    Ok(Resolved {
+        program,
+        variables: resolved.variables,
+        globals: resolved.globals,
+        functions: resolved.functions,
+    })
+}
+
 /// The program of a template, in the template's file: its statements, the heads and ends of its blocks, and
 /// a part of a node for each start, note, key, value and end, in the order of the text; with the variable of
-/// each of its names.
+/// each of its names, and the number of each of its functions.
 ///
 /// The first name in text order that is bound neither in the template nor by the language is a fault of the
 /// kind NameUnknown at its place, with the name as the detail. Behind that, where something isn't built, the
 /// first such place at the least line is a fault of the kind NotBuilt. Want of memory is `Stop::Memory`.
 pub fn compile(alloc: Global, template: &Template) -> Result<Resolved, Stop>
     ensures passes { Gives (λ r. template_of template.now) result (and_then all_built (bound (template_of template.now))) }
-    ensures code { IfOk result (λ r. program_of r.program ≡ compiled (template_of template.now)) }
-    ensures runs { IfOk result (λ r. (host : Host (Unit {0})) → WordsStand free (template_of template.now) → Agrees starlark host (program_of r.program) (template_of template.now)) }
-    ensures built { IfOk result (λ r. unbuilt_code (items_names (template_of template.now)) (program_of r.program) ≡ []) }
+    ensures code { IfOk result (λ r. program_of r.program ≡ compiled (numbered (template_of template.now))) }
+    ensures runs { IfOk result (λ r. (host : Host (Unit {0})) → WordsStand free (template_of template.now) → Agrees starlark host (program_of r.program) (numbered (template_of template.now))) }
+    ensures loads { IfOk result (λ r. loads_in (blocks (program_of r.program)) ≡ []) }
     ensures globals { IfOk result (λ r. r.globals ≡ each_once (program_names (program_of r.program))) }
     ensures file { IfOk result (λ r. r.program.file ≡ template.now.file) }
 {
     let resolved = bound(alloc, template)?;
-    match first_unbuilt(&resolved.globals, &resolved.program) {
-        None => Ok(resolved),
+    match first_unbuilt(template) {
+        None => Ok(with_numbers(alloc, template, resolved)?),
         Some(place) => Err(Stop::Fault(Fault {
             kind: FaultKind::NotBuilt,
             place: Some(place),

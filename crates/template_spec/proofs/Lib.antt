@@ -3,6 +3,6 @@ pub mod Nested
 pub mod NestedWords
 pub mod Nesting
 pub mod Numbers
-pub mod UnbuiltAgree
+pub mod NumbersKeep
 pub mod UsesAgree
 pub mod WholeExamples

@@ -17,7 +17,7 @@ mutual
   item_nodes (for_block p x e body) n = items_nodes body (number_expr e (number_expr x n).next).next
   item_nodes (def_block p k x ps kind body) n = refl
 
-  items_nodes : (t : Items) (n : ℕ) → has_nodes (number_items t n).result ≡ has_nodes t
+  pub items_nodes : (t : Items) (n : ℕ) → has_nodes (number_items t n).result ≡ has_nodes t
   items_nodes no_items n = refl
   items_nodes (an_item i is) n = λ j. item_nodes i n j || items_nodes is (number_item i n).next j
 

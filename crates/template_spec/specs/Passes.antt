@@ -28,7 +28,7 @@ unless_unbuilt t (Some p) = Err (fault_at kind.NotBuilt p)
 
 -- a template that is built whole; or the first place that is not
 abbrev pub all_built : Items → Outcome Items
-all_built t = unless_unbuilt t (first_unbuilt (unbuilt_items (items_names t) t))
+all_built t = unless_unbuilt t (first_unbuilt (unbuilt_items t))
 
 -- the template of documents, or the first fault of its passes
 abbrev pub template_passed : CodeReader → (ignore_unknown : Bool) → (file : ℕ) → Documents → Outcome Items

@@ -1,9 +1,9 @@
--- What of a template isn't built yet: notes, functions, and what of its code isn't.
-use Rattle.std.specs.Prelude.{nat_lt, if◌then◌else◌, List, [], ◌∷◌, ◌++◌, Option, Some, None}
+-- What of a template isn't built yet and is told before it runs: notes, `load`, keys from expressions, and functions that build
+-- items. What its code asks for that isn't built is told where a run reaches it.
+use Rattle.std.specs.Prelude.{nat_lt, Bool, if◌then◌else◌, List, [], ◌∷◌, ◌++◌, Option, Some, None}
 use Rattle.ytt_base.specs.declared.fault.Place.{Place}
-use Rattle.code_spec.specs.Code.{Name}
-use Rattle.code_spec.specs.Unbuilt.{unbuilt_expr, unbuilt_statement, unbuilt_target}
-use Rattle.template_spec.specs.Template.{Notes, no_notes, note, Key, no_key, written_key, key_from, Item, node, code, if_block, for_block, def_block, Items, no_items, an_item, Branches, no_branch, else_branch, elif_branch, Content, written_value, value_from, pairs, elements}
+use Rattle.code_spec.specs.Code.{Statement, load}
+use Rattle.template_spec.specs.Template.{Notes, no_notes, note, Key, no_key, written_key, key_from, Item, node, code, if_block, for_block, def_block, Items, no_items, an_item, Branches, no_branch, else_branch, elif_branch, Content, written_value, value_from, pairs, elements, has_nodes}
 
 abbrev pub unbuilt_notes : Notes → List Place
 unbuilt_notes no_notes = []
@@ -14,30 +14,38 @@ unbuilt_key p no_key = []
 unbuilt_key p (written_key x) = []
 unbuilt_key p (key_from e) = p ∷ []
 
--- where something in items isn't built, in a file that binds these names; of a function, where it begins, and what of its items
--- isn't, since a note may stand before it
+abbrev pub unbuilt_statement : Statement → List Place
+unbuilt_statement (load p path xs) = p ∷ []
+unbuilt_statement _ = []
+
+-- a function whose block holds items builds a fragment of them
+abbrev pub unbuilt_function : Place → (builds_items : Bool) → List Place
+unbuilt_function p b = if b then p ∷ [] else []
+
+-- Where something in items isn't built. Of a function, these are where it begins, if it builds items, and what of its block
+-- isn't, since a note may stand before it.
 abbrev mutual
-  pub unbuilt_item : (bound : List Name) → Item → List Place
-  unbuilt_item bound (node p kind ns key c) = unbuilt_notes ns ++ (unbuilt_key p key ++ unbuilt_content bound c)
-  unbuilt_item bound (code s) = unbuilt_statement bound s
-  unbuilt_item bound (if_block p e body more) = unbuilt_expr bound e ++ (unbuilt_items bound body ++ unbuilt_branches bound more)
-  unbuilt_item bound (for_block p x e body) = unbuilt_target bound x ++ (unbuilt_expr bound e ++ unbuilt_items bound body)
-  unbuilt_item bound (def_block p number x ps kind body) = p ∷ unbuilt_items bound body
+  pub unbuilt_item : Item → List Place
+  unbuilt_item (node p kind ns key c) = unbuilt_notes ns ++ (unbuilt_key p key ++ unbuilt_content c)
+  unbuilt_item (code s) = unbuilt_statement s
+  unbuilt_item (if_block p e body more) = unbuilt_items body ++ unbuilt_branches more
+  unbuilt_item (for_block p x e body) = unbuilt_items body
+  unbuilt_item (def_block p number x ps kind body) = unbuilt_function p (has_nodes body) ++ unbuilt_items body
 
-  pub unbuilt_items : (bound : List Name) → Items → List Place
-  unbuilt_items bound no_items = []
-  unbuilt_items bound (an_item i is) = unbuilt_item bound i ++ unbuilt_items bound is
+  pub unbuilt_items : Items → List Place
+  unbuilt_items no_items = []
+  unbuilt_items (an_item i is) = unbuilt_item i ++ unbuilt_items is
 
-  pub unbuilt_branches : (bound : List Name) → Branches → List Place
-  unbuilt_branches bound no_branch = []
-  unbuilt_branches bound (else_branch p body) = unbuilt_items bound body
-  unbuilt_branches bound (elif_branch p e body more) = unbuilt_expr bound e ++ (unbuilt_items bound body ++ unbuilt_branches bound more)
+  pub unbuilt_branches : Branches → List Place
+  unbuilt_branches no_branch = []
+  unbuilt_branches (else_branch p body) = unbuilt_items body
+  unbuilt_branches (elif_branch p e body more) = unbuilt_items body ++ unbuilt_branches more
 
-  pub unbuilt_content : (bound : List Name) → Content → List Place
-  unbuilt_content bound (written_value x) = []
-  unbuilt_content bound (value_from e) = unbuilt_expr bound e
-  unbuilt_content bound (pairs is) = unbuilt_items bound is
-  unbuilt_content bound (elements is) = unbuilt_items bound is
+  pub unbuilt_content : Content → List Place
+  unbuilt_content (written_value x) = []
+  unbuilt_content (value_from e) = []
+  unbuilt_content (pairs is) = unbuilt_items is
+  unbuilt_content (elements is) = unbuilt_items is
 
 -- the first of those at the least line
 abbrev pub first_place : Place → List Place → Place

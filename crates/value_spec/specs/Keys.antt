@@ -54,17 +54,6 @@ abbrev mutual
 abbrev pub text_cost : ℕ → ℕ
 text_cost bytes = bytes / 16
 
--- the steps that a key takes
-abbrev mutual
-  pub key_cost : Value → ℕ
-  key_cost (text_value t) = text_cost (length t)
-  key_cost (tuple_value vs) = key_costs vs
-  key_cost _ = 0
-
-  pub key_costs : Values → ℕ
-  key_costs no_values = 0
-  key_costs (a_value v vs) = 1 + key_cost v + key_costs vs
-
 -- ---- pairs by their keys
 
 -- where the first pair with this key stands

@@ -12,18 +12,19 @@ use Rattle.star_grammar.specs.CodeReaders.{GivesCode, IsCodeReader}
 use Rattle.template_spec.specs.Passes.{template_passed}
 use Rattle.ytt_spec.proofs.HeldBuilt.{text_written}
 use Rattle.ytt_spec.specs.Meaning.{built, documents_meaning, text_meaning}
+use Rattle.ytt_spec.specs.Words.{Budget}
 
-module _ (r : CodeReader) (ignore : Bool) (steps : ℕ) (ds : Documents) (result : Result (List Tree) Stop) where
+module _ (r : CodeReader) (ignore : Bool) (budget : Budget) (ds : Documents) (result : Result (List Tree) Stop) where
   -- documents with code mean what their template builds
-  pub template_means : has_code ds ≡ true → Gives trees_of result (template_passed r ignore 1 ds >>= built steps) → Gives trees_of result (documents_meaning r ignore steps ds)
-  template_means h g = subst (λ b. Gives trees_of result (if b then template_passed r ignore 1 ds >>= built steps else plain_trees ds)) (sym h) g
+  pub template_means : has_code ds ≡ true → Gives trees_of result (template_passed r ignore 1 ds >>= built budget) → Gives trees_of result (documents_meaning r ignore budget ds)
+  template_means h g = subst (λ b. Gives trees_of result (if b then template_passed r ignore 1 ds >>= built budget else plain_trees ds)) (sym h) g
 
   -- documents without code mean what they are
-  pub plain_means : has_code ds ≡ false → Gives trees_of result (plain_trees ds) → Gives trees_of result (documents_meaning r ignore steps ds)
-  plain_means h g = subst (λ b. Gives trees_of result (if b then template_passed r ignore 1 ds >>= built steps else plain_trees ds)) (sym h) g
+  pub plain_means : has_code ds ≡ false → Gives trees_of result (plain_trees ds) → Gives trees_of result (documents_meaning r ignore budget ds)
+  plain_means h g = subst (λ b. Gives trees_of result (if b then template_passed r ignore 1 ds >>= built budget else plain_trees ds)) (sym h) g
 
 -- the documents of a text have a text that reads back
-pub written_documents : (r : CodeReader) → IsCodeReader r → (ignore : Bool) (steps : ℕ) (bytes : List ℕ) (result : Result (List Tree) Stop) → GivesCode trees_of result (λ r. text_meaning r ignore steps bytes)
+pub written_documents : (r : CodeReader) → IsCodeReader r → (ignore : Bool) (budget : Budget) (bytes : List ℕ) (result : Result (List Tree) Stop) → GivesCode trees_of result (λ r. text_meaning r ignore budget bytes)
     → IfOk result (λ ts. AreTrees (trees_of ts)) × IfOk result (λ ts. Writable (trees_of ts))
-written_documents r reads ignore steps bytes (Ok ts) means = text_written r ignore steps bytes (trees_of ts) (means r reads)
-written_documents r reads ignore steps bytes (Err stop) means = (tt, tt)
+written_documents r reads ignore budget bytes (Ok ts) means = text_written r reads ignore budget bytes (trees_of ts) (means r reads)
+written_documents r reads ignore budget bytes (Err stop) means = (tt, tt)

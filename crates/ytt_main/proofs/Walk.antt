@@ -1,11 +1,11 @@
 -- How the options are read, one after another.
-use Rattle.std.proofs.Common.{◌≡◌, ◌≢◌, ℕ, ◌+◌, ◌<◌, Bool, true, false, cond, eqb, List, [], ◌∷◌, ◌++◌, length, map, Option, Some, None, Result, Ok, Err, Bor, unwrap_or, bytes_eq, refl, ap, sym, subst, ◌∙◌, arith, ⊎_elim, suc, append-nil}
+use Rattle.std.proofs.Common.{◌≡◌, ◌≢◌, ℕ, ◌+◌, ◌≤◌, ◌<◌, Bool, true, false, cond, eqb, List, [], ◌∷◌, ◌++◌, length, map, Option, Some, None, Result, Ok, Err, Bor, unwrap_or, bytes_eq, refl, ap, sym, subst, ◌∙◌, arith, ⊎_elim, suc, append-nil}
 use Rattle.std.proofs.lemmas.Bool.Decides.{eqb_tells}
 use Rattle.std.specs.List.{after_first, before_first, position_or_len}
 use Rattle.ytt_spec.proofs.Options.{asked_next, begun_follows, named_holds, next, values_of-append}
 use Rattle.ytt_spec.proofs.WordsRead.{request_read}
 use Rattle.ytt_spec.proofs.WrongWords.{wrong_words}
-use Rattle.ytt_spec.specs.Words.{Asked, wrong, CommandOption, Form, alone, apart, joined, Given, Often, exactly_once, at_most_once, added, asked, asked_from, asked_value, begun, command_options, equals, file_option, ignore_option, is_steps, may_follow, may_stand, name_in, number_of, steps_option, value_in, value_of, values_of}
+use Rattle.ytt_spec.specs.Words.{Asked, wrong, CommandOption, Form, alone, apart, joined, Given, Often, exactly_once, at_most_once, added, asked, asked_from, asked_value, begun, command_options, depth_option, equals, file_option, ignore_option, is_number_to, may_follow, may_stand, most_depth, most_steps, name_in, number_of, steps_option, value_in, value_of, values_of}
 use Rattle.ytt_main.specs.Asks.{Asks, AsksFor, HaveRead, command_of, next_word, words_behind}
 use Rattle.ytt_main.specs.declared.words.Request.{Request}
 use Rattle.ytt_main.specs.declared.words.Values.{Values}
@@ -46,12 +46,16 @@ none_before at_most_once (v ∷ vs) h = cc
 other_values : (name : List ℕ) (gs : List Given) (g : Given) → bytes_eq name g.name ≡ false → values_of name (gs ++ (g ∷ [])) ≡ values_of name gs
 other_values name gs g other = values_of-append name gs (g ∷ []) ∙ ap (λ b. values_of name gs ++ cond b (value_of g.form ∷ []) []) other ∙ append-nil (values_of name gs)
 
+other_number : (name : List ℕ) (gs : List Given) (g : Given) → bytes_eq name g.name ≡ false → map number_of (values_of name (gs ++ (g ∷ []))) ≡ map number_of (values_of name gs)
+other_number name gs g other = ap (map number_of) (other_values name gs g other)
+
 -- the value of an option beside those that were read
 pub file_read : (gs : List Given) (values : Values) (text : Bor (List ℕ)) → HaveRead gs values → may_follow exactly_once (values_of file_option.name gs) ≡ true
     → HaveRead (added gs file_option.name (apart text.now)) (record values { path = Some text })
 file_read gs values text h f = record {
   paths = values_of-append file_option.name gs _ ∙ ap (λ vs. vs ++ (text.now ∷ [])) (none_before exactly_once _ f);
-  numbers = ap (map number_of) (other_values steps_option.name gs _ refl) ∙ h.numbers;
+  steps = other_number steps_option.name gs _ refl ∙ h.steps;
+  depths = other_number depth_option.name gs _ refl ∙ h.depths;
   flags = other_values ignore_option.name gs _ refl ∙ h.flags;
 }
 
@@ -59,18 +63,36 @@ number_read : (text : List ℕ) (n : ℕ) (b : Bool) → Some n ≡ cond b (Some
 number_read text n true e = cc
 number_read text n false e = cc
 
-pub steps_read : (gs : List Given) (values : Values) (form : Form) (n : ℕ) → Some n ≡ cond (is_steps (value_of form)) (Some (number_of (value_of form))) None → HaveRead gs values
+-- a number that stands once, by the name of its option and the most that it may be
+number_once : (most : ℕ) (name : List ℕ) (gs : List Given) (form : Form) (n : ℕ) → bytes_eq name name ≡ true → may_follow at_most_once (values_of name gs) ≡ true
+    → Some n ≡ cond (is_number_to most (value_of form)) (Some (number_of (value_of form))) None → map number_of (values_of name (added gs name form)) ≡ n ∷ []
+number_once most name gs form n itself f e =
+    ap (map number_of) (values_of-append name gs _ ∙ ap (λ vs. vs ++ values_of name (record { name = name; form = form } ∷ [])) (none_before at_most_once _ f) ∙ ap (λ b. cond b (value_of form ∷ []) []) itself)
+    ∙ ap (λ m. m ∷ []) (number_read (value_of form) n (is_number_to most (value_of form)) e)
+
+pub steps_read : (gs : List Given) (values : Values) (form : Form) (n : ℕ) → Some n ≡ cond (is_number_to most_steps (value_of form)) (Some (number_of (value_of form))) None → HaveRead gs values
     → may_follow at_most_once (values_of steps_option.name gs) ≡ true → HaveRead (added gs steps_option.name form) (record values { steps = Some n })
 steps_read gs values form n e h f = record {
   paths = other_values file_option.name gs _ refl ∙ h.paths;
-  numbers = ap (map number_of) (values_of-append steps_option.name gs _ ∙ ap (λ vs. vs ++ (value_of form ∷ [])) (none_before at_most_once _ f)) ∙ ap (λ m. m ∷ []) (number_read (value_of form) n (is_steps (value_of form)) e);
+  steps = number_once most_steps steps_option.name gs form n refl f e;
+  depths = other_number depth_option.name gs _ refl ∙ h.depths;
+  flags = other_values ignore_option.name gs _ refl ∙ h.flags;
+}
+
+pub depth_read : (gs : List Given) (values : Values) (form : Form) (n : ℕ) → Some n ≡ cond (is_number_to most_depth (value_of form)) (Some (number_of (value_of form))) None → HaveRead gs values
+    → may_follow at_most_once (values_of depth_option.name gs) ≡ true → HaveRead (added gs depth_option.name form) (record values { depth = Some n })
+depth_read gs values form n e h f = record {
+  paths = other_values file_option.name gs _ refl ∙ h.paths;
+  steps = other_number steps_option.name gs _ refl ∙ h.steps;
+  depths = number_once most_depth depth_option.name gs form n refl f e;
   flags = other_values ignore_option.name gs _ refl ∙ h.flags;
 }
 
 pub flag_read : (gs : List Given) (values : Values) → HaveRead gs values → may_follow at_most_once (values_of ignore_option.name gs) ≡ true → HaveRead (added gs ignore_option.name alone) (record values { ignore_unknown = true })
 flag_read gs values h f = record {
   paths = other_values file_option.name gs _ refl ∙ h.paths;
-  numbers = ap (map number_of) (other_values steps_option.name gs _ refl) ∙ h.numbers;
+  steps = other_number steps_option.name gs _ refl ∙ h.steps;
+  depths = other_number depth_option.name gs _ refl ∙ h.depths;
   flags = values_of-append ignore_option.name gs _ ∙ ap (λ vs. vs ++ ([] ∷ [])) (none_before at_most_once _ f);
 }
 
@@ -135,6 +157,25 @@ number_behind o n None words t e = by (may_stand o alone) e
     by : (b : Bool) → cond b (Some (alone, n, words)) (next_word n words) ≡ Some t → t.1 + length t.2 ≡ n + length words
     by true f = sym (ap (λ (u : Behind). u.1 + length u.2) (behind_is (alone, n, words) t f))
     by false f = next_number n words t f
+
+-- no more words stand behind an option than behind its first word
+next_fewer : (n : ℕ) (words : List (List ℕ)) (t : Behind) → next_word n words ≡ Some t → length t.2 ≤ length words
+next_fewer n [] t e = cc
+next_fewer n (v ∷ words) t e =
+    let is : length t.2 ≡ length words = sym (ap (λ (u : Behind). length u.2) (behind_is (apart v, n + 1, words) t e)) in
+    omega arith
+
+pub behind_fewer : (o : CommandOption) (n : ℕ) (value : Option (List ℕ)) (words : List (List ℕ)) (t : Behind) → words_behind o n value words ≡ Some t → length t.2 ≤ length words
+behind_fewer o n (Some v) words t e =
+    let is : length t.2 ≡ length words = sym (ap (λ (u : Behind). length u.2) (behind_is (joined v, n, words) t e)) in
+    omega arith
+behind_fewer o n None words t e = by (may_stand o alone) e
+  where
+    by : (b : Bool) → cond b (Some (alone, n, words)) (next_word n words) ≡ Some t → length t.2 ≤ length words
+    by true f =
+        let is : length t.2 ≡ length words = sym (ap (λ (u : Behind). length u.2) (behind_is (alone, n, words) t f)) in
+        omega arith
+    by false f = next_fewer n words t f
 
 -- ---- all words
 

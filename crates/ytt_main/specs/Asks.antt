@@ -3,7 +3,8 @@ use Rattle.std.specs.Prelude.{◌≡◌, ℕ, ◌+◌, Bool, true, false, if◌t
 use Rattle.std.specs.Option.{option_map}
 use denote.Ref.{Bor}
 use Rattle.ytt_spec.specs.Requests.{IsFirstWrong, IsRequest}
-use Rattle.ytt_spec.specs.Words.{Asked, Command, CommandOption, Form, Given, alone, apart, asked_for, file_option, ignore_option, joined, may_stand, number_of, render, steps_option, values_of, wrong}
+use Rattle.ytt_spec.specs.Words.{Asked, Budget, Command, CommandOption, Form, Given, alone, apart, asked_for, depth_option, file_option, ignore_option, joined, may_stand, number_of, render, steps_option, values_of, wrong}
+use Rattle.ytt_main.specs.declared.words.Budget.{Budget as BudgetRead}
 use Rattle.ytt_main.specs.declared.words.CommandOption.{CommandOption as Read}
 use Rattle.ytt_main.specs.declared.words.CommandOption.TheVariants as read
 use Rattle.ytt_main.specs.declared.words.Form.{Form as FormRead}
@@ -12,9 +13,12 @@ use Rattle.ytt_main.specs.declared.words.OptionWords.{OptionWords}
 use Rattle.ytt_main.specs.declared.words.Request.{Request}
 use Rattle.ytt_main.specs.declared.words.Values.{Values}
 
+abbrev pub budget_of : BudgetRead → Budget
+budget_of b = record { steps = b.steps; depth = b.depth }
+
 -- the command of a request
 abbrev pub command_of : Request → Command
-command_of r = render (record { path = r.path.now; steps = r.steps; ignore_unknown = r.ignore_unknown })
+command_of r = render (record { path = r.path.now; budget = budget_of r.budget; ignore_unknown = r.ignore_unknown })
 
 -- the command that is asked for, or the number of the wrong word
 abbrev pub Asks : Asked → Result Request ℕ → Type 0
@@ -31,6 +35,7 @@ AsksFor words (Err n) = IsFirstWrong words n
 abbrev pub option_of : Read → CommandOption
 option_of read.File = file_option
 option_of read.Steps = steps_option
+option_of read.Depth = depth_option
 option_of read.IgnoreUnknown = ignore_option
 
 abbrev pub form_of : FormRead → Form
@@ -53,7 +58,8 @@ flag_values false = []
 -- these are the values of the options that were read
 pub record HaveRead (gs : List Given) (values : Values) : Type 0 where
   pub paths : values_of file_option.name gs ≡ one_or_none (text_in values.path)
-  pub numbers : map number_of (values_of steps_option.name gs) ≡ one_or_none values.steps
+  pub steps : map number_of (values_of steps_option.name gs) ≡ one_or_none values.steps
+  pub depths : map number_of (values_of depth_option.name gs) ≡ one_or_none values.depth
   pub flags : values_of ignore_option.name gs ≡ flag_values values.ignore_unknown
 
 abbrev pub seen_words : OptionWords → Form × ℕ × List (List ℕ)

@@ -7,6 +7,7 @@ use Rattle.yaml_spec.specs.ReadsBack.{ReadsAlone}
 use Rattle.yaml_spec.specs.Text.{Text}
 use Rattle.ytt_spec.specs.Due.{out_of_memory_line, write_failed_line}
 use Rattle.ytt_spec.specs.Meaning.{TextMeans}
+use Rattle.ytt_spec.specs.Words.{Budget}
 use Rattle.ytt_main.specs.Found.{AreMeant, IsFaultLine, IsReadLine, IsUsageLine}
 use Rattle.ytt_main.specs.Seen.{Files, Sink}
 use Rattle.ytt_main.specs.declared.run.Status.{Status}
@@ -41,7 +42,7 @@ pub record IsDone (words : List (List ℕ)) (files : Files) (out err : Sink) : T
   pub found : AreMeant words files documents
   pub written : HasWritten out (Text documents)
   pub reads_back : ReadsAlone (Text documents) documents
-  pub renders_itself : (ignore_unknown : Bool) (steps : ℕ) → TextMeans ignore_unknown steps (Text documents) (Ok documents)
+  pub renders_itself : (ignore_unknown : Bool) (budget : Budget) → TextMeans ignore_unknown budget (Text documents) (Ok documents)
   pub silent : IsUntouched err
 
 -- A line is due on `err` by this cause, and it has the line.

@@ -8,11 +8,11 @@ ghost use Rattle.yaml_noted.specs.View.{documents_of};
 ghost use Rattle.star_grammar.specs.CodeReaders.{GivesCode};
 ghost use Rattle.template_spec.specs.Passes.{template_passed};
 ghost use Rattle.ytt_spec.specs.Meaning.{Means, built, documents_meaning, file_names, gives_documents, has_ending, last_part, path_fault, text_meaning};
-ghost use Rattle.ytt_main.specs.Asks.{command_of};
+ghost use Rattle.ytt_main.specs.Asks.{budget_of, command_of};
 ghost use Rattle.ytt_main.specs.Rendering.{HasCause, IsNoFolder, IsReadFailure, Refuses, Renders};
 
 use crate::template::pass_template;
-use crate::words::Request;
+use crate::words::{Budget, Request};
 use notes_read::a_code_reader_exists;
 use sqlite_items::Items;
 use star_eval::run_flat;
@@ -97,18 +97,18 @@ fn read_failed(alloc: Global, path: &str) -> RenderStop
     }
 }
 
-/// The documents that a template builds with so many steps, or its first fault.
+/// The documents that a template builds within a budget, or its first fault.
 fn build(
     alloc: Global,
     documents: NotedDocs,
     ignore_unknown: bool,
-    steps: u64,
+    budget: Budget,
 ) -> Result<Trees, Stop>
     requires { KeyedDocuments (documents_of documents) }
-    ensures { GivesCode trees_of result (λ r. and_then (built steps) (template_passed r ignore_unknown 1 (documents_of documents))) }
+    ensures { GivesCode trees_of result (λ r. and_then (built (budget_of budget)) (template_passed r ignore_unknown 1 (documents_of documents))) }
 {
     let passed = pass_template(alloc, &documents, ignore_unknown)?;
-    let ran = run_flat(alloc, &passed.program, steps)?;
+    let ran = run_flat(alloc, &passed.program, budget.steps, budget.depth)?;
     Ok(ran.documents)
 }
 
@@ -118,25 +118,30 @@ fn resolve(
     alloc: Global,
     documents: NotedDocs,
     ignore_unknown: bool,
-    steps: u64,
+    budget: Budget,
 ) -> Result<Trees, Stop>
     requires { KeyedDocuments (documents_of documents) }
-    ensures { GivesCode trees_of result (λ r. documents_meaning r ignore_unknown steps (documents_of documents)) }
+    ensures { GivesCode trees_of result (λ r. documents_meaning r ignore_unknown (budget_of budget) (documents_of documents)) }
 {
     if has_code(&documents) {
-        return build(alloc, documents, ignore_unknown, steps);
+        return build(alloc, documents, ignore_unknown, budget);
     }
     plain_trees(alloc, &documents)
 }
 
 /// The documents of a text, or its first fault.
-fn read_text(alloc: Global, bytes: &[u8], ignore_unknown: bool, steps: u64) -> Result<Trees, Stop>
+fn read_text(
+    alloc: Global,
+    bytes: &[u8],
+    ignore_unknown: bool,
+    budget: Budget,
+) -> Result<Trees, Stop>
     requires { length bytes.now < 2 ^ 32 }
-    ensures { GivesCode trees_of result (λ r. text_meaning r ignore_unknown steps bytes.now) }
+    ensures { GivesCode trees_of result (λ r. text_meaning r ignore_unknown (budget_of budget) bytes.now) }
 {
     let documents = read_noted(alloc, bytes, 1)?;
     reads_keyed();
-    resolve(alloc, documents, ignore_unknown, steps)
+    resolve(alloc, documents, ignore_unknown, budget)
 }
 
 /// The documents of a text, such as can be written, or its first fault.
@@ -144,18 +149,18 @@ fn read_documents(
     alloc: Global,
     bytes: &[u8],
     ignore_unknown: bool,
-    steps: u64,
+    budget: Budget,
 ) -> Result<Trees, Stop>
     requires { length bytes.now < 2 ^ 32 }
-    ensures documents { GivesCode trees_of result (λ r. text_meaning r ignore_unknown steps bytes.now) }
+    ensures documents { GivesCode trees_of result (λ r. text_meaning r ignore_unknown (budget_of budget) bytes.now) }
     ensures held { IfOk result (λ trees. AreTrees (trees_of trees)) }
     ensures writable { IfOk result (λ trees. Writable (trees_of trees)) }
 {
     a_code_reader_exists();
-    read_text(alloc, bytes, ignore_unknown, steps)
+    read_text(alloc, bytes, ignore_unknown, budget)
 }
 
-/// The documents of the one file that is asked for, with its budget of steps, or the first fault.
+/// The documents of the one file that is asked for, within its budget, or the first fault.
 pub fn render<F: Files>(
     alloc: Global,
     request: Request<'_>,
@@ -210,7 +215,7 @@ fn read_file<F: Files>(
             alloc,
             bytes.as_slice(),
             request.ignore_unknown,
-            request.steps,
+            request.budget,
         ) {
             Ok(trees) => Ok(trees),
             Err(Stop::Fault(fault)) => Err(refused(alloc, request, fault)),

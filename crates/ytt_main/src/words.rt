@@ -2,16 +2,25 @@
 ghost use Rattle.std.specs.Prelude.{◌≡◌, ◌≤◌, ◌<◌, ◌^◌, ◌+◌, ◌-◌, [], Bool, IfSome, false, IsNone, List, length, map, None, Some, true, if◌then◌else◌, string_bytes};
 ghost use Rattle.std.specs.Option.{option_map};
 ghost use Rattle.std.specs.Str.{all_ascii_digits};
-ghost use Rattle.ytt_spec.specs.Words.{Given, added, alone, asked, asked_from, begun, command_options, is_number, is_path, is_steps, may_follow, may_stand, name_in, named, number_of, value_in, values_of};
+ghost use Rattle.ytt_spec.specs.Words.{Given, added, alone, asked, asked_from, begun, command_options, is_depth, is_number, is_number_to, is_path, is_steps, may_follow, may_stand, name_in, named, number_of, value_in, values_of};
 ghost use Rattle.ytt_main.specs.Asks.{Asks, AsksFor, HaveRead, form_of, option_of, seen_words, text_in, words_behind};
+
+/// How far a run may go.
+#[derive(Clone, Copy)]
+pub struct Budget {
+    /// How many steps it may take.
+    pub steps: u64,
+    /// How many calls of functions may stand in one another.
+    pub depth: u32,
+}
 
 /// What the words ask for.
 #[derive(Clone, Copy)]
 pub struct Request<'a> {
     /// The path of the file to render.
     pub path: &'a str,
-    /// How many steps that may take.
-    pub steps: u64,
+    /// How far that may go.
+    pub budget: Budget,
     /// Whether comments of no known form may stand in a template.
     pub ignore_unknown: bool,
 }
@@ -23,6 +32,8 @@ pub enum CommandOption {
     File,
     /// `--steps`, at most once.
     Steps,
+    /// `--depth`, at most once.
+    Depth,
     /// `--ignore-unknown-comments`, at most once. It takes no value.
     IgnoreUnknown,
 }
@@ -42,6 +53,7 @@ pub enum Form<'a> {
 pub struct Values<'a> {
     pub path: Option<&'a str>,
     pub steps: Option<u64>,
+    pub depth: Option<u32>,
     pub ignore_unknown: bool,
 }
 
@@ -58,6 +70,12 @@ const DEFAULT_STEPS: u64 = 5_000_000;
 
 /// How many steps the words may ask for.
 const MOST_STEPS: u64 = 20_000_000;
+
+/// How deep calls of functions may stand in one another where the words don't say.
+const DEFAULT_DEPTH: u32 = 100;
+
+/// How deep the words may ask for.
+const MOST_DEPTH: u64 = 100;
 
 fn is_path(word: &str) -> bool
     ensures { result ≡ is_path word.now }
@@ -93,18 +111,33 @@ fn number_of(word: &str) -> u64
     }
 }
 
-/// The number of steps that a word gives: 1 to 8 decimal digits, from 1 to `MOST_STEPS`.
-fn read_steps(word: &str) -> Option<u64>
-    ensures { result ≡ (if is_steps word.now then Some (number_of word.now) else None) }
+/// The number that a word gives: 1 to 8 decimal digits, from 1 to `most`.
+fn read_number(word: &str, most: u64) -> Option<u64>
+    ensures { result ≡ (if is_number_to most word.now then Some (number_of word.now) else None) }
 {
     if !is_number(word) {
         return None;
     }
-    let steps = number_of(word);
-    if steps < 1 || steps > MOST_STEPS {
+    let number = number_of(word);
+    if number < 1 || number > most {
         return None;
     }
-    Some(steps)
+    Some(number)
+}
+
+/// The number of steps that a word gives, up to `MOST_STEPS`.
+fn read_steps(word: &str) -> Option<u64>
+    ensures { result ≡ (if is_steps word.now then Some (number_of word.now) else None) }
+{
+    read_number(word, MOST_STEPS)
+}
+
+/// The depth that a word gives, up to `MOST_DEPTH`.
+fn read_depth(word: &str) -> Option<u32>
+    ensures { result ≡ (if is_depth word.now then Some (number_of word.now) else None) }
+{
+    let depth = read_number(word, MOST_DEPTH)?;
+    Some(depth as u32)
 }
 
 /// What stands before the first `=` of a word, or all of it, and what stands behind.
@@ -128,6 +161,9 @@ fn named(name: &str) -> Option<CommandOption>
     if name == "--steps" {
         return Some(CommandOption::Steps);
     }
+    if name == "--depth" {
+        return Some(CommandOption::Depth);
+    }
     if name == "--ignore-unknown-comments" {
         return Some(CommandOption::IgnoreUnknown);
     }
@@ -141,6 +177,7 @@ fn may_follow(option: CommandOption, values: Values<'_>) -> bool
     match option {
         CommandOption::File => values.path.is_none(),
         CommandOption::Steps => values.steps.is_none(),
+        CommandOption::Depth => values.depth.is_none(),
         CommandOption::IgnoreUnknown => !values.ignore_unknown,
     }
 }
@@ -161,7 +198,7 @@ fn is_flag(option: CommandOption) -> bool
     ensures { result ≡ may_stand (option_of option) alone }
 {
     match option {
-        CommandOption::File | CommandOption::Steps => false,
+        CommandOption::File | CommandOption::Steps | CommandOption::Depth => false,
         CommandOption::IgnoreUnknown => true,
     }
 }
@@ -214,6 +251,10 @@ fn put<'a>(values: Values<'a>, option: CommandOption, form: Form<'a>) -> Option<
             steps: Some(read_steps(text)?),
             ..values
         }),
+        (CommandOption::Depth, Form::Apart(text) | Form::Joined(text)) => Some(Values {
+            depth: Some(read_depth(text)?),
+            ..values
+        }),
         (CommandOption::IgnoreUnknown, Form::Alone) => Some(Values {
             ignore_unknown: true,
             ..values
@@ -230,6 +271,7 @@ fn read_options(words: &[String], first: u64) -> Result<Request<'_>, u64>
     let mut values = Values {
         path: None,
         steps: None,
+        depth: None,
         ignore_unknown: false,
     };
     let mut rest = words;
@@ -253,7 +295,10 @@ fn read_options(words: &[String], first: u64) -> Result<Request<'_>, u64>
         None => Err(number),
         Some(path) => Ok(Request {
             path,
-            steps: values.steps.unwrap_or(DEFAULT_STEPS),
+            budget: Budget {
+                steps: values.steps.unwrap_or(DEFAULT_STEPS),
+                depth: values.depth.unwrap_or(DEFAULT_DEPTH),
+            },
             ignore_unknown: values.ignore_unknown,
         }),
     }

@@ -103,6 +103,21 @@ too_many_steps : (r : CodeReader) → due_over r nothing (codes "--steps" ∷ co
 unfolding digits
 too_many_steps r = refl
 
+no_depth : (r : CodeReader) → due_over r nothing (codes "-f" ∷ codes "a.yml" ∷ codes "--depth" ∷ codes "0" ∷ []) ≡ usage (codes "error: usage at word 4\n")
+unfolding digits
+no_depth r = refl
+
+too_deep : (r : CodeReader) → due_over r nothing (codes "--depth" ∷ codes "101" ∷ []) ≡ usage (codes "error: usage at word 2\n")
+unfolding digits
+too_deep r = refl
+
+depth_twice : (r : CodeReader) → due_over r nothing (codes "--depth" ∷ codes "100" ∷ codes "--steps" ∷ codes "7" ∷ codes "--depth=1" ∷ []) ≡ usage (codes "error: usage at word 5\n")
+unfolding digits
+depth_twice r = refl
+
+depth_asks : asked (codes "--depth=7" ∷ codes "-f" ∷ codes "a.yml" ∷ codes "--steps" ∷ codes "2" ∷ []) ≡ asked_for (render (record { path = codes "a.yml"; budget = record { steps = 2; depth = 7 }; ignore_unknown = false }))
+depth_asks = refl
+
 one_word_more : (r : CodeReader) → due_over r nothing (codes "render" ∷ codes "-f" ∷ codes "a.yml" ∷ codes "b" ∷ []) ≡ usage (codes "error: usage at word 4\n")
 unfolding digits
 one_word_more r = refl
@@ -136,10 +151,10 @@ flag_before r = refl
 flag_behind : (r : CodeReader) → due_over r nothing (codes "render" ∷ codes "-f" ∷ codes "a.yml" ∷ codes "--ignore-unknown-comments" ∷ []) ≡ fault (codes "error: FileMissing: a.yml\n")
 flag_behind r = refl
 
-flag_asks : asked (codes "-f" ∷ codes "a.yml" ∷ codes "--ignore-unknown-comments" ∷ []) ≡ asked_for (render (record { path = codes "a.yml"; steps = 5000000; ignore_unknown = true }))
+flag_asks : asked (codes "-f" ∷ codes "a.yml" ∷ codes "--ignore-unknown-comments" ∷ []) ≡ asked_for (render (record { path = codes "a.yml"; budget = record { steps = 5000000; depth = 100 }; ignore_unknown = true }))
 flag_asks = refl
 
-no_flag_asks : asked (codes "-f" ∷ codes "a.yml" ∷ []) ≡ asked_for (render (record { path = codes "a.yml"; steps = 5000000; ignore_unknown = false }))
+no_flag_asks : asked (codes "-f" ∷ codes "a.yml" ∷ []) ≡ asked_for (render (record { path = codes "a.yml"; budget = record { steps = 5000000; depth = 100 }; ignore_unknown = false }))
 no_flag_asks = refl
 
 -- the value of another option may be a flag's name

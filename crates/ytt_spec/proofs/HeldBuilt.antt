@@ -8,6 +8,7 @@ use Rattle.yaml_spec.specs.Noted.{Documents, has_code}
 use Rattle.yaml_spec.specs.Read.{Read, plain_trees, read_trees}
 use Rattle.yaml_held.proofs.HeldDocuments.{DocumentsHeld, good_read, reads_trees}
 use Rattle.yaml_held.proofs.Shallow.{DocumentsShallow, reads_writable, shallow_read}
+use Rattle.star_grammar.specs.CodeReaders.{IsCodeReader}
 use Rattle.star_spec.specs.Calls.{no_natives}
 use Rattle.star_spec.specs.Eval.{starlark}
 use Rattle.value_spec.specs.Outcomes.{Ending, done, bad}
@@ -16,13 +17,17 @@ use Rattle.star_spec.proofs.CallsKeep.{no_natives_keep, starlark_keeps}
 use Rattle.star_spec.proofs.Keeping.{Kept}
 use Rattle.template_meaning.specs.Files.{FileResult, nothing_to_load}
 use Rattle.template_meaning.specs.Meaning.{BuildFile}
+use Rattle.template_spec.specs.Numbered.{numbered}
 use Rattle.template_spec.specs.Passes.{template_passed}
 use Rattle.template_spec.specs.Template.{Items}
 use Rattle.template_meaning.proofs.BuildKeeps.{HeldItems, HeldResult, nothing_keeps, built_keeps, documents_written}
+use Rattle.template_meaning.proofs.NumbersHeld.{numbered_held}
 use Rattle.ytt_outside.specs.Standing.{Standing, nothing, file, folder}
-use Rattle.ytt_spec.specs.Meaning.{built, default_depth, documents_meaning, file_names, gives_documents, largest_file, last_part, meaning, named_in, outcome_of, path_meaning, started, text_meaning}
-use Rattle.ytt_spec.specs.Words.{Command, render}
+use Rattle.ytt_spec.specs.Meaning.{built, documents_meaning, file_names, gives_documents, largest_file, last_part, meaning, named_in, outcome_of, path_meaning, started, text_meaning}
+use Rattle.ytt_spec.specs.Words.{Budget, Command, render}
+use Rattle.ytt_spec.proofs.HeldCode.{ReadsHeld}
 use Rattle.ytt_spec.proofs.HeldWhole.{whole_held}
+use Rattle.ytt_spec.proofs.ReadCode.{code_is_held}
 use Rattle.std.specs.Result.{IfOk}
 use Rattle.std.proofs.lemmas.Result.{IfOk-at_ok}
 use Rattle.ytt_laws.proofs.Yielded.{yielded_if, yielded_then, yielded_where}
@@ -37,10 +42,11 @@ file_written (done result s) h = documents_written result.documents h.0.0
 file_written (bad f s) h = tt
 
 -- those of a template with such literals
-template_written : (steps : ℕ) (t : Items) → HeldItems 0 t → IfOk (built steps t) AreWritten
-template_written steps t h =
-    let keeps = built_keeps starlark starlark_keeps no_natives no_natives_keep nothing_to_load nothing_keeps (λ file. t) (λ file. h) default_depth t h in
-    file_written (BuildFile starlark no_natives nothing_to_load (λ file. t) default_depth t (started steps)) (keeps.by (started steps) tt)
+template_written : (budget : Budget) (t : Items) → HeldItems 0 t → IfOk (built budget t) AreWritten
+template_written budget t h =
+    let held = numbered_held t h in
+    let keeps = built_keeps starlark starlark_keeps no_natives no_natives_keep nothing_to_load nothing_keeps (λ file. numbered t) (λ file. held) budget.depth (numbered t) held in
+    file_written (BuildFile starlark no_natives nothing_to_load (λ file. numbered t) budget.depth (numbered t) (started budget.steps)) (keeps.by (started budget.steps) tt)
 
 plain_written : (bytes : List ℕ) (ds : Documents) (ts : Trees) → Read 1 bytes ≡ Ok ds → plain_trees ds ≡ Ok ts → AreWritten ts
 unfolding read_trees
@@ -51,30 +57,30 @@ plain_written bytes ds ts e p =
 abbrev IsRead : List ℕ → Documents → Type 0
 IsRead bytes ds = (Read 1 bytes ≡ Ok ds) × DocumentsHeld ds × DocumentsShallow ds
 
-text_holds : (r : CodeReader) (ignore : Bool) (steps : ℕ) (bytes : List ℕ) → IfOk (text_meaning r ignore steps bytes) AreWritten
-text_holds r ignore steps bytes =
-    yielded_then (IsRead bytes) AreWritten (Read 1 bytes) (documents_meaning r ignore steps)
+text_holds : (r : CodeReader) → ReadsHeld r → (ignore : Bool) (budget : Budget) (bytes : List ℕ) → IfOk (text_meaning r ignore budget bytes) AreWritten
+text_holds r reads ignore budget bytes =
+    yielded_then (IsRead bytes) AreWritten (Read 1 bytes) (documents_meaning r ignore budget)
     (yielded_where (IsRead bytes) (Read 1 bytes) (λ ds e. (e, IfOk-at_ok DocumentsHeld e (good_read 1 bytes), IfOk-at_ok DocumentsShallow e (shallow_read 1 bytes))))
-    (λ ds h. yielded_if AreWritten (has_code ds) (outcome.and_then (built steps) (template_passed r ignore 1 ds)) (plain_trees ds)
-    (λ k. yielded_then (HeldItems 0) AreWritten (template_passed r ignore 1 ds) (built steps) (whole_held r ignore 1 ds h.1 h.2) (template_written steps))
+    (λ ds h. yielded_if AreWritten (has_code ds) (outcome.and_then (built budget) (template_passed r ignore 1 ds)) (plain_trees ds)
+    (λ k. yielded_then (HeldItems 0) AreWritten (template_passed r ignore 1 ds) (built budget) (whole_held r reads ignore 1 ds h.1 h.2) (template_written budget))
     (λ k. yielded_where AreWritten (plain_trees ds) (λ ts e. plain_written bytes ds ts h.0 e)))
 
-path_holds : (r : CodeReader) (path : List ℕ) (ignore : Bool) (steps : ℕ) (standing : Standing) → IfOk (path_meaning r path ignore steps standing) AreWritten
-path_holds r path ignore steps nothing = tt
-path_holds r path ignore steps (folder names) = tt
-path_holds r path ignore steps (file bytes) =
+path_holds : (r : CodeReader) → ReadsHeld r → (path : List ℕ) (ignore : Bool) (budget : Budget) (standing : Standing) → IfOk (path_meaning r path ignore budget standing) AreWritten
+path_holds r reads path ignore budget nothing = tt
+path_holds r reads path ignore budget (folder names) = tt
+path_holds r reads path ignore budget (file bytes) =
     yielded_if AreWritten (not (gives_documents (last_part path))) _ _ (λ h. tt)
-    (λ h. yielded_if AreWritten (nat_lt largest_file (length bytes)) _ (text_meaning r ignore steps bytes) (λ k. tt) (λ k. text_holds r ignore steps bytes))
+    (λ h. yielded_if AreWritten (nat_lt largest_file (length bytes)) _ (text_meaning r ignore budget bytes) (λ k. tt) (λ k. text_holds r reads ignore budget bytes))
 
--- the documents of a text, whatever reads code
-pub text_written : (r : CodeReader) (ignore : Bool) (steps : ℕ) (bytes : List ℕ) (ds : Trees) → text_meaning r ignore steps bytes ≡ Ok ds → AreWritten ds
-text_written r ignore steps bytes ds h = IfOk-at_ok AreWritten h (text_holds r ignore steps bytes)
+-- the documents of a text, whatever reads code as the grammar says
+pub text_written : (r : CodeReader) → IsCodeReader r → (ignore : Bool) (budget : Budget) (bytes : List ℕ) (ds : Trees) → text_meaning r ignore budget bytes ≡ Ok ds → AreWritten ds
+text_written r reads ignore budget bytes ds h = IfOk-at_ok AreWritten h (text_holds r (code_is_held r reads) ignore budget bytes)
 
 named_written : (names : List (List ℕ)) (outcome : Outcome Trees) (ds : Trees) → IfOk outcome AreWritten → named_in names outcome ≡ Ok ds → AreWritten ds
 named_written names (Ok documents) ds h e = let same : documents ≡ ds = cc in subst AreWritten same h
 named_written names (Err fault) ds h e = cc
 
 -- those of a command
-pub meaning_written : (r : CodeReader) (command : Command) (tree : List ℕ → Standing) (ds : Trees) → meaning r command tree ≡ Ok ds → AreWritten ds
-meaning_written r (render asked) tree ds h =
-    named_written (file_names (render asked)) (path_meaning r asked.path asked.ignore_unknown asked.steps (tree asked.path)) ds (path_holds r asked.path asked.ignore_unknown asked.steps (tree asked.path)) h
+pub meaning_written : (r : CodeReader) → IsCodeReader r → (command : Command) (tree : List ℕ → Standing) (ds : Trees) → meaning r command tree ≡ Ok ds → AreWritten ds
+meaning_written r reads (render asked) tree ds h =
+    named_written (file_names (render asked)) (path_meaning r asked.path asked.ignore_unknown asked.budget (tree asked.path)) ds (path_holds r (code_is_held r reads) asked.path asked.ignore_unknown asked.budget (tree asked.path)) h

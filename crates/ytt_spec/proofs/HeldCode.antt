@@ -1,94 +1,141 @@
--- The literals of code in which all is built are what the program holds: integers of 128 bits, and texts in UTF-8.
-use Rattle.std.proofs.Common.{◌≡◌, ℤ, pos, negsuc, ◌^◌, Bool, true, false, List, [], ◌∷◌, ◌++◌, FitsSigned, ltb-true, refl, arith}
-use Rattle.std.proofs.lemmas.Str.{IsUtf8-from_is_utf8}
-use Rattle.std.specs.Int.{w128}
-use Rattle.std.specs.Str.{is_utf8}
+-- Readers of code whose literals are what the program holds: integers of 128 bits, and texts in UTF-8. So are those of what
+-- comments say by them, and of the events of a text.
+use Rattle.std.proofs.Common.{ℕ, Bool, ◌||◌, List, [], ◌∷◌, drop, Ok}
+use Rattle.std.specs.Prelude.{codes}
+use Rattle.std.specs.Result.{IfOk}
+use Rattle.ytt_base.specs.declared.fault.FaultKind.TheVariants as kind
 use Rattle.ytt_base.specs.declared.fault.Place.{Place}
-use Rattle.code_spec.specs.Code as code
-use Rattle.code_spec.specs.Code.{Name, Expr, Exprs, no_exprs, an_expr, OptionalExpr, absent, present, Entries, no_entries, an_entry, Statement, evaluate, assign, augment, return}
-use Rattle.star_spec.specs.Held.{HeldExpr, HeldExprs, HeldOptional, HeldEntries, HeldStatement}
-use Rattle.code_spec.specs.Unbuilt.{is_integer, unbuilt_expr, unbuilt_exprs, unbuilt_entries, unbuilt_optional, unbuilt_statement, unbuilt_target, unbuilt_targets, unless_built}
-use Rattle.code_spec.proofs.UnbuiltBlocks.{none_in_both}
+use Rattle.ytt_base.specs.Outcomes.{place_at}
+use Rattle.ytt_laws.proofs.Yielded.{yielded_if, yielded_then}
+use Rattle.yaml_spec.specs.Bytes.{is_empty, is_word}
+use Rattle.yaml_spec.specs.Noted.{Comment, Documents, is_note, is_code, code_in}
+use Rattle.yaml_spec.specs.Refusals.{refused}
+use Rattle.code_spec.specs.Code.{Name, Exprs, no_exprs, an_expr}
+use Rattle.code_spec.specs.CodeReading.{CodeReader, Header, if_header, elif_header, else_header, for_header, def_header, end_header}
+use Rattle.code_spec.specs.Program.{Instruction, part, statement, begin_if, begin_elif, begin_else, begin_for, begin_def, close}
+use Rattle.star_spec.specs.Held.{HeldExpr, HeldExprs, HeldParameters, HeldStatement}
+use Rattle.template_spec.specs.Comments.{begins as said_begins}
+use Rattle.template_spec.specs.Comments.{Said, ignored, a_note, a_value, statements, opens, elif, otherwise, closes, arguments_in, code_said, comment_said, header_said, is_bare_note, is_for_one, is_header, known_said, marked_said, name_in, note_names, note_said, note_with, plain_said, value_said, without_end}
+use Rattle.template_spec.specs.Events.{Event, begins, beside, says, Raw, begun, trails, loose, events, gathered, heard, nothing, raw_text, spoken}
 
-built_test : (b : Bool) (p : Place) → unless_built b p ≡ [] → b ≡ true
-built_test true p e = refl
-built_test false p e = cc
+-- ---- readers
 
-integer_fits : (z : ℤ) → is_integer z ≡ true → FitsSigned w128 z
-integer_fits (pos n) h = record { sfits = omega (arith, ltb-true n (2 ^ 127) h) }
-integer_fits (negsuc n) h = record { sfits = omega (arith, ltb-true n (2 ^ 127) h) }
+abbrev pub HeldHeader : Header → Type 0
+HeldHeader (if_header e) = HeldExpr e
+HeldHeader (elif_header e) = HeldExpr e
+HeldHeader else_header = Unit {0}
+HeldHeader (for_header x e) = HeldExpr x × HeldExpr e
+HeldHeader (def_header x ps) = HeldParameters ps
+HeldHeader end_header = Unit {0}
 
--- a place stands behind those of its operand
-one_unbuilt : {A : Type 0} (ps : List Place) (p : Place) → ps ++ (p ∷ []) ≡ [] → A
-one_unbuilt ps p e = let both = none_in_both ps (p ∷ []) e in cc
+abbrev pub HeldInstruction : Instruction → Type 0
+HeldInstruction (part o) = Unit {0}
+HeldInstruction (statement s) = HeldStatement s
+HeldInstruction (begin_if p e) = HeldExpr e
+HeldInstruction (begin_elif p e) = HeldExpr e
+HeldInstruction (begin_else p) = Unit {0}
+HeldInstruction (begin_for p x e) = HeldExpr x × HeldExpr e
+HeldInstruction (begin_def p n fragment x ps) = HeldParameters ps
+HeldInstruction (close p) = Unit {0}
 
--- two things, each of which is such where it has no unbuilt place; and three
-pub two_held : {P Q : Type 0} (ps qs : List Place) → (ps ≡ [] → P) → (qs ≡ [] → Q) → ps ++ qs ≡ [] → P × Q
-two_held ps qs f g h = let both = none_in_both ps qs h in (f both.0, g both.1)
+abbrev pub HeldLine : List Instruction → Type 0
+HeldLine [] = Unit {0}
+HeldLine (i ∷ is) = HeldInstruction i × HeldLine is
 
-pub three_held : {P Q R : Type 0} (ps qs rs : List Place) → (ps ≡ [] → P) → (qs ≡ [] → Q) → (rs ≡ [] → R) → ps ++ (qs ++ rs) ≡ [] → P × Q × R
-three_held ps qs rs f g k h =
-    let both = none_in_both ps (qs ++ rs) h in
-    let rest = none_in_both qs rs both.1 in
-    (f both.0, g rest.0, k rest.1)
+-- whatever it reads
+pub record ReadsHeld (r : CodeReader) : Type 0 where
+  pub expr : (place : Place) (text : List ℕ) → IfOk (r.expr place text) HeldExpr
+  pub args : (place : Place) (text : List ℕ) → IfOk (r.args place text) HeldExprs
+  pub simple : (place : Place) (text : List ℕ) → IfOk (r.simple place text) HeldLine
+  pub header : (place : Place) (text : List ℕ) → IfOk (r.header place text) HeldHeader
 
--- and four
-four_held : {P Q R S : Type 0} (ps qs rs ss : List Place) → (ps ≡ [] → P) → (qs ≡ [] → Q) → (rs ≡ [] → R) → (ss ≡ [] → S) →
-    ps ++ (qs ++ (rs ++ ss)) ≡ [] → P × Q × R × S
-four_held ps qs rs ss f g k l h =
-    let both = none_in_both ps (qs ++ (rs ++ ss)) h in
-    let rest = three_held qs rs ss g k l both.1 in
-    (f both.0, rest.0, rest.1, rest.2)
+-- ---- what is said
 
-module _ (bound : List Name) where
-  mutual
-    pub expr_held : (e : Expr) → unbuilt_expr bound e ≡ [] → HeldExpr e
-    expr_held (code.int p z) h = integer_fits z (built_test (is_integer z) p h)
-    expr_held (code.text p t) h = IsUtf8-from_is_utf8 t (built_test (is_utf8 t) p h)
-    expr_held (code.name p x) h = tt
-    expr_held (code.list p es) h = exprs_held es h
-    expr_held (code.tuple p es) h = exprs_held es h
-    expr_held (code.dict p es) h = entries_held es h
-    expr_held (code.unary p o a) h = expr_held a h
-    expr_held (code.binary p o a b) h = two_held (unbuilt_expr bound a) (unbuilt_expr bound b) (expr_held a) (expr_held b) h
-    expr_held (code.conjunction p a b) h = two_held (unbuilt_expr bound a) (unbuilt_expr bound b) (expr_held a) (expr_held b) h
-    expr_held (code.disjunction p a b) h = two_held (unbuilt_expr bound a) (unbuilt_expr bound b) (expr_held a) (expr_held b) h
-    expr_held (code.conditional p c a b) h = three_held (unbuilt_expr bound c) (unbuilt_expr bound a) (unbuilt_expr bound b) (expr_held c) (expr_held a) (expr_held b) h
-    expr_held (code.index p a i) h = two_held (unbuilt_expr bound a) (unbuilt_expr bound i) (expr_held a) (expr_held i) h
-    expr_held (code.slice p a l g d) h =
-        four_held (unbuilt_expr bound a) (unbuilt_optional bound l) (unbuilt_optional bound g) (unbuilt_optional bound d)
-        (expr_held a) (optional_held l) (optional_held g) (optional_held d) h
-    expr_held (code.call p f es) h = one_unbuilt (unbuilt_expr bound f) p h
-    expr_held (code.attribute p a x) h = one_unbuilt (unbuilt_expr bound a) p h
-    expr_held e h = cc
+abbrev pub HeldSaid : Said → Type 0
+HeldSaid ignored = Unit {0}
+HeldSaid (a_note x es) = HeldExprs es
+HeldSaid (a_value e) = HeldExpr e
+HeldSaid (statements is) = HeldLine is
+HeldSaid (opens h z) = HeldHeader h
+HeldSaid (elif e) = HeldExpr e
+HeldSaid otherwise = Unit {0}
+HeldSaid closes = Unit {0}
 
-    exprs_held : (es : Exprs) → unbuilt_exprs bound es ≡ [] → HeldExprs es
-    exprs_held no_exprs h = tt
-    exprs_held (an_expr e es) h = two_held (unbuilt_expr bound e) (unbuilt_exprs bound es) (expr_held e) (exprs_held es) h
+abbrev pub HeldEvent : Event → Type 0
+HeldEvent (begins p k l) = Unit {0}
+HeldEvent (beside p k b l s) = HeldSaid s
+HeldEvent (says l s) = HeldSaid s
 
-    entries_held : (es : Entries) → unbuilt_entries bound es ≡ [] → HeldEntries es
-    entries_held no_entries h = tt
-    entries_held (an_entry a b es) h =
-        three_held (unbuilt_expr bound a) (unbuilt_expr bound b) (unbuilt_entries bound es) (expr_held a) (expr_held b) (entries_held es) h
+abbrev pub HeldEvents : List Event → Type 0
+HeldEvents [] = Unit {0}
+HeldEvents (e ∷ es) = HeldEvent e × HeldEvents es
 
-    optional_held : (o : OptionalExpr) → unbuilt_optional bound o ≡ [] → HeldOptional o
-    optional_held absent h = tt
-    optional_held (present e) h = expr_held e h
+note_held : (place : Place) (x : Name) (es : Exprs) → HeldExprs es → IfOk (note_with place x es) HeldSaid
+note_held place x no_exprs h = tt
+note_held place x (an_expr e es) h = yielded_if HeldSaid (is_bare_note x) _ _ (λ k. tt) (λ k. h)
 
-  mutual
-    pub target_held : (x : Expr) → unbuilt_target bound x ≡ [] → HeldExpr x
-    target_held (code.name p x) h = tt
-    target_held (code.list p es) h = targets_held es h
-    target_held (code.tuple p es) h = targets_held es h
-    target_held e h = expr_held e h
+header_held : (z : Bool) (h : Header) → HeldHeader h → IfOk (header_said z h) HeldSaid
+header_held z (if_header e) h = h
+header_held z (elif_header e) h = h
+header_held z else_header h = tt
+header_held z (for_header x e) h = h
+header_held z (def_header x ps) h = h
+header_held z end_header h = tt
 
-    targets_held : (es : Exprs) → unbuilt_targets bound es ≡ [] → HeldExprs es
-    targets_held no_exprs h = tt
-    targets_held (an_expr e es) h = two_held (unbuilt_target bound e) (unbuilt_targets bound es) (target_held e) (targets_held es) h
+spoken_held : (s : Said) (event : Said → Event) (es : List Event) → (HeldSaid s → HeldEvent (event s)) → HeldSaid s → HeldEvents es → HeldEvents (spoken s event es)
+spoken_held ignored event es f h g = g
+spoken_held (a_note x vs) event es f h g = (f h, g)
+spoken_held (a_value e) event es f h g = (f h, g)
+spoken_held (statements is) event es f h g = (f h, g)
+spoken_held (opens k z) event es f h g = (f h, g)
+spoken_held (elif e) event es f h g = (f h, g)
+spoken_held otherwise event es f h g = (f h, g)
+spoken_held closes event es f h g = (f h, g)
 
-  pub statement_held : (s : Statement) → unbuilt_statement bound s ≡ [] → HeldStatement s
-  statement_held (evaluate p e) h = expr_held e h
-  statement_held (assign p x e) h = two_held (unbuilt_target bound x) (unbuilt_expr bound e) (target_held x) (expr_held e) h
-  statement_held (augment p o q x e) h = two_held (unbuilt_target bound x) (unbuilt_expr bound e) (target_held x) (expr_held e) h
-  statement_held (return p e) h = expr_held e h
-  statement_held s h = tt
+module _ (r : CodeReader) (reads : ReadsHeld r) where
+  known_held : (place : Place) (x : Name) (arguments : List ℕ) → IfOk (known_said r place x arguments) HeldSaid
+  known_held place x arguments = yielded_then HeldExprs HeldSaid (r.args place arguments) (note_with place x) (reads.args place arguments) (note_held place x)
+
+  noted_held : (place : Place) (text : List ℕ) → IfOk (note_said r place text) HeldSaid
+  noted_held place text =
+      yielded_if HeldSaid (is_empty text) _ _ (λ e. tt)
+      (λ e. yielded_if HeldSaid (is_word note_names (name_in text)) _ _ (λ f. known_held place (name_in text) (arguments_in text)) (λ f. tt))
+
+  code_held : (place : Place) (text : List ℕ) → IfOk (code_said r place text) HeldSaid
+  code_held place text =
+      yielded_if HeldSaid (is_header text) _ _
+      (λ e. yielded_then HeldHeader HeldSaid (r.header place (without_end text)) (header_said (is_for_one text)) (reads.header place (without_end text)) (header_held (is_for_one text)))
+      (λ e. yielded_then HeldLine HeldSaid (r.simple place text) (λ is. Ok (statements is)) (reads.simple place text) (λ is h. h))
+
+  value_held : (place : Place) (text : List ℕ) → IfOk (value_said r place text) HeldSaid
+  value_held place text = yielded_then HeldExpr HeldSaid (r.expr place text) (λ e. Ok (a_value e)) (reads.expr place text) (λ e h. h)
+
+  marked_held : (place : Place) (own_line : Bool) (text : List ℕ) → IfOk (marked_said r place own_line text) HeldSaid
+  marked_held place own_line text =
+      yielded_if HeldSaid (is_code text) _ _
+      (λ e. yielded_if HeldSaid own_line _ _ (λ f. code_held place (code_in text)) (λ f. value_held place (code_in text))) (λ e. noted_held place (drop 2 text))
+
+  plain_held : (ignore : Bool) (place : Place) (text : List ℕ) → IfOk (plain_said ignore place text) HeldSaid
+  plain_held ignore place text = yielded_if HeldSaid (said_begins text (codes "#!") || ignore) (Ok ignored) (refused kind.PlainComment place) (λ f. tt) (λ f. tt)
+
+  comment_held : (ignore : Bool) (place : Place) (c : Comment) → IfOk (comment_said r ignore place c) HeldSaid
+  unfolding comment_said
+  comment_held ignore place c =
+      yielded_if HeldSaid (is_note c.text) _ _ (λ e. marked_held place c.own_line c.text) (λ e. plain_held ignore place c.text)
+
+  heard_held : (ignore : Bool) (file : ℕ) (xs : List Raw) → IfOk (heard r ignore file xs) HeldEvents
+  heard_held ignore file [] = tt
+  heard_held ignore file (begun p k l ∷ xs) =
+      yielded_then HeldEvents HeldEvents (heard r ignore file xs) (λ es. Ok (begins p k l ∷ es)) (heard_held ignore file xs) (λ es h. (tt, h))
+  heard_held ignore file (trails p k b c ∷ xs) =
+      yielded_then HeldSaid HeldEvents (comment_said r ignore (place_at file c.line) c) _ (comment_held ignore (place_at file c.line) c)
+      (λ s g. yielded_then HeldEvents HeldEvents (heard r ignore file xs) (λ es. Ok (spoken s (beside p k b c.line) es)) (heard_held ignore file xs)
+      (λ es h. spoken_held s (beside p k b c.line) es (λ k. k) g h))
+  heard_held ignore file (loose c ∷ xs) =
+      yielded_then HeldSaid HeldEvents (comment_said r ignore (place_at file c.line) c) _ (comment_held ignore (place_at file c.line) c)
+      (λ s g. yielded_then HeldEvents HeldEvents (heard r ignore file xs) (λ es. Ok (spoken s (says c.line) es)) (heard_held ignore file xs)
+      (λ es h. spoken_held s (says c.line) es (λ k. k) g h))
+
+  pub events_held : (ignore : Bool) (file : ℕ) (ds : Documents) → IfOk (events r ignore file ds) HeldEvents
+  unfolding events
+  events_held ignore file ds = heard_held ignore file (gathered r file nothing (raw_text ds))

@@ -5,7 +5,7 @@ use Rattle.std.specs.List.{list_all}
 use Rattle.ytt_spec.proofs.Options.{Follows, asked_next, begun_follows, follows_begun, next, same, values_of-append}
 use Rattle.ytt_spec.proofs.WordsRead.{read_request, request_read}
 use Rattle.ytt_spec.specs.Requests.{Begins, IsFirstWrong, IsRequest}
-use Rattle.ytt_spec.specs.Words.{Asked, asked_for, wrong, Command, CommandOption, Given, Form, alone, apart, joined, Often, exactly_once, at_most_once, added, are_all_given, asked, asked_from, asked_value, begun, command_given, command_options, default_steps, file_option, ignore_option, is_command, may_follow, may_have, may_stand, name_in, named, render, steps_option, value_in, value_of, values_of}
+use Rattle.ytt_spec.specs.Words.{Asked, asked_for, wrong, Command, CommandOption, Given, Form, alone, apart, joined, Often, exactly_once, at_most_once, added, are_all_given, asked, asked_from, asked_value, begun, command_given, command_options, default_depth, default_steps, depth_option, file_option, ignore_option, is_command, may_follow, may_have, may_stand, name_in, named, render, steps_option, value_in, value_of, values_of}
 
 -- Of words from number n on, the one of number m is the first at which the reading can't end in a request.
 pub record Stops (read : List (List ℕ) → Asked) (n : ℕ) (words : List (List ℕ)) (m : ℕ) : Type 0 where
@@ -106,8 +106,8 @@ at_most (v ∷ []) h = refl
 at_most (v ∷ w ∷ vs) h = cc
 
 -- the options that may be left out stand as often as they may
-others_given : (gs : List Given) → Within gs → list_all (λ o. may_have o.often (values_of o.name gs)) (steps_option ∷ ignore_option ∷ []) ≡ true
-others_given gs w = λ i. at_most (values_of steps_option.name gs) (w steps_option.name) i && (at_most (values_of ignore_option.name gs) (w ignore_option.name) i && true)
+others_given : (gs : List Given) → Within gs → list_all (λ o. may_have o.often (values_of o.name gs)) (steps_option ∷ depth_option ∷ ignore_option ∷ []) ≡ true
+others_given gs w = λ i. at_most (values_of steps_option.name gs) (w steps_option.name) i && (at_most (values_of depth_option.name gs) (w depth_option.name) i && (at_most (values_of ignore_option.name gs) (w ignore_option.name) i && true))
 
 abbrev path_words : List (List ℕ)
 path_words = file_option.name ∷ codes "a" ∷ []
@@ -132,16 +132,17 @@ completes n gs w = by (values_of file_option.name gs) refl (w file_option.name)
 
 -- each option that is no flag has a value
 sample : (name : List ℕ) (o : CommandOption) → named name command_options ≡ Some o → may_stand o alone ≡ false → (value : List ℕ) × (may_stand o (apart value) ≡ true)
-sample name o h f = by (bytes_eq name file_option.name) (bytes_eq name steps_option.name) (bytes_eq name ignore_option.name) h
+sample name o h f = by (bytes_eq name file_option.name) (bytes_eq name steps_option.name) (bytes_eq name depth_option.name) (bytes_eq name ignore_option.name) h
   where
-    by : (a b c : Bool) → cond a (Some file_option) (cond b (Some steps_option) (cond c (Some ignore_option) None)) ≡ Some o → (value : List ℕ) × (may_stand o (apart value) ≡ true)
-    by true b c e = let is : file_option ≡ o = cc in (codes "a", ap (λ (x : CommandOption). may_stand x (apart (codes "a"))) (sym is))
-    by false true c e = let is : steps_option ≡ o = cc in (codes "1", ap (λ (x : CommandOption). may_stand x (apart (codes "1"))) (sym is))
-    by false false true e =
+    by : (a b c d : Bool) → cond a (Some file_option) (cond b (Some steps_option) (cond c (Some depth_option) (cond d (Some ignore_option) None))) ≡ Some o → (value : List ℕ) × (may_stand o (apart value) ≡ true)
+    by true b c d e = let is : file_option ≡ o = cc in (codes "a", ap (λ (x : CommandOption). may_stand x (apart (codes "a"))) (sym is))
+    by false true c d e = let is : steps_option ≡ o = cc in (codes "1", ap (λ (x : CommandOption). may_stand x (apart (codes "1"))) (sym is))
+    by false false true d e = let is : depth_option ≡ o = cc in (codes "1", ap (λ (x : CommandOption). may_stand x (apart (codes "1"))) (sym is))
+    by false false false true e =
         let is : ignore_option ≡ o = cc in
         let never : true ≡ false = ap (λ (x : CommandOption). may_stand x alone) is ∙ f in
         cc
-    by false false false e = cc
+    by false false false false e = cc
 
 completes_value : (n : ℕ) (gs : List Given) (o : CommandOption) (name : List ℕ) → Within gs → Follows gs name o → may_stand o alone ≡ false → Completes (asked_value n gs o name)
 completes_value n gs o name w follows no_flag =
@@ -231,7 +232,7 @@ mutual
 -- ---- the command
 
 abbrev path_command : Command
-path_command = render (record { path = codes "a"; steps = default_steps; ignore_unknown = false })
+path_command = render (record { path = codes "a"; budget = record { steps = default_steps; depth = default_depth }; ignore_unknown = false })
 
 -- behind a first word that is no command all is read as options
 without_command : (word : List ℕ) (words : List (List ℕ)) (m : ℕ) → is_command word ≡ false → (front : List (List ℕ)) (s : Stops (asked_from 1 []) 1 (word ∷ words) m) → s.front ≡ front → Stops asked 1 (word ∷ words) m

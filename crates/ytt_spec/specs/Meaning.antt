@@ -16,9 +16,10 @@ use Rattle.value_spec.specs.Outcomes.{State, Ending, done, bad}
 use Rattle.code_spec.specs.CodeReading.{CodeReader}
 use Rattle.template_meaning.specs.Files.{FileResult, Loader, nothing_to_load}
 use Rattle.template_meaning.specs.Meaning.{BuildFile, documents}
+use Rattle.template_spec.specs.Numbered.{numbered}
 use Rattle.template_spec.specs.Passes.{template_passed}
 use Rattle.template_spec.specs.Template.{Items}
-use Rattle.ytt_spec.specs.Words.{Command, render}
+use Rattle.ytt_spec.specs.Words.{Budget, Command, render}
 
 abbrev pub is_slash : ℕ → Bool
 is_slash b = b == 47
@@ -60,38 +61,34 @@ outcome_of (bad fault s) = Err fault
 abbrev pub built_with : {H : Type 0} → Host H → Loader H → (files : ℕ → Items) → (depth : ℕ) → Items → State H → Outcome Trees
 built_with host loader files depth template s = outcome_of (BuildFile starlark host loader files depth template s)
 
--- so many calls of functions may stand in one another
-abbrev pub default_depth : ℕ
-default_depth = 100
-
 -- a run begins with these steps, and without any object
 abbrev pub started : (steps : ℕ) → State (Unit {0})
 started steps = record { store = []; steps = steps; host = tt }
 
--- with so many steps, where no host gives anything and no file is loaded beside the template
-abbrev pub built : (steps : ℕ) → Items → Outcome Trees
-built steps template = built_with no_natives nothing_to_load (λ file. template) default_depth template (started steps)
+-- within a budget, where no host gives anything and no file is loaded beside the template; each function has its number
+abbrev pub built : Budget → Items → Outcome Trees
+built budget template = built_with no_natives nothing_to_load (λ file. numbered template) budget.depth (numbered template) (started budget.steps)
 
 -- Documents without code are what they are, which takes no steps; with code they are a template, which is built.
-abbrev pub documents_meaning : CodeReader → (ignore_unknown : Bool) → (steps : ℕ) → Documents → Outcome Trees
-documents_meaning r ignore steps ds = if has_code ds then template_passed r ignore 1 ds >>= built steps else plain_trees ds
+abbrev pub documents_meaning : CodeReader → (ignore_unknown : Bool) → Budget → Documents → Outcome Trees
+documents_meaning r ignore budget ds = if has_code ds then template_passed r ignore 1 ds >>= built budget else plain_trees ds
 
 -- A text that reads as no documents has its first refusal.
-abbrev pub text_meaning : CodeReader → (ignore_unknown : Bool) → (steps : ℕ) → List ℕ → Outcome Trees
-text_meaning r ignore steps bytes = Read 1 bytes >>= documents_meaning r ignore steps
+abbrev pub text_meaning : CodeReader → (ignore_unknown : Bool) → Budget → List ℕ → Outcome Trees
+text_meaning r ignore budget bytes = Read 1 bytes >>= documents_meaning r ignore budget
 
 -- What a path means, by what stands at it: the documents of a file of such a name.
-abbrev pub path_meaning : CodeReader → (path : List ℕ) → (ignore_unknown : Bool) → (steps : ℕ) → Standing → Outcome Trees
-path_meaning r path ignore steps nothing = Err (path_fault kind.FileMissing path)
-path_meaning r path ignore steps (folder names) = Err not_built
-path_meaning r path ignore steps (file bytes) =
+abbrev pub path_meaning : CodeReader → (path : List ℕ) → (ignore_unknown : Bool) → Budget → Standing → Outcome Trees
+path_meaning r path ignore budget nothing = Err (path_fault kind.FileMissing path)
+path_meaning r path ignore budget (folder names) = Err not_built
+path_meaning r path ignore budget (file bytes) =
     if not (gives_documents (last_part path)) then Err not_built
     else if nat_lt largest_file (length bytes) then Err (path_fault kind.FileTooLarge path)
-    else text_meaning r ignore steps bytes
+    else text_meaning r ignore budget bytes
 
 -- a text means this outcome, whichever reader reads the code as it reads
-abbrev pub TextMeans : (ignore_unknown : Bool) → (steps : ℕ) → List ℕ → Outcome Trees → Type 0
-TextMeans ignore steps bytes = MeansCode (λ r. text_meaning r ignore steps bytes)
+abbrev pub TextMeans : (ignore_unknown : Bool) → Budget → List ℕ → Outcome Trees → Type 0
+TextMeans ignore budget bytes = MeansCode (λ r. text_meaning r ignore budget bytes)
 
 -- ---- what a request means
 
@@ -115,7 +112,7 @@ named_in names (Err fault) = Err (record { fault = fault; names = names })
 
 -- What a command means over a whole tree of files. The reader of code is a parameter: each that reads as code reads gives the same.
 abbrev pub meaning : CodeReader → Command → (tree : List ℕ → Standing) → Meant
-meaning r (render asked) tree = named_in (file_names (render asked)) (path_meaning r asked.path asked.ignore_unknown asked.steps (tree asked.path))
+meaning r (render asked) tree = named_in (file_names (render asked)) (path_meaning r asked.path asked.ignore_unknown asked.budget (tree asked.path))
 
 -- it means this, whichever reader reads the code as it reads
 abbrev pub Means : Command → (tree : List ℕ → Standing) → Meant → Type 0

@@ -5,10 +5,15 @@ use Rattle.std.specs.Option.{option_map_or}
 use Rattle.std.specs.Str.{all_ascii_digits}
 use Rattle.std.specs.Str.Parse.{digits_value}
 
--- what `render` is asked with: the path, the budget of steps, and whether comments of no known form may stand in a template
+-- how many steps a run may take, and how many calls of functions may stand in one another in it
+pub record Budget : Type 0 where
+  pub steps : ℕ
+  pub depth : ℕ
+
+-- what `render` is asked with: the path, the budget of the run, and whether comments of no known form may stand in a template
 pub record Render : Type 0 where
   pub path : List ℕ
-  pub steps : ℕ
+  pub budget : Budget
   pub ignore_unknown : Bool
 
 -- what may be asked for
@@ -33,6 +38,13 @@ default_steps = 5000000
 abbrev pub most_steps : ℕ
 most_steps = 20000000
 
+-- the same for how deep calls stand in one another
+abbrev pub default_depth : ℕ
+default_depth = 100
+
+abbrev pub most_depth : ℕ
+most_depth = 100
+
 abbrev pub number_of : List ℕ → ℕ
 number_of word = digits_value 10 word
 
@@ -40,9 +52,15 @@ number_of word = digits_value 10 word
 abbrev pub is_number : List ℕ → Bool
 is_number word = nat_le 1 (length word) && nat_le (length word) 8 && all_ascii_digits word
 
--- whose number is within its range
+-- whose number is from 1 to the most that there may be
+abbrev pub is_number_to : (most : ℕ) → List ℕ → Bool
+is_number_to most word = is_number word && (nat_le 1 (number_of word) && nat_le (number_of word) most)
+
 abbrev pub is_steps : List ℕ → Bool
-is_steps word = is_number word && (nat_le 1 (number_of word) && nat_le (number_of word) most_steps)
+is_steps word = is_number_to most_steps word
+
+abbrev pub is_depth : List ℕ → Bool
+is_depth word = is_number_to most_depth word
 
 -- ---- options
 
@@ -69,12 +87,15 @@ file_option = record { name = codes "-f"; is_long = false; often = exactly_once;
 abbrev pub steps_option : CommandOption
 steps_option = record { name = codes "--steps"; is_long = true; often = at_most_once; takes = a_value is_steps }
 
+abbrev pub depth_option : CommandOption
+depth_option = record { name = codes "--depth"; is_long = true; often = at_most_once; takes = a_value is_depth }
+
 abbrev pub ignore_option : CommandOption
 ignore_option = record { name = codes "--ignore-unknown-comments"; is_long = true; often = at_most_once; takes = no_value }
 
 -- all options
 abbrev pub command_options : List CommandOption
-command_options = file_option ∷ steps_option ∷ ignore_option ∷ []
+command_options = file_option ∷ steps_option ∷ depth_option ∷ ignore_option ∷ []
 
 -- the option of this name
 abbrev pub named : List ℕ → List CommandOption → Option CommandOption
@@ -139,11 +160,15 @@ abbrev pub first_of : List (List ℕ) → Option (List ℕ)
 first_of [] = None
 first_of (v ∷ vs) = Some v
 
+-- the number that the option of this name has, or this one where it isn't there
+abbrev pub number_given : CommandOption → (default : ℕ) → List Given → ℕ
+number_given o default gs = option_map_or number_of (first_of (values_of o.name gs)) default
+
 -- the command that is asked for with these options
 abbrev pub command_given : List Given → Command
 command_given gs = render (record {
   path = option_map_or (λ v. v) (first_of (values_of file_option.name gs)) [];
-  steps = option_map_or number_of (first_of (values_of steps_option.name gs)) default_steps;
+  budget = record { steps = number_given steps_option default_steps gs; depth = number_given depth_option default_depth gs };
   ignore_unknown = is_some (first_of (values_of ignore_option.name gs));
 })
 

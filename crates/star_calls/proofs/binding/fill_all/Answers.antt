@@ -2,11 +2,10 @@ use Rattle.std.proofs.Common.{ap, refl, rules, ◌∙◌}
 use Rattle.std.proofs.lemmas.List.{nil_from_length}
 use Rattle.object_arena.specs.Names.{seen}
 use Rattle.star_steps.specs.Meets.{state_in}
-use Rattle.star_tree.specs.Whole.{parameter_of, parameters_of}
-use Rattle.std.specs.Prelude.{map as each}
+use Rattle.star_tree.specs.Whole.{parameters_of}
 use Rattle.star_values.proofs.Growing.{grows_same, grows_then}
 use Rattle.star_calls.specs.Left.{completed, rest_of}
-use Rattle.star_calls.proofs.Whole.{gives_same, gives_stopped, goes_on, is_done}
+use Rattle.star_calls.proofs.Whole.{gives_same, gives_stopped}
 use Rattle.star_calls.proofs.binding.fill_all.Goals as goal
 
 pub loop-param-init : goal.loop-param-init
@@ -18,7 +17,7 @@ loop-param-preserved c =
     record {
       same = λ file n. c.loop-param.invariant.same file n
           ∙ ap (λ ps. completed c.args.at (parameters_of file ps) (rest_of b c.loop-param.left) (state_in b n)) c.in-Some.ensures.cases.0
-          ∙ goes_on c.in_ok-fill.field-0 _ _ _ _ c.if-branch.false (c.in_ok-fill.ensures.fills file n (each (parameter_of file) c.in-Some.more.now));
+          ∙ c.in_ok-fill.ensures.fills file n;
       owns = c.in_ok-fill.ensures.owns;
       grows = grows_then (seen c.args.arena.now) b (seen c.fill.new.arena) c.loop-param.invariant.grows c.in_ok-fill.ensures.grows;
     }
@@ -38,20 +37,7 @@ returns-in_err-fill c = λ file n.
     let a = seen c.args.arena.now in
     let b = seen c.loop-param.arena in
     let d = seen c.fill.new.arena in
-    gives_stopped c.from_residual.result c.in_err-fill.field-0.0 a d n _ _ _ _ (search rules)
+    gives_stopped c.from_residual.result c.in_err-fill.field-0.0 a d n _ _ _ (search rules)
     (c.loop-param.invariant.same file n ∙ ap (λ ps. completed c.args.at (parameters_of file ps) (rest_of b c.loop-param.left) (state_in b n)) c.in-Some.ensures.cases.0)
-    (c.in_err-fill.ensures.fills file n (each (parameter_of file) c.in-Some.more.now))
+    (c.in_err-fill.ensures.fills file n)
     (grows_then a b d c.loop-param.invariant.grows c.in_err-fill.ensures.grows)
-
-pub returns-then-branch : goal.returns-then-branch
-returns-then-branch c = λ file n.
-    let a = seen c.args.arena.now in
-    let b = seen c.loop-param.arena in
-    let d = seen c.fill.new.arena in
-    record {
-      meaning = c.loop-param.invariant.same file n
-          ∙ ap (λ ps. completed c.args.at (parameters_of file ps) (rest_of b c.loop-param.left) (state_in b n)) c.in-Some.ensures.cases.0
-          ∙ is_done c.in_ok-fill.field-0 _ _ _ _ c.if-branch.true (c.in_ok-fill.ensures.fills file n (each (parameter_of file) c.in-Some.more.now));
-      owns = c.in_ok-fill.ensures.owns.got;
-      grows = grows_then a b d c.loop-param.invariant.grows c.in_ok-fill.ensures.grows;
-    }

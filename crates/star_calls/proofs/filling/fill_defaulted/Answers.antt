@@ -13,7 +13,7 @@ returns-in-None c =
     let a = seen c.args.arena.now in
     let none = nil_from_length c.args.left.now.defaults.now c.in-None.ensures.cases in
     record {
-      fills = λ n qs e. fills_refused c.args.at c.refusal.result _ _ _ _ c.refusal.ensures
+      fills = λ n qs e. fills_refused c.args.at c.refusal.result _ _ _ c.refusal.ensures
           (no_default c.args.at c.args.name.now e (parameters_from qs) (rest_of a c.args.left.now) (state_in a n) (ap (values_of a) none));
       owns = tt;
     }
@@ -22,7 +22,7 @@ pub returns-in-Some : goal.returns-in-Some
 returns-in-Some c =
     let a = seen c.args.arena.now in
     record {
-      fills = λ n qs e. fills_same c.fill_named.result _ _ _ _ _
+      fills = λ n qs e. fills_same c.fill_named.result _ _ _ _
           (default_taken c.args.at c.args.name.now e (parameters_from qs) (rest_of a c.args.left.now) (value_of a c.in-Some.first.now) (values_of a c.in-Some.more.now) (state_in a n) (ap (values_of a) c.in-Some.ensures.cases.0))
           (c.fill_named.ensures.fills n qs);
       owns = c.fill_named.ensures.owns;

@@ -11,7 +11,7 @@ pub returns-in-None : goal.returns-in-None
 returns-in-None c =
     let a = seen c.args.arena.now in
     record {
-      fills = λ n qs. fills_refused c.args.at c.refusal.result _ _ _ _ c.refusal.ensures
+      fills = λ n qs. fills_refused c.args.at c.refusal.result _ _ _ c.refusal.ensures
           (taken_none c.args.at c.args.name.now (option_in a.held c.args.default) (parameters_from qs) (rest_of a c.args.left.now) (state_in a n) (c.in-None.ensures.value a));
       owns = tt;
     }

@@ -15,5 +15,5 @@ returns-then-is_empty c = λ n qs.
 pub returns : goal.returns
 returns c = λ n qs.
     let a = seen c.args.arena.now in
-    fills_refused c.args.at c.refusal.result _ _ _ _ c.refusal.ensures
+    fills_refused c.args.at c.refusal.result _ _ _ c.refusal.ensures
     (star_refused c.args.at (parameters_from qs) (rest_of a c.args.left.now) (state_in a n) (some_positions a c.args.left.now.positions.now c.if-is_empty.ensures))

@@ -9,8 +9,8 @@ use Rattle.value_spec.specs.Outcomes.{bad, then_do}
 use Rattle.star_eval.specs.declared.session.Session.{Session}
 use Rattle.star_eval.specs.Frames.{around_flow}
 use Rattle.star_eval.specs.Meets.{Here, arena_of, state_of}
-use Rattle.star_eval.specs.PartsSoFar.{augmented_in}
-use Rattle.star_eval.specs.View.{arena_in, env_of, nodes_in, waiting_in}
+use Rattle.star_eval.specs.Doing.{augmented_in}
+use Rattle.star_eval.specs.View.{arena_in, nodes_in, setting_of, waiting_in}
 use Rattle.star_eval.specs.Waiting.{unwind_flow}
 use Rattle.star_eval.proofs.Going.{goes}
 use Rattle.star_eval.proofs.Growing.{kept}
@@ -37,10 +37,10 @@ returns-in-Ok c =
     let x = value_kept a b c.args.indexed g c.requires.indexed in
     let y = value_kept a b c.args.index g c.requires.index in
     let o = binary_operator_of c.args.op in
-    let e = expr_of m.file c.args.expr.now in
+    let e = expr_of m.code.file c.args.expr.now in
     goes c.within.result c.within.new.m
-    ((λ i. unwind_flow (k.env i) (k.waiting i) (augmented_in c.args.place o c.args.at (x i) (y i) e (k.env i) (value_of b c.in-Ok.old) (k.nodes i) (state_of s)))
-    ∙ ap (λ r. around_flow m (waiting_in m) (then_do r (λ old. augmented_in c.args.place o c.args.at (value_of a c.args.indexed) (value_of a c.args.index) e (env_of m) old (nodes_in m)))) (sym c.in-Ok.ensures.row.meaning))
+    ((λ i. unwind_flow (k.setting i) (k.waiting i) (augmented_in (k.setting i) c.args.place o c.args.at (x i) (y i) e (value_of b c.in-Ok.old) (k.nodes i) (state_of s)))
+    ∙ ap (λ r. around_flow m (waiting_in m) (then_do r (λ old. augmented_in (setting_of m) c.args.place o c.args.at (value_of a c.args.indexed) (value_of a c.args.index) e old (nodes_in m)))) (sym c.in-Ok.ensures.row.meaning))
     c.within.ensures
 
 pub returns-in-Err-Fault : goal.returns-in-Err-Fault
@@ -50,12 +50,12 @@ returns-in-Err-Fault c =
     let s : Session = record { arena = c.index.new.arena; work = c.index.new.work } in
     let k = kept m s c.index.ensures.row.grows c.requires.sound in
     let o = binary_operator_of c.args.op in
-    let e = expr_of m.file c.args.expr.now in
+    let e = expr_of m.code.file c.args.expr.now in
     let row = index_row {H = Here} c.args.at (value_of a c.args.indexed) (value_of a c.args.index) in
     let refused : row (state_of m.session) ≡ bad c.in-Err-Fault.fault (state_of s) = subst (λ (t : Stop). Meets (value_of (arena_of s)) (Err t) (state_of s) (row (state_of m.session))) c.in-Err-Fault.field-0-is c.in-Err-Fault.ensures.row.meaning in
     rw (c.in-Err-Fault.field-0-is) (record {
-      same = (λ i. unwind_flow (k.env i) (k.waiting i) (bad c.in-Err-Fault.fault (state_of s)))
-          ∙ ap (λ r. around_flow m (waiting_in m) (then_do r (λ old. augmented_in c.args.place o c.args.at (value_of a c.args.indexed) (value_of a c.args.index) e (env_of m) old (nodes_in m)))) (sym refused);
+      same = (λ i. unwind_flow (k.setting i) (k.waiting i) (bad c.in-Err-Fault.fault (state_of s)))
+          ∙ ap (λ r. around_flow m (waiting_in m) (then_do r (λ old. augmented_in (setting_of m) c.args.place o c.args.at (value_of a c.args.indexed) (value_of a c.args.index) e old (nodes_in m)))) (sym refused);
       sound = k.sound;
       owned = tt;
     })

@@ -9,7 +9,7 @@ use Rattle.value_spec.specs.Outcomes.{bad, then_do}
 use Rattle.star_eval.specs.declared.session.Session.{Session}
 use Rattle.star_eval.specs.Frames.{around_flow}
 use Rattle.star_eval.specs.Meets.{Here, arena_of, state_of}
-use Rattle.star_eval.specs.PartsSoFar.{concluded}
+use Rattle.star_eval.specs.Doing.{concluded}
 use Rattle.star_eval.specs.View.{arena_in, env_of, nodes_in, waiting_in}
 use Rattle.star_eval.specs.Waiting.{unwind_flow}
 use Rattle.star_eval.proofs.Going.{goes}
@@ -27,7 +27,7 @@ returns-in-Ok c =
     let x = c.args.name.now in
     let v = value_of (arena_of s) c.in-Ok.changed in
     goes c.name_gets.result c.name_gets.new.m
-    ((λ i. unwind_flow (k.env i) (k.waiting i) (concluded (write_name c.args.at x v (box_of x (k.env i))) (k.nodes i) (state_of s)))
+    ((λ i. unwind_flow (k.setting i) (k.waiting i) (concluded (write_name c.args.at x v (box_of x (k.setting i).env)) (k.nodes i) (state_of s)))
     ∙ ap (λ o. around_flow m (waiting_in m) (then_do o (λ w. concluded (write_name c.args.at x w (box_of x (env_of m))) (nodes_in m)))) (sym c.in-Ok.ensures.row.meaning))
     c.name_gets.ensures
 
@@ -40,7 +40,7 @@ returns-in-Err-Fault c =
     let row = augment_row {H = Here} c.args.place (binary_operator_of c.args.op) (value_of (arena_in m) c.args.old) (value_of (arena_in m) c.args.value) in
     let refused : row (state_of m.session) ≡ bad c.in-Err-Fault.fault (state_of s) = subst (λ (e : Stop). Meets (value_of (arena_of s)) (Err e) (state_of s) (row (state_of m.session))) c.in-Err-Fault.field-0-is c.in-Err-Fault.ensures.row.meaning in
     rw (c.in-Err-Fault.field-0-is) (record {
-      same = (λ i. unwind_flow (k.env i) (k.waiting i) (bad c.in-Err-Fault.fault (state_of s)))
+      same = (λ i. unwind_flow (k.setting i) (k.waiting i) (bad c.in-Err-Fault.fault (state_of s)))
           ∙ ap (λ o. around_flow m (waiting_in m) (then_do o (λ w. concluded (write_name c.args.at x w (box_of x (env_of m))) (nodes_in m)))) (sym refused);
       sound = k.sound;
       owned = tt;

@@ -10,7 +10,7 @@ use Rattle.value_spec.specs.Outcomes.{bad, then_do}
 use Rattle.star_eval.specs.declared.session.Session.{Session}
 use Rattle.star_eval.specs.Frames.{around_flow}
 use Rattle.star_eval.specs.Meets.{Here, arena_of, state_of}
-use Rattle.star_eval.specs.PartsSoFar.{concluded}
+use Rattle.star_eval.specs.Doing.{concluded}
 use Rattle.star_eval.specs.View.{arena_in, nodes_in, waiting_in}
 use Rattle.star_eval.specs.Waiting.{unwind_flow}
 use Rattle.star_eval.proofs.Going.{goes}
@@ -38,7 +38,7 @@ returns-in-Ok c =
     let y = value_kept a b c.args.indexed.1 g c.requires.index in
     let v = value_of b c.in-Ok.changed in
     goes c.index_gets.result c.index_gets.new.m
-    ((λ i. unwind_flow (k.env i) (k.waiting i) (concluded (set_index_row c.args.at (x i) (y i) v) (k.nodes i) (state_of s)))
+    ((λ i. unwind_flow (k.setting i) (k.waiting i) (concluded (set_index_row c.args.at (x i) (y i) v) (k.nodes i) (state_of s)))
     ∙ ap (λ o. around_flow m (waiting_in m) (then_do o (λ w. concluded (set_index_row c.args.at (value_of a c.args.indexed.0) (value_of a c.args.indexed.1) w) (nodes_in m)))) (sym c.in-Ok.ensures.row.meaning))
     c.index_gets.ensures
 
@@ -51,7 +51,7 @@ returns-in-Err-Fault c =
     let row = augment_row {H = Here} c.args.place (binary_operator_of c.args.op) (value_of a c.args.old) (value_of a c.args.value) in
     let refused : row (state_of m.session) ≡ bad c.in-Err-Fault.fault (state_of s) = subst (λ (e : Stop). Meets (value_of (arena_of s)) (Err e) (state_of s) (row (state_of m.session))) c.in-Err-Fault.field-0-is c.in-Err-Fault.ensures.row.meaning in
     rw (c.in-Err-Fault.field-0-is) (record {
-      same = (λ i. unwind_flow (k.env i) (k.waiting i) (bad c.in-Err-Fault.fault (state_of s)))
+      same = (λ i. unwind_flow (k.setting i) (k.waiting i) (bad c.in-Err-Fault.fault (state_of s)))
           ∙ ap (λ o. around_flow m (waiting_in m) (then_do o (λ w. concluded (set_index_row c.args.at (value_of a c.args.indexed.0) (value_of a c.args.indexed.1) w) (nodes_in m)))) (sym refused);
       sound = k.sound;
       owned = tt;

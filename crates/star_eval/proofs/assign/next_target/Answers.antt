@@ -5,7 +5,7 @@ use Rattle.code_spec.specs.Code.{an_expr}
 use Rattle.star_eval.specs.Frames.{around_value}
 use Rattle.star_eval.specs.Meets.{state_of}
 use Rattle.star_eval.specs.Sources.{Advances, left_of}
-use Rattle.star_eval.specs.View.{arena_in, env_of, waiting_in}
+use Rattle.star_eval.specs.View.{arena_in, setting_of, waiting_in}
 use Rattle.star_eval.proofs.Going.{goes}
 use Rattle.star_eval.proofs.Rows.{first_assigned, none_assigned}
 use Rattle.star_eval.proofs.assign.next_target.Goals as goal
@@ -22,7 +22,7 @@ returns-in-None-2 c =
     let a = arena_in m in
     let none : left_of a c.args.source ≡ [] = subst (Advances a c.args.source) c.in-None-2.is (c.in_ok-advance.ensures a c.requires.source) in
     record {
-      same = ap (around_value m (waiting_in m)) (none_assigned c.args.place (env_of m) (exprs_of m.file c.args.targets.now) (left_of a c.args.source) (state_of m.session) none);
+      same = ap (around_value m (waiting_in m)) (none_assigned c.args.place (setting_of m) (exprs_of m.code.file c.args.targets.now) (left_of a c.args.source) (state_of m.session) none);
       sound = c.requires.sound;
       owned = tt;
     }
@@ -33,9 +33,9 @@ returns-in-Some-2 c =
     let a = arena_in m in
     let h = c.in_ok-advance.ensures a c.requires.source in
     let first : left_of a c.args.source ≡ value_of a c.in-Some-2.value ∷ left_of a c.in-Some-2.source = search (rules, h) in
-    let targets : exprs_of m.file c.args.targets.now ≡ an_expr (expr_of m.file c.in-Some.target.now) (exprs_of m.file c.in-Some.rest.now) = search rules in
+    let targets : exprs_of m.code.file c.args.targets.now ≡ an_expr (expr_of m.code.file c.in-Some.target.now) (exprs_of m.code.file c.in-Some.rest.now) = search rules in
     goes c.push.result c.push.new.m
     (ap (around_value m (waiting_in m))
-    (first_assigned c.args.place (env_of m) (expr_of m.file c.in-Some.target.now) (exprs_of m.file c.in-Some.rest.now) (exprs_of m.file c.args.targets.now) (value_of a c.in-Some-2.value) (left_of a c.in-Some-2.source) (left_of a c.args.source) (state_of m.session) targets
+    (first_assigned c.args.place (setting_of m) (expr_of m.code.file c.in-Some.target.now) (exprs_of m.code.file c.in-Some.rest.now) (exprs_of m.code.file c.args.targets.now) (value_of a c.in-Some-2.value) (left_of a c.in-Some-2.source) (left_of a c.args.source) (state_of m.session) targets
     first))
     c.push.ensures

@@ -6,9 +6,9 @@ use Rattle.value_spec.specs.Members.{members_in}
 use Rattle.star_eval.specs.declared.frame.Control.{Control}
 use Rattle.star_eval.specs.Frames.{Goes, around_value}
 use Rattle.star_eval.specs.Meets.{state_of}
-use Rattle.star_eval.specs.PartsSoFar.{assigned_each, spread_over}
+use Rattle.star_eval.specs.Doing.{assigned_each, spread_over}
 use Rattle.star_eval.specs.Sources.{OwnsIfAny, OwnsMembers, all_members, are_members, left_of}
-use Rattle.star_eval.specs.View.{arena_in, env_of, waiting_in}
+use Rattle.star_eval.specs.View.{arena_in, setting_of, waiting_in}
 use Rattle.star_eval.specs.Waiting.{with_none}
 use Rattle.star_eval.proofs.Going.{goes}
 use Rattle.star_eval.proofs.Rows.{as_many, spread_on, spread_refused}
@@ -19,30 +19,30 @@ returns-then-len-targets c =
     let m = c.args.m.now in
     let a = arena_in m in
     let s = state_of m.session in
-    let es = exprs_of m.file c.args.targets.now in
+    let es = exprs_of m.code.file c.args.targets.now in
     let v = value_of a c.args.value in
     let vs = all_members a c.in-Some.members in
     let there : members_in s.store v ≡ Some vs = c.in_ok-members_of.ensures.members ∙ ap (are_members a) c.in-Some.is in
     let owned : OwnsMembers a c.in-Some.members = subst (OwnsIfAny a) c.in-Some.is c.in_ok-members_of.ensures.owned in
     let count : c.len.result ≡ length vs = c.len.ensures a owned in
     let differs : (c.len.result == length c.args.targets.now) ≡ false = search rules in
-    let other : (length vs == count_exprs es) ≡ false = (λ i. sym count i == as_many m.file c.args.targets.now i) ∙ differs in
-    subst (λ (x : Control). Goes m x (around_value m (waiting_in m) (with_none (spread_over c.args.place es v (env_of m)) s))) (sym c.failed-then-len-targets.ensures)
-    (record { same = ap (around_value m (waiting_in m)) (spread_refused c.args.place (env_of m) es v vs s there other); sound = c.requires.sound; owned = tt })
+    let other : (length vs == count_exprs es) ≡ false = (λ i. sym count i == as_many m.code.file c.args.targets.now i) ∙ differs in
+    subst (λ (x : Control). Goes m x (around_value m (waiting_in m) (with_none (spread_over (setting_of m) c.args.place es v) s))) (sym c.failed-then-len-targets.ensures)
+    (record { same = ap (around_value m (waiting_in m)) (spread_refused c.args.place (setting_of m) es v vs s there other); sound = c.requires.sound; owned = tt })
 
 pub returns : goal.returns
 returns c =
     let m = c.args.m.now in
     let a = arena_in m in
     let s = state_of m.session in
-    let es = exprs_of m.file c.args.targets.now in
+    let es = exprs_of m.code.file c.args.targets.now in
     let v = value_of a c.args.value in
     let vs = all_members a c.in-Some.members in
     let there : members_in s.store v ≡ Some vs = c.in_ok-members_of.ensures.members ∙ ap (are_members a) c.in-Some.is in
     let owned : OwnsMembers a c.in-Some.members = subst (OwnsIfAny a) c.in-Some.is c.in_ok-members_of.ensures.owned in
     let count : c.len.result ≡ length vs = c.len.ensures a owned in
     let same : (c.len.result == length c.args.targets.now) ≡ true = search rules in
-    let many : (length vs == count_exprs es) ≡ true = (λ i. sym count i == as_many m.file c.args.targets.now i) ∙ same in
+    let many : (length vs == count_exprs es) ≡ true = (λ i. sym count i == as_many m.code.file c.args.targets.now i) ∙ same in
     goes c.next_target.result c.next_target.new.m
-    (ap (around_value m (waiting_in m)) ((λ i. with_none (assigned_each c.args.place es (left_of a (c.of.ensures i)) (env_of m)) s) ∙ spread_on c.args.place (env_of m) es v vs s there many))
+    (ap (around_value m (waiting_in m)) ((λ i. with_none (assigned_each (setting_of m) c.args.place es (left_of a (c.of.ensures i))) s) ∙ spread_on c.args.place (setting_of m) es v vs s there many))
     c.next_target.ensures

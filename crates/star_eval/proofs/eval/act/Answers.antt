@@ -8,8 +8,8 @@ use Rattle.star_tree.specs.Whole.{binary_operator_of, expr_of}
 use Rattle.value_spec.specs.Outcomes.{then_do, ◌>>=◌}
 use Rattle.star_eval.specs.Frames.{around_value}
 use Rattle.star_eval.specs.Meets.{state_of}
-use Rattle.star_eval.specs.SoFar.{acted, value_so_far}
-use Rattle.star_eval.specs.View.{env_of, waiting_in}
+use Rattle.star_eval.specs.Doing.{acted, evaluated}
+use Rattle.star_eval.specs.View.{env_of, setting_of, waiting_in}
 use Rattle.star_eval.specs.Waiting.{bounds_of, index_of, value_goes}
 use Rattle.star_eval.proofs.Going.{goes}
 use Rattle.star_eval.proofs.eval.act.Goals as goal
@@ -20,10 +20,10 @@ returns-in-Binary c =
     let env = env_of m in
     let s = state_of m.session in
     let b = c.in-Binary in
-    let is : expr_of m.file c.args.expr.now ≡ plain.binary (place_at m.file b.field-0) (binary_operator_of b.op) (expr_of m.file b.a) (expr_of m.file b.b) = ap (expr_of m.file) b.is ∙ expr_of-Binary m.file b.field-0 b.op b.a b.b in
+    let is : expr_of m.code.file c.args.expr.now ≡ plain.binary (place_at m.code.file b.field-0) (binary_operator_of b.op) (expr_of m.code.file b.a) (expr_of m.code.file b.b) = ap (expr_of m.code.file) b.is ∙ expr_of-Binary m.code.file b.field-0 b.op b.a b.b in
     goes c.push-in-Binary.result c.push-in-Binary.new.m
-    ((λ i. around_value m (waiting_in m) (then_do (value_so_far (expr_of m.file (c.get-in-Binary-2.ensures i)) env s) (λ x. value_so_far (expr_of m.file (c.get-in-Binary.ensures i)) env >>= binary_row c.args.place (binary_operator_of b.op) x)))
-    ∙ sym (ap (λ e. around_value m (waiting_in m) (acted c.args.place e env s)) is))
+    ((λ i. around_value m (waiting_in m) (then_do (evaluated (setting_of m) (expr_of m.code.file (c.get-in-Binary-2.ensures i)) s) (λ x. evaluated (setting_of m) (expr_of m.code.file (c.get-in-Binary.ensures i)) >>= binary_row c.args.place (binary_operator_of b.op) x)))
+    ∙ sym (ap (λ e. around_value m (waiting_in m) (acted (setting_of m) c.args.place e s)) is))
     c.push-in-Binary.ensures
 
 pub returns-in-Index : goal.returns-in-Index
@@ -32,10 +32,10 @@ returns-in-Index c =
     let env = env_of m in
     let s = state_of m.session in
     let b = c.in-Index in
-    let is : expr_of m.file c.args.expr.now ≡ plain.index (place_at m.file b.field-0) (expr_of m.file b.a) (expr_of m.file b.index) = ap (expr_of m.file) b.is ∙ expr_of-Index m.file b.field-0 b.a b.index in
+    let is : expr_of m.code.file c.args.expr.now ≡ plain.index (place_at m.code.file b.field-0) (expr_of m.code.file b.a) (expr_of m.code.file b.index) = ap (expr_of m.code.file) b.is ∙ expr_of-Index m.code.file b.field-0 b.a b.index in
     goes c.within_index.result c.within_index.new.m
-    ((λ i. around_value m (waiting_in m) (then_do (value_so_far (expr_of m.file (c.get-in-Index.ensures i)) env s) (value_goes env (index_of c.args.place (expr_of m.file (c.get.ensures i))))))
-    ∙ sym (ap (λ e. around_value m (waiting_in m) (acted c.args.place e env s)) is))
+    ((λ i. around_value m (waiting_in m) (then_do (evaluated (setting_of m) (expr_of m.code.file (c.get-in-Index.ensures i)) s) (value_goes (setting_of m) (index_of c.args.place (expr_of m.code.file (c.get.ensures i))))))
+    ∙ sym (ap (λ e. around_value m (waiting_in m) (acted (setting_of m) c.args.place e s)) is))
     c.within_index.ensures
 
 pub returns-in-Slice : goal.returns-in-Slice
@@ -44,8 +44,8 @@ returns-in-Slice c =
     let env = env_of m in
     let s = state_of m.session in
     let b = c.in-Slice in
-    let is : expr_of m.file c.args.expr.now ≡ plain.slice (place_at m.file b.field-0) (expr_of m.file b.a) (optional_of m.file b.from) (optional_of m.file b.to) (optional_of m.file b.step) = ap (expr_of m.file) b.is ∙ expr_of-Slice m.file b.field-0 b.a b.from b.to b.step in
+    let is : expr_of m.code.file c.args.expr.now ≡ plain.slice (place_at m.code.file b.field-0) (expr_of m.code.file b.a) (optional_of m.code.file b.from) (optional_of m.code.file b.to) (optional_of m.code.file b.step) = ap (expr_of m.code.file) b.is ∙ expr_of-Slice m.code.file b.field-0 b.a b.from b.to b.step in
     goes c.within_index-in-Slice.result c.within_index-in-Slice.new.m
-    ((λ i. around_value m (waiting_in m) (then_do (value_so_far (expr_of m.file (c.get-in-Slice.ensures i)) env s) (value_goes env (bounds_of c.args.place (optional_of m.file b.from) (optional_of m.file b.to) (optional_of m.file b.step)))))
-    ∙ sym (ap (λ e. around_value m (waiting_in m) (acted c.args.place e env s)) is))
+    ((λ i. around_value m (waiting_in m) (then_do (evaluated (setting_of m) (expr_of m.code.file (c.get-in-Slice.ensures i)) s) (value_goes (setting_of m) (bounds_of c.args.place (optional_of m.code.file b.from) (optional_of m.code.file b.to) (optional_of m.code.file b.step)))))
+    ∙ sym (ap (λ e. around_value m (waiting_in m) (acted (setting_of m) c.args.place e s)) is))
     c.within_index-in-Slice.ensures

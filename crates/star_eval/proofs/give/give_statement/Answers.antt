@@ -2,7 +2,7 @@ use Rattle.std.proofs.Common.{sym, ap}
 use Rattle.star_values.specs.View.{value_of}
 use Rattle.star_eval.specs.Frames.{around_flow}
 use Rattle.star_eval.specs.Meets.{state_of}
-use Rattle.star_eval.specs.View.{arena_in, env_of, nodes_in, statement_frame, waiting_in}
+use Rattle.star_eval.specs.View.{arena_in, nodes_in, setting_of, statement_frame, waiting_in}
 use Rattle.star_eval.specs.Waiting.{statement_goes}
 use Rattle.star_eval.proofs.Going.{goes}
 use Rattle.star_eval.proofs.give.give_statement.Goals as goal
@@ -11,16 +11,16 @@ pub returns-in-Walk : goal.returns-in-Walk
 returns-in-Walk c =
     let m = c.args.m.now in
     let a = arena_in m in
-    goes c.walk.result c.walk.new.m (sym (ap (λ f. around_flow m (waiting_in m) (statement_goes (env_of m) (statement_frame a m.file f) (value_of a c.args.value) (nodes_in m) (state_of m.session))) c.in-Walk.is)) c.walk.ensures
+    goes c.walk.result c.walk.new.m (sym (ap (λ f. around_flow m (waiting_in m) (statement_goes (setting_of m) (statement_frame a m.code.file f) (value_of a c.args.value) (nodes_in m) (state_of m.session))) c.in-Walk.is)) c.walk.ensures
 
 pub returns-in-AugmentOf : goal.returns-in-AugmentOf
 returns-in-AugmentOf c =
     let m = c.args.m.now in
     let a = arena_in m in
-    goes c.within.result c.within.new.m (sym (ap (λ f. around_flow m (waiting_in m) (statement_goes (env_of m) (statement_frame a m.file f) (value_of a c.args.value) (nodes_in m) (state_of m.session))) c.in-AugmentOf.is)) c.within.ensures
+    goes c.within.result c.within.new.m (sym (ap (λ f. around_flow m (waiting_in m) (statement_goes (setting_of m) (statement_frame a m.code.file f) (value_of a c.args.value) (nodes_in m) (state_of m.session))) c.in-AugmentOf.is)) c.within.ensures
 
 pub returns-in-AugmentIndex : goal.returns-in-AugmentIndex
 returns-in-AugmentIndex c =
     let m = c.args.m.now in
     let a = arena_in m in
-    goes c.augmented_at.result c.augmented_at.new.m (sym (ap (λ f. around_flow m (waiting_in m) (statement_goes (env_of m) (statement_frame a m.file f) (value_of a c.args.value) (nodes_in m) (state_of m.session))) c.in-AugmentIndex.is)) c.augmented_at.ensures
+    goes c.augmented_at.result c.augmented_at.new.m (sym (ap (λ f. around_flow m (waiting_in m) (statement_goes (setting_of m) (statement_frame a m.code.file f) (value_of a c.args.value) (nodes_in m) (state_of m.session))) c.in-AugmentIndex.is)) c.augmented_at.ensures

@@ -1,6 +1,6 @@
 use Rattle.index_spec.specs.Slices.{slice_row}
 use Rattle.star_values.specs.View.{value_of}
-use Rattle.star_eval.specs.SoFar.{cut}
+use Rattle.star_eval.specs.Doing.{cut}
 use Rattle.star_eval.specs.View.{arena_in}
 use Rattle.star_eval.proofs.Going.{gives_on}
 use Rattle.star_eval.proofs.indexes.slice.Goals as goal

@@ -4,8 +4,8 @@ use Rattle.star_tree.specs.Whole.{part_of}
 use Rattle.ytt_base.specs.View.{key_of}
 use Rattle.star_eval.specs.Frames.{around_flow}
 use Rattle.star_eval.specs.Meets.{Here, state_of}
-use Rattle.star_eval.specs.PartsSoFar.{part_done}
-use Rattle.star_eval.specs.View.{arena_in, env_of, nodes_in, waiting_in}
+use Rattle.star_eval.specs.Doing.{part_done}
+use Rattle.star_eval.specs.View.{arena_in, nodes_in, setting_of, waiting_in}
 use Rattle.star_eval.proofs.Going.{goes, nodes_on}
 use Rattle.star_eval.proofs.parts.build.Goals as goal
 
@@ -16,7 +16,7 @@ returns-in_ok-key-in-Key c =
     let k = nodes_in m in
     let s = state_of m.session in
     record {
-      same = ap (around_flow m (waiting_in m)) (sym (ap (λ x. part_done {H = Here} (part_of m.file x) (env_of m) k s) c.in-Key.is ∙ ap (λ x. keying {H = Here} (key_of x) k s) (sym c.in_ok-key-in-Key.ensures) ∙ c.key.ensures.meaning a s));
+      same = ap (around_flow m (waiting_in m)) (sym (ap (λ x. part_done (setting_of m) (part_of m.code.file x) k s) c.in-Key.is ∙ ap (λ x. keying {H = Here} (key_of x) k s) (sym c.in_ok-key-in-Key.ensures) ∙ c.key.ensures.meaning a s));
       sound = record { scope = c.requires.scope; nodes = c.key.ensures.owned a c.requires.nodes; frames = c.requires.frames };
       owned = tt;
     }
@@ -28,7 +28,7 @@ returns-in_ok-scalar-in-Value c =
     let k = nodes_in m in
     let s = state_of m.session in
     record {
-      same = ap (around_flow m (waiting_in m)) (sym (ap (λ x. part_done {H = Here} (part_of m.file x) (env_of m) k s) c.in-Value.is ∙ c.in_ok-scalar-in-Value.ensures.meaning a s));
+      same = ap (around_flow m (waiting_in m)) (sym (ap (λ x. part_done (setting_of m) (part_of m.code.file x) k s) c.in-Value.is ∙ c.in_ok-scalar-in-Value.ensures.meaning a s));
       sound = record { scope = c.requires.scope; nodes = c.in_ok-scalar-in-Value.ensures.owned a c.requires.nodes; frames = c.requires.frames };
       owned = tt;
     }
@@ -39,5 +39,5 @@ returns-in-End c =
     let a = arena_in m in
     let s = state_of m.session in
     goes c.settle_flow.result (record m { nodes = c.end.new.self })
-    (ap (around_flow m (waiting_in m)) (sym (ap (λ x. part_done {H = Here} (part_of m.file x) (env_of m) (nodes_in m) s) c.in-End.is)))
+    (ap (around_flow m (waiting_in m)) (sym (ap (λ x. part_done (setting_of m) (part_of m.code.file x) (nodes_in m) s) c.in-End.is)))
     (nodes_on m c.end.new.self m.session.work ending c.end.result c.settle_flow.result c.requires (c.end.ensures.meaning a s) (c.end.ensures.owned a c.requires.nodes) c.settle_flow.ensures)

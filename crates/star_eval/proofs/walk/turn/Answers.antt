@@ -8,7 +8,7 @@ use Rattle.star_eval.specs.declared.frame.Control.{Control}
 use Rattle.star_eval.specs.Frames.{Goes, around_flow}
 use Rattle.star_eval.specs.Meets.{state_of}
 use Rattle.star_eval.specs.Sources.{Advances, left_of}
-use Rattle.star_eval.specs.View.{arena_in, env_of, nodes_in, waiting_in}
+use Rattle.star_eval.specs.View.{arena_in, nodes_in, setting_of, waiting_in}
 use Rattle.star_eval.specs.Waiting.{turn_of}
 use Rattle.star_eval.proofs.Going.{goes}
 use Rattle.star_eval.proofs.Rows.{enough, none_left, step_taken, step_wanting}
@@ -24,7 +24,7 @@ pub returns-in-None : goal.returns-in-None
 returns-in-None c =
     let m = c.args.m.now in
     let a = arena_in m in
-    let f = turn_of (env_of m) c.args.place (expr_of m.file c.args.target.now) (ops_of m.file c.args.body.now) in
+    let f = turn_of (setting_of m) c.args.place (expr_of m.code.file c.args.target.now) (ops_of m.code.file c.args.body.now) in
     let none : left_of a c.args.source ≡ [] = subst (Advances a c.args.source) c.in-None.is (c.in_ok-advance.ensures a c.requires.source) in
     record {
       same = sym (ap (λ vs. around_flow m (waiting_in m) (turns c.args.place f vs (nodes_in m) (state_of m.session))) none);
@@ -38,7 +38,7 @@ returns-then-m-eq0 c =
     let a = arena_in m in
     let s = state_of m.session in
     let p = c.args.place in
-    let f = turn_of (env_of m) p (expr_of m.file c.args.target.now) (ops_of m.file c.args.body.now) in
+    let f = turn_of (setting_of m) p (expr_of m.code.file c.args.target.now) (ops_of m.code.file c.args.body.now) in
     let h = c.in_ok-advance.ensures a c.requires.source in
     let first : left_of a c.args.source ≡ value_of a c.in-Some.value ∷ left_of a c.in-Some.source = search (rules, h) in
     let zero : (m.session.work.steps == 0) ≡ true = search rules in
@@ -55,7 +55,7 @@ returns-else-m-eq0 c =
     let a = arena_in m in
     let s = state_of m.session in
     let p = c.args.place in
-    let f = turn_of (env_of m) p (expr_of m.file c.args.target.now) (ops_of m.file c.args.body.now) in
+    let f = turn_of (setting_of m) p (expr_of m.code.file c.args.target.now) (ops_of m.code.file c.args.body.now) in
     let h = c.in_ok-advance.ensures a c.requires.source in
     let first : left_of a c.args.source ≡ value_of a c.in-Some.value ∷ left_of a c.in-Some.source = search (rules, h) in
     let some : (m.session.work.steps == 0) ≡ false = search rules in

@@ -10,15 +10,16 @@ use Rattle.star_eval.specs.Sources.{left_of}
 use Rattle.star_eval.specs.View.{arena_in}
 use Rattle.star_eval.specs.Waiting.{turn_of, unwind_flow}
 use Rattle.star_eval.proofs.Going.{goes}
-use Rattle.star_eval.proofs.Growing.{kept, source_kept}
-use Rattle.star_eval.proofs.Walks.{walking_sound, walking_waits}
+use Rattle.star_eval.proofs.Growing.{kept, source_kept, walked_kept}
+use Rattle.star_eval.proofs.Walks.{pushed_sound, pushed_waits}
 use Rattle.star_eval.proofs.walk.walk_object.Goals as goal
 
 pub turn-requires-clause-sound : goal.turn-requires-clause-sound
 turn-requires-clause-sound c =
     let m = c.args.m.now in
     let more : c.push.new.self ≡ m.frames ++ frame.Block (in_block_frame.WalkEnd c.args.object) ∷ [] = search rules in
-    walking_sound m c.begin.new.session c.args.object c.push.new.self c.in_ok-begin.ensures.grows c.requires.sound c.requires.object more
+    let g = c.in_ok-begin.ensures.grows in
+    pushed_sound m c.begin.new.session (frame.Block (in_block_frame.WalkEnd c.args.object)) c.push.new.self g c.requires.sound (walked_kept (arena_in m) (arena_of c.begin.new.session) c.args.object g c.requires.object) more
 
 pub turn-requires-clause-source : goal.turn-requires-clause-source
 turn-requires-clause-source c =
@@ -33,10 +34,10 @@ returns c =
     let b = c.in_ok-begin.ensures in
     let k = kept m s b.grows c.requires.sound in
     let more : c.push.new.self ≡ m.frames ++ frame.Block (in_block_frame.WalkEnd c.args.object) ∷ [] = search rules in
-    let waits = walking_waits m s c.args.object c.push.new.self b.grows c.requires.sound c.requires.object more in
+    let waits = pushed_waits m s (frame.Block (in_block_frame.WalkEnd c.args.object)) c.push.new.self b.grows c.requires.sound (walked_kept (arena_in m) (arena_of s) c.args.object b.grows c.requires.object) more in
     let from : Source = record { members = c.args.members; next = 0 } in
     let members = ap (left_of (arena_of s)) c.of.ensures ∙ (source_kept (arena_in m) (arena_of s) from b.grows c.requires.members).1 in
     let p = c.args.place in
-    let x = expr_of m.file c.args.target.now in
-    let os = ops_of m.file c.args.body.now in
-    goes c.turn.result c.turn.new.m (λ i. unwind_flow (k.env i) (waits i) (turns p (turn_of (k.env i) p x os) (members i) (k.nodes i) (b.state i))) c.turn.ensures
+    let x = expr_of m.code.file c.args.target.now in
+    let os = ops_of m.code.file c.args.body.now in
+    goes c.turn.result c.turn.new.m (λ i. unwind_flow (k.setting i) (waits i) (turns p (turn_of (k.setting i) p x os) (members i) (k.nodes i) (b.state i))) c.turn.ensures

@@ -2,7 +2,7 @@ use Rattle.std.proofs.Common.{sym, ◌∙◌}
 use Rattle.value_spec.specs.Outcomes.{done}
 use Rattle.star_eval.specs.Frames.{around_flow, flow_of}
 use Rattle.star_eval.specs.Meets.{arena_of, state_of}
-use Rattle.star_eval.specs.View.{arena_in, block_frame, env_of, nodes_in, waiting_in}
+use Rattle.star_eval.specs.View.{arena_in, block_frame, nodes_in, setting_of, waiting_in}
 use Rattle.star_eval.specs.Waiting.{block_ends, unwind_flow}
 use Rattle.star_eval.proofs.Growing.{kept}
 use Rattle.star_eval.proofs.Walks.{flow_kept, flow_owned}
@@ -16,8 +16,8 @@ returns-in-WalkEnd c =
     let e = c.end.ensures in
     let k = kept m s e.grows c.requires.sound in
     record {
-      same = (λ i. unwind_flow (k.env i) (k.waiting i) (done (flow_of (arena_of s) c.args.flow (k.nodes i)) (e.state i)))
-          ∙ (λ i. around_flow m (waiting_in m) (block_ends (env_of m) (block_frame a m.file (sym c.in-WalkEnd.is i)) (done (flow_kept a (arena_of s) c.args.flow (nodes_in m) e.held i) (state_of m.session))));
+      same = (λ i. unwind_flow (k.setting i) (k.waiting i) (done (flow_of (arena_of s) c.args.flow (k.nodes i)) (e.state i)))
+          ∙ (λ i. around_flow m (waiting_in m) (block_ends (setting_of m) (block_frame a m.code.file (sym c.in-WalkEnd.is i)) (done (flow_kept a (arena_of s) c.args.flow (nodes_in m) e.held i) (state_of m.session))));
       sound = k.sound;
       owned = flow_owned a (arena_of s) c.args.flow e.grows c.requires.flow;
     }

@@ -1,24 +1,37 @@
-use Rattle.std.proofs.Common.{[], ◌∷◌, sym, ap, subst, ◌∙◌}
+use Rattle.std.proofs.Common.{◌≡◌, ◌∷◌, false, refl, sym, ap, subst, ◌∙◌}
 use Rattle.ytt_base.specs.declared.fault.FaultKind.TheVariants as kind
 use Rattle.ytt_base.specs.Outcomes.{fault_of}
 use Rattle.value_spec.specs.Outcomes.{done}
 use Rattle.star_eval.specs.declared.frame.Control.{Control}
-use Rattle.star_eval.specs.Frames.{Goes, flow_of}
+use Rattle.star_eval.specs.declared.frame.Control.TheVariants as control
+use Rattle.star_eval.specs.declared.frame.Frame.{Frame}
+use Rattle.star_eval.specs.declared.frame.Machine.{Machine}
+use Rattle.star_eval.specs.declared.frame.Flow.{Flow}
+use Rattle.star_eval.specs.Frames.{Goes, flow_of, inside}
 use Rattle.star_eval.specs.Meets.{state_of}
-use Rattle.star_eval.specs.View.{arena_in, env_of, frame_of, nodes_in, waiting_in}
-use Rattle.star_eval.specs.Waiting.{unwind_flow}
-use Rattle.star_eval.proofs.Sorts.{fault_alike}
+use Rattle.star_eval.specs.View.{arena_in, frame_of, nodes_in, setting_of, waiting_in}
+use Rattle.star_eval.proofs.Sorts.{flow_misplaced, takes_flow}
 use Rattle.star_eval.proofs.went.went.Goals as goal
 
-pub returns-in-Value : goal.returns-in-Value
-returns-in-Value c =
-    let m = c.args.m.now in
+-- a frame that waits for no block
+lost : (m n : Machine) (f g : Frame) (w : Flow) (c : Control) → f ≡ g → takes_flow (frame_of (arena_in m) m.code g) ≡ false →
+    Goes n c (inside m (frame_of (arena_in m) m.code g ∷ waiting_in m) (control.Failed (fault_of kind.CodeForm))) → Goes n c (inside m (frame_of (arena_in m) m.code f ∷ waiting_in m) (control.Went w))
+lost m n f g w c is other h =
     let a = arena_in m in
-    let s = state_of m.session in
-    let ws = waiting_in m in
-    let end = done (flow_of a c.args.flow (nodes_in m)) s in
-    subst (λ (x : Control). Goes m x (unwind_flow (env_of m) (frame_of a m.file c.args.frame ∷ ws) end)) (sym c.ill_formed.ensures) (record {
-      same = fault_alike (env_of m) (nodes_in m) [] ws (fault_of kind.CodeForm) s ∙ sym (ap (λ f. unwind_flow (env_of m) (frame_of a m.file f ∷ ws) end) c.in-Value.is);
-      sound = c.requires.sound;
-      owned = tt;
-    })
+    record {
+      same = h.same ∙ sym (ap (λ f. inside m (frame_of a m.code f ∷ waiting_in m) (control.Went w)) is ∙ flow_misplaced (setting_of m) (nodes_in m) (waiting_in m) (state_of m.session) (frame_of a m.code g) (flow_of a w (nodes_in m)) other);
+      sound = h.sound;
+      owned = h.owned;
+    }
+
+pub returns-in-Value : goal.returns-in-Value
+returns-in-Value c = lost c.args.m.now c.misplaced.new.m c.args.frame _ c.args.flow c.misplaced.result c.in-Value.is refl c.misplaced.ensures
+
+pub returns-in-Element : goal.returns-in-Element
+returns-in-Element c = lost c.args.m.now c.misplaced-in-Element.new.m c.args.frame _ c.args.flow c.misplaced-in-Element.result c.in-Element.is refl c.misplaced-in-Element.ensures
+
+pub returns-in-Clauses : goal.returns-in-Clauses
+returns-in-Clauses c = lost c.args.m.now c.misplaced-in-Clauses.new.m c.args.frame _ c.args.flow c.misplaced-in-Clauses.result c.in-Clauses.is refl c.misplaced-in-Clauses.ensures
+
+pub returns-in-Gather : goal.returns-in-Gather
+returns-in-Gather c = lost c.args.m.now c.misplaced-in-Gather.new.m c.args.frame _ c.args.flow c.misplaced-in-Gather.result c.in-Gather.is refl c.misplaced-in-Gather.ensures

@@ -8,7 +8,7 @@ use Rattle.star_resolve.proofs.names.put_clause.Goals as goal
 
 pub returns-in-ForIn : goal.returns-in-ForIn
 returns-in-ForIn c = λ file.
-    put_same c.put_target.result c.args.names.now c.put_target.new.names _ _ (c.put_target.ensures file)
+    put_same c.put_target_names.result c.args.names.now c.put_target_names.new.names _ _ (c.put_target_names.ensures file)
     (ap (λ k. clauses_names (clauses_of file (k ∷ []))) c.in-ForIn.is
     ∙ ap (λ k. clauses_names (clauses_from (k ∷ []))) (clause_of-ForIn file _ _)
     ∙ append-nil _

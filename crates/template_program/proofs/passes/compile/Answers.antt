@@ -2,8 +2,11 @@ use Rattle.std.proofs.lemmas.Result.{err_from_is_err_and}
 use Rattle.star_resolve.specs.declared.binding.Resolved.{Resolved}
 use Rattle.star_spec.specs.Eval.{starlark}
 use Rattle.star_tree.specs.Whole.{program_of}
+use Rattle.template_spec.specs.Numbered.{numbered}
 use Rattle.template_meaning.proofs.Theorem.{agrees}
+use Rattle.template_spec.proofs.NumbersKeep.{numbered_stands}
 use Rattle.template_tree.specs.View.{template_of}
+use Rattle.template_program.proofs.Loading.{nothing_loaded}
 use Rattle.template_program.proofs.Telling.{built_whole, none_unbuilt, one_unbuilt, refused_first}
 use Rattle.template_program.proofs.passes.compile.Goals as goal
 
@@ -12,20 +15,20 @@ returns-in_err-resolved-clause-passes c =
     let p = err_from_is_err_and c.from_residual.result c.from_residual.ensures.1 in
     rw (p.1, p.2) (refused_first Resolved (template_of c.args.template.now) c.in_err-resolved.field-0.0 c.in_err-resolved.ensures.passes)
 
-pub returns-in-None-clause-passes : goal.returns-in-None-clause-passes
-returns-in-None-clause-passes c =
-    let known = c.in_ok-resolved.ensures in
-    built_whole (template_of c.args.template.now) _ _ known.code known.globals c.first_unbuilt.result known.passes c.first_unbuilt.ensures c.in-None.is
+pub returns-in_ok-with_numbers-in-None-clause-passes : goal.returns-in_ok-with_numbers-in-None-clause-passes
+returns-in_ok-with_numbers-in-None-clause-passes c =
+    built_whole (template_of c.args.template.now) c.first_unbuilt.result c.first_unbuilt.ensures c.in_ok-resolved.ensures.passes c.in-None.is
 
-pub returns-in-None-clause-runs : goal.returns-in-None-clause-runs
-returns-in-None-clause-runs c = λ host stand. agrees starlark host (program_of c.in_ok-resolved.resolved.program) (template_of c.args.template.now) c.in_ok-resolved.ensures.code stand
+pub returns-in_ok-with_numbers-in-None-clause-runs : goal.returns-in_ok-with_numbers-in-None-clause-runs
+returns-in_ok-with_numbers-in-None-clause-runs c =
+    let t = template_of c.args.template.now in
+    λ host stand. agrees starlark host (program_of c.in_ok-with_numbers-in-None.field-0.program) (numbered t) c.in_ok-with_numbers-in-None.ensures.code (numbered_stands t stand)
 
-pub returns-in-None-clause-built : goal.returns-in-None-clause-built
-returns-in-None-clause-built c =
-    let known = c.in_ok-resolved.ensures in
-    none_unbuilt (template_of c.args.template.now) _ _ known.code known.globals c.first_unbuilt.result c.first_unbuilt.ensures c.in-None.is
+pub returns-in_ok-with_numbers-in-None-clause-loads : goal.returns-in_ok-with_numbers-in-None-clause-loads
+returns-in_ok-with_numbers-in-None-clause-loads c =
+    nothing_loaded (template_of c.args.template.now) (program_of c.in_ok-with_numbers-in-None.field-0.program) c.in_ok-with_numbers-in-None.ensures.code
+    (none_unbuilt (template_of c.args.template.now) c.first_unbuilt.result c.first_unbuilt.ensures c.in-None.is)
 
 pub returns-in-Some-clause-passes : goal.returns-in-Some-clause-passes
 returns-in-Some-clause-passes c =
-    let known = c.in_ok-resolved.ensures in
-    one_unbuilt (template_of c.args.template.now) _ _ known.code known.globals c.first_unbuilt.result c.in-Some.place c.new.result known.passes c.first_unbuilt.ensures c.in-Some.is c.new.ensures
+    one_unbuilt (template_of c.args.template.now) c.first_unbuilt.result c.first_unbuilt.ensures c.in-Some.place c.new.result c.in_ok-resolved.ensures.passes c.in-Some.is c.new.ensures

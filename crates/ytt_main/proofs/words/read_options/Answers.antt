@@ -1,8 +1,8 @@
-use Rattle.std.proofs.Common.{◌≡◌, ◌+◌, ◌∷◌, ap, arith, length, map, rules, string_bytes, sym, ◌∙◌}
+use Rattle.std.proofs.Common.{◌≡◌, ◌≤◌, ◌<◌, ◌+◌, ◌∷◌, ap, arith, length, map, rules, string_bytes, sym, ◌∙◌}
 use Rattle.std.proofs.lemmas.List.{length-map}
 use Rattle.std.specs.Option.{option_map}
 use Rattle.ytt_spec.specs.Words.{asked_from}
-use Rattle.ytt_main.proofs.Walk.{number_behind, step_read}
+use Rattle.ytt_main.proofs.Walk.{behind_fewer, number_behind, step_read}
 use Rattle.ytt_main.specs.Asks.{option_of, seen_words}
 use Rattle.ytt_main.proofs.words.read_options.Goals as goal
 
@@ -24,3 +24,16 @@ loop-word-preserved c =
     let rest : length (map string_bytes c.loop-word.rest.now) ≡ length c.loop-word.rest.now = length-map c.loop-word.rest.now string_bytes in
     let one_more = ap length split in
     (omega arith, (step.0, step.1, step.2 ∙ ap (asked_from c.loop-word.number gs) (sym split) ∙ same))
+
+pub loop-word-smaller : goal.loop-word-smaller
+loop-word-smaller c =
+    let words = map string_bytes c.in-Some.more.now in
+    let read_words = c.in-Some-words_of.words in
+    let split : map string_bytes c.loop-word.rest.now ≡ c.as_str.result.now ∷ words = search rules in
+    let behind = sym c.words_of.ensures ∙ ap (option_map seen_words) c.in-Some-words_of.is in
+    let fewer : length (map string_bytes read_words.behind.now) ≤ length words = behind_fewer (option_of c.in-Some-begun.option) c.loop-word.number _ words (seen_words read_words) behind in
+    let behind_words : length (map string_bytes read_words.behind.now) ≡ length read_words.behind.now = length-map read_words.behind.now string_bytes in
+    let rest : length (map string_bytes c.loop-word.rest.now) ≡ length c.loop-word.rest.now = length-map c.loop-word.rest.now string_bytes in
+    let one_more = ap length split in
+    let smaller : length read_words.behind.now < length c.loop-word.rest.now = omega arith in
+    smaller

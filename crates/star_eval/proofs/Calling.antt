@@ -1,0 +1,185 @@
+-- Calls, as they begin and end.
+use Rattle.std.proofs.Common.{◌≡◌, ◌-◌, Bool, true, false, rules, arith, ℕ, zero, suc, List, [], ◌∷◌, ◌++◌, reverse, Option, Some, None, Result, option_map, refl, ap, subst, sym, ◌∙◌}
+use Rattle.std.proofs.lemmas.List.{reverse-append}
+use Rattle.ytt_base.specs.declared.fault.FaultKind.TheVariants as kind
+use Rattle.ytt_base.specs.declared.fault.Fault.{Fault}
+use Rattle.ytt_base.specs.declared.fault.Place.{Place}
+use Rattle.ytt_base.specs.declared.fault.Stop.{Stop}
+use Rattle.ytt_base.specs.Outcomes.{fault_at, fault_of}
+use Rattle.code_spec.specs.Blocks.{Ops}
+use Rattle.code_spec.specs.Allowed.{parameter_names}
+use Rattle.code_spec.specs.Code.{Name}
+use Rattle.code_spec.specs.Scopes.{ops_names}
+use Rattle.node_build.specs.View.{nodes_of}
+use Rattle.star_functions.specs.Table.{code_with}
+use Rattle.star_functions.specs.View.{code_of}
+use Rattle.star_functions.specs.declared.function.FunctionCode.{FunctionCode}
+use Rattle.star_functions.specs.declared.functions.Functions.{Functions}
+use Rattle.star_spec.specs.Binding.{scope_of_call}
+use Rattle.star_spec.specs.Calls.{Code, apply, call_with_natives, enter_code, function_call, no_natives, names_of, parameters_of, too_deep}
+use Rattle.star_spec.specs.Eval.{starlark}
+use Rattle.star_spec.specs.Flow.{Flow}
+use Rattle.star_spec.specs.Language.{Call}
+use Rattle.star_calls.specs.Scope.{GivesScope}
+use Rattle.star_resolve.specs.Frames.{added}
+use Rattle.star_steps.specs.Meets.{state_in}
+use Rattle.star_tree.specs.View.{item_kind_of}
+use Rattle.star_tree.specs.Whole as whole
+use Rattle.star_tree.specs.declared.code.Param.{Param}
+use Rattle.star_values.specs.View.{View, value_of}
+use Rattle.star_values.specs.declared.value.Ref.{Ref}
+use Rattle.star_values.specs.declared.value.Value as held_value
+use Rattle.star_values.specs.declared.value.Value.TheVariants as value
+use Rattle.star_tree.specs.declared.program.ItemKind.{ItemKind}
+use Rattle.star_values.proofs.Growing.{each_joined}
+use Rattle.star_values.specs.Objects.{env_in}
+use Rattle.star_values.specs.Owns.{Each, OwnsEnv}
+use Rattle.star_values.specs.declared.object.NamedBox.{NamedBox}
+use Rattle.template_meaning.specs.Calls.{bottom, enter_ops, level_of}
+use Rattle.value_spec.specs.Outcomes.{Computation, Ending, State, bad, done, fail, or_fail, or_ill_formed, then_do, ◌>>=◌}
+use Rattle.value_spec.specs.Store.{function_at}
+use Rattle.value_spec.specs.Values as plain
+use Rattle.value_spec.specs.Values.{Arguments, Function, function_value, native_value, builtin, method, host_native, replacement}
+use Rattle.star_eval.specs.declared.frame.Caller.{Caller}
+use Rattle.star_eval.specs.declared.frame.Control.{Control}
+use Rattle.star_eval.specs.declared.frame.Control.TheVariants as control
+use Rattle.star_eval.specs.declared.frame.Frame.{Frame}
+use Rattle.star_eval.specs.declared.frame.Frame.TheVariants as frame
+use Rattle.star_eval.specs.declared.frame.Machine.{Machine}
+use Rattle.star_eval.specs.declared.session.Session.{Session}
+use Rattle.star_eval.specs.Calling.{calls_at, native_refusal, table_of}
+use Rattle.star_eval.specs.Doing.{Nodes, Setting}
+use Rattle.star_eval.specs.Frames.{Goes, Opened, around_flow, around_value}
+use Rattle.star_eval.specs.Meets.{Here, arena_of, state_of}
+use Rattle.star_eval.specs.View.{OwnsFrame, Sound, arena_in, caller_of, frames_of, nodes_in, setting_of, waiting_in}
+use Rattle.star_eval.specs.Waiting.{call_gives, setting}
+
+-- ---- what is called
+
+-- no answer depends on the count that bounds the calls of natives
+module _ (f : Call Here) (p : Place) (vs : Arguments) (s : State Here) where
+  by_function : (n r : ℕ) → call_with_natives starlark no_natives f n p (function_value r) vs s ≡ f p (function_value r) vs s
+  by_function zero r = refl
+  by_function (suc n) r = refl
+
+  by_native : (n : ℕ) (x : plain.Native) → call_with_natives starlark no_natives f n p (native_value x) vs s ≡ bad (fault_at (native_refusal (native_value x)) p) s
+  by_native zero (builtin x) = refl
+  by_native (suc n) (builtin x) = refl
+  by_native zero (method x v) = refl
+  by_native (suc n) (method x v) = refl
+  by_native zero (host_native x held) = refl
+  by_native (suc n) (host_native x held) = refl
+  by_native zero (replacement v) = refl
+  by_native (suc n) (replacement v) = refl
+
+-- what is no function and no native
+abbrev pub is_called : plain.Value → Bool
+is_called (function_value r) = true
+is_called (native_value x) = true
+is_called _ = false
+
+module _ (file : ℕ) (fs : Functions) (p : Place) (vs : Arguments) (s : State Here) where
+  by_nothing : (f : Call Here) (n : ℕ) (v : plain.Value) → is_called v ≡ false → call_with_natives starlark no_natives f n p v vs s ≡ bad (fault_at kind.ValueKind p) s
+  by_nothing f n (function_value r) h = cc
+  by_nothing f n (native_value x) h = cc
+  by_nothing f zero v h = refl
+  by_nothing f (suc n) v h = refl
+
+  pub nothing_called : (d : ℕ) (v : plain.Value) → is_called v ≡ false → calls_at file fs d p v vs s ≡ bad (fault_at kind.ValueKind p) s
+  unfolding calls_at
+  nothing_called zero v h = by_nothing too_deep s.steps v h
+  nothing_called (suc d) v h = by_nothing (function_call starlark ops_names (enter_ops starlark) (table_of file fs) (apply starlark no_natives ops_names (enter_ops starlark) (table_of file fs) d)) s.steps v h
+
+  pub native_called : (d : ℕ) (x : plain.Native) → calls_at file fs d p (native_value x) vs s ≡ bad (fault_at (native_refusal (native_value x)) p) s
+  unfolding calls_at
+  native_called zero x = by_native too_deep p vs s s.steps x
+  native_called (suc d) x = by_native (function_call starlark ops_names (enter_ops starlark) (table_of file fs) (apply starlark no_natives ops_names (enter_ops starlark) (table_of file fs) d)) p vs s s.steps x
+
+  called_at_end : (r : ℕ) (g : Function) → function_at r s.store ≡ Some g → calls_at file fs 0 p (function_value r) vs s ≡ bad (fault_at kind.Depth p) s
+  unfolding calls_at
+  called_at_end r g h = by_function too_deep p vs s s.steps r ∙ ap (λ o. then_do (or_fail kind.ValueKind p o s) (λ g. fail kind.Depth p)) h
+
+  pub depth_wanting : (d r : ℕ) (g : Function) → d ≡ 0 → function_at r s.store ≡ Some g → calls_at file fs d p (function_value r) vs s ≡ bad (fault_at kind.Depth p) s
+  depth_wanting zero r g z h = called_at_end r g h
+  depth_wanting (suc d) r g z h = absurd (omega (arith, z))
+
+  function_called : (d r : ℕ) (g : Function) → function_at r s.store ≡ Some g → calls_at file fs (suc d) p (function_value r) vs s ≡
+      (or_ill_formed (table_of file fs g.file g.number) >>= λ c. scope_of_call p (parameters_of c) (names_of ops_names c) g.defaults vs g.env >>= λ env. enter_code starlark (enter_ops starlark) (calls_at file fs d) c env) s
+  unfolding calls_at
+  function_called d r g h = by_function (function_call starlark ops_names (enter_ops starlark) (table_of file fs) (apply starlark no_natives ops_names (enter_ops starlark) (table_of file fs) d)) p vs s s.steps r
+      ∙ ap (λ o. then_do (or_fail kind.ValueKind p o s) (λ g. or_ill_formed (table_of file fs g.file g.number) >>= λ c. scope_of_call p (parameters_of c) (names_of ops_names c) g.defaults vs g.env >>= λ env. enter_code starlark (enter_ops starlark) (apply starlark no_natives ops_names (enter_ops starlark) (table_of file fs) d) c env)) h
+
+  -- what a call of a function comes to
+  abbrev Entered : ℕ → Function → Option (Code Ops) → Ending Here plain.Value
+  Entered d g o = (or_ill_formed o >>= λ c. scope_of_call p (parameters_of c) (names_of ops_names c) g.defaults vs g.env >>= λ env. enter_code starlark (enter_ops starlark) (calls_at file fs d) c env) s
+
+  called : (d r : ℕ) (g : Function) → (d ≡ 0 → ⊥) → function_at r s.store ≡ Some g → calls_at file fs d p (function_value r) vs s ≡ Entered (d - 1) g (table_of file fs g.file g.number)
+  called zero r g z h = absurd (z refl)
+  called (suc d) r g z h =
+      let less : d ≡ suc d - 1 = omega arith in
+      function_called d r g h ∙ (λ i. Entered (less i) g (table_of file fs g.file g.number))
+
+  pub not_found : (d r : ℕ) (g : Function) → (d ≡ 0 → ⊥) → function_at r s.store ≡ Some g → code_with g.number fs ≡ None → calls_at file fs d p (function_value r) vs s ≡ bad (fault_of kind.CodeForm) s
+  not_found d r g z h none = called d r g z h ∙ ap (λ o. Entered (d - 1) g (option_map (code_of file) o)) none
+
+  pub found : (d r : ℕ) (g : Function) (c : FunctionCode) → (d ≡ 0 → ⊥) → function_at r s.store ≡ Some g → code_with g.number fs ≡ Some c → calls_at file fs d p (function_value r) vs s ≡
+      (scope_of_call p (parameters_of (code_of file c)) (names_of ops_names (code_of file c)) g.defaults vs g.env >>= λ env. enter_code starlark (enter_ops starlark) (calls_at file fs (d - 1)) (code_of file c) env) s
+  found d r g c z h some = called d r g z h ∙ ap (λ o. Entered (d - 1) g (option_map (code_of file) o)) some
+
+pub native_called_by : (a : View) (file : ℕ) (fs : Functions) (p : Place) (vs : Arguments) (s : State Here) (d : ℕ) (v : held_value.Value) (r : Ref) → v ≡ value.Native r →
+    calls_at file fs d p (value_of a v) vs s ≡ bad (fault_at (native_refusal (value_of a v)) p) s
+native_called_by a file fs p vs s d v r is = subst (λ v. calls_at file fs d p (value_of a v) vs s ≡ bad (fault_at (native_refusal (value_of a v)) p) s) (sym is) (native_called file fs p vs s d _)
+
+-- the scope of a call, by the parameters of its code
+pub scope_given : (file n r : ℕ) (g : Function) (code : FunctionCode) (params : List Param) (fresh : List Name) (p : Place) (vs : Arguments) (a b : View) (result : Result (List NamedBox) Stop) →
+    ((file n : ℕ) (names : List Name) (g : Function) → fresh ≡ added (parameter_names (whole.parameters_of file params)) names → function_at r a.store ≡ Some g →
+        GivesScope (scope_of_call p (whole.parameters_of file params) names g.defaults vs g.env (state_in a n)) result a b n) →
+    ((file : ℕ) → fresh ≡ added (parameter_names (parameters_of (code_of file code))) (names_of ops_names (code_of file code))) →
+    ((file : ℕ) → whole.parameters_of file params ≡ parameters_of (code_of file code)) → function_at r a.store ≡ Some g →
+    GivesScope (scope_of_call p (parameters_of (code_of file code)) (names_of ops_names (code_of file code)) g.defaults vs g.env (state_in a n)) result a b n
+scope_given file n r g code params fresh p vs a b result h besides same there =
+    let names = names_of ops_names (code_of file code) in
+    subst (λ ps. GivesScope (scope_of_call p ps names g.defaults vs g.env (state_in a n)) result a b n) (same file)
+    (h file n names g (besides file ∙ (λ i. added (parameter_names (sym (same file) i)) names)) there)
+
+-- a fault that changes nothing
+pub refused : (m : Machine) (f : Computation Here plain.Value) (d : Fault) (x : Control) → Sound m → x ≡ control.Failed d → f (state_of m.session) ≡ bad d (state_of m.session) →
+    Goes m x (around_value m (waiting_in m) (f (state_of m.session)))
+refused m f d x sound is e =
+    subst (λ x. Goes m x (around_value m (waiting_in m) (f (state_of m.session)))) (sym is) (record { same = ap (around_value m (waiting_in m)) (sym e); sound = sound; owned = tt })
+
+-- ---- a call that has begun
+
+module _ (m n : Machine) (fragment : Option ItemKind) (scope : List NamedBox) (o : Opened fragment scope m n) (sound : Sound m) (owned : OwnsEnv (arena_in m) scope) where
+  abbrev Waits : Caller
+  Waits = record { depth = m.depth; scope = m.scope; nodes = m.nodes; fragment = fragment }
+
+  abbrev Begun : Machine
+  Begun = record m { depth = m.depth - 1; scope = scope; nodes = o.nodes; frames = m.frames ++ frame.Call Waits ∷ [] }
+
+  begun_sound : Sound Begun
+  begun_sound = record { scope = owned; nodes = o.owned (arena_in m); frames = each_joined (OwnsFrame (arena_in m)) m.frames (frame.Call Waits ∷ []) sound.frames ((sound.scope, sound.nodes), tt) }
+
+  begun_waits : waiting_in Begun ≡ caller_of (arena_in m) m.code Waits ∷ waiting_in m
+  begun_waits = ap (frames_of (arena_in m) m.code) (reverse-append m.frames (frame.Call Waits ∷ []))
+
+  pub opened_sound : Sound n
+  opened_sound = subst Sound (sym o.is) begun_sound
+
+  pub opened_setting : setting_of n ≡ setting (calls_at m.code.file m.code.functions (m.depth - 1)) (env_in (arena_in m).held scope)
+  opened_setting = ap setting_of o.is
+
+  pub opened_nodes : nodes_in n ≡ bottom (level_of (option_map item_kind_of fragment)) ∷ []
+  opened_nodes = ap nodes_in o.is ∙ o.meaning (arena_in m)
+
+  pub opened_state : state_of n.session ≡ state_of m.session
+  opened_state = ap (λ (x : Machine). state_of x.session) o.is
+
+  pub opened_file : n.code.file ≡ m.code.file
+  opened_file = ap (λ (x : Machine). x.code.file) o.is
+
+  pub opened_value : (r : Ending Here plain.Value) → around_value n (waiting_in n) r ≡ around_value m (waiting_in m) r
+  opened_value r = ap (λ (x : Machine). around_value x (waiting_in x) r) o.is ∙ ap (λ ws. around_value Begun ws r) begun_waits
+
+  pub opened_flow : (r : Ending Here (Flow Nodes)) → around_flow n (waiting_in n) r ≡ around_value m (waiting_in m) (call_gives (option_map item_kind_of fragment) r)
+  opened_flow r = ap (λ (x : Machine). around_flow x (waiting_in x) r) o.is ∙ ap (λ ws. around_flow Begun ws r) begun_waits

@@ -1,0 +1,20 @@
+use Rattle.std.proofs.Common.{rules, ◌≡◌, sym, ap}
+use Rattle.code_spec.specs.Blocks.{else_arm}
+use Rattle.star_blocks.specs.Nested.{arms_of, ops_of}
+use Rattle.star_blocks.specs.declared.block.Arm.{the_lemmas}
+use Rattle.star_eval.specs.Doing.{arms_done}
+use Rattle.star_eval.specs.Frames.{around_flow}
+use Rattle.star_eval.specs.Meets.{state_of}
+use Rattle.star_eval.specs.View.{nodes_in, setting_of, waiting_in}
+use Rattle.star_eval.proofs.run.choose.Goals as goal
+
+pub returns-in-Some-Else-default : goal.returns-in-Some-Else-default
+returns-in-Some-Else-default c =
+    let m = c.args.m.now in
+    let f = m.code.file in
+    let is : arms_of f c.args.arms.now ≡ else_arm (ops_of f c.as_slice.result.now) = search (rules, the_lemmas) in
+    record {
+      same = ap (λ bs. around_flow m (waiting_in m) (arms_done (setting_of m) bs (nodes_in m) (state_of m.session))) (sym is);
+      sound = c.requires;
+      owned = tt;
+    }

@@ -1,0 +1,20 @@
+use Rattle.std.proofs.Common.{sym, ap, ◌∙◌}
+use Rattle.value_spec.specs.Outcomes.{bad}
+use Rattle.star_eval.specs.Frames.{around_bag}
+use Rattle.star_eval.specs.Meets.{state_of}
+use Rattle.star_eval.specs.View.{arena_in, clauses_frame, setting_of, waiting_in}
+use Rattle.star_eval.specs.Waiting.{clauses_end, unwind_bag}
+use Rattle.star_eval.proofs.Growing.{kept}
+use Rattle.star_eval.proofs.went.leave_clauses.Goals as goal
+
+pub returns-in-WalkEnd : goal.returns-in-WalkEnd
+returns-in-WalkEnd c =
+    let m = c.args.m.now in
+    let e = c.end.ensures in
+    let k = kept m c.end.new.session e.grows c.requires.sound in
+    record {
+      same = (λ i. unwind_bag (k.setting i) (k.nodes i) (k.waiting i) (bad c.args.fault (e.state i)))
+          ∙ sym (ap (λ f. around_bag m (waiting_in m) (clauses_end (setting_of m) (clauses_frame (arena_in m) m.code.file f) (bad c.args.fault (state_of m.session)))) c.in-WalkEnd.is);
+      sound = k.sound;
+      owned = tt;
+    }

@@ -1,0 +1,167 @@
+// Arguments of calls and of notes.
+ghost use Rattle.std.specs.Prelude.{◌≡◌, []};
+ghost use Rattle.node_build.specs.Parts.{noting};
+ghost use Rattle.star_calls.specs.View.{form_of};
+ghost use Rattle.star_tree.specs.Whole.{expr_of, exprs_of};
+ghost use Rattle.star_values.specs.Owns.{Owns, OwnsArguments};
+ghost use Rattle.star_values.specs.View.{arguments_in, value_of};
+ghost use Rattle.star_eval.specs.Doing.{argument_form, argument_then, argument_value, arguments_then};
+ghost use Rattle.star_eval.specs.Frames.{GoesToFlow, GoesToValue};
+ghost use Rattle.star_eval.specs.View.{Sound, arena_in, nodes_in, setting_of};
+
+use crate::calls::call;
+use crate::frame::{Control, Flow, Frame, InStatement, InValue, Machine};
+use crate::machine::push;
+use object_arena::{BuiltNote, CallArgs, Value};
+use sqlite_items::Items;
+use star_calls::{ArgumentForm, add_argument};
+use star_tree::code::Expr;
+use std::alloc::Global;
+use ytt_base::fault::{Place, Stop};
+use ytt_base::text::{Memory, Text};
+
+/// No arguments.
+pub(crate) fn no_arguments(alloc: Global) -> CallArgs
+    ensures { result ≡ record { positional = []; named = [] } }
+{
+    CallArgs {
+        positional: Items::new(alloc),
+        named: Items::new(alloc),
+    }
+}
+
+/// How an argument stands, and its value.
+fn argument<'p>(file: u32, expr: &'p Expr) -> (ArgumentForm<'p>, &'p Expr)
+    ensures form { form_of result.0 ≡ argument_form (expr_of file expr.now) }
+    ensures value { expr_of file result.1.now ≡ argument_value (expr_of file expr.now) }
+{
+    match expr {
+        Expr::Named(_, name, value) => (ArgumentForm::Named(name), value.get()),
+        Expr::Star(line, value) => {
+            let place = Place { file, line: *line };
+            (ArgumentForm::Star(place), value.get())
+        }
+        Expr::Stars(line, value) => {
+            let place = Place { file, line: *line };
+            (ArgumentForm::Stars(place), value.get())
+        }
+        Expr::Int(_, _)
+        | Expr::Text(_, _)
+        | Expr::Name(_, _)
+        | Expr::List(_, _)
+        | Expr::Tuple(_, _)
+        | Expr::Dict(_, _)
+        | Expr::Unary(_, _, _)
+        | Expr::Binary(_, _, _, _)
+        | Expr::And(_, _, _)
+        | Expr::Or(_, _, _)
+        | Expr::If(_, _, _, _)
+        | Expr::Call(_, _, _)
+        | Expr::Index(_, _, _)
+        | Expr::Slice(_, _, _, _, _)
+        | Expr::Dot(_, _, _)
+        | Expr::Lambda(_, _, _, _)
+        | Expr::ListFor(_, _, _)
+        | Expr::DictFor(_, _, _, _)
+        | Expr::Template(_, _) => (ArgumentForm::Positional, expr),
+    }
+}
+
+/// The call of a value with these arguments, and those of these expressions behind them.
+pub(crate) fn call_with<'p>(
+    m: &mut Machine<'p>,
+    place: Place,
+    function: Value,
+    exprs: &'p [Expr],
+    given: CallArgs,
+) -> Result<Control<'p>, Memory>
+    requires sound { Sound m.old }
+    requires function { Owns (arena_in m.old) function }
+    requires given { OwnsArguments (arena_in m.old) given }
+    ensures { GoesToValue result m.new m.old (arguments_then (setting_of m.old) (exprs_of m.old.code.file exprs.now) (arguments_in (arena_in m.old).held given) ((setting_of m.old).call place (value_of (arena_in m.old) function))) }
+{
+    match exprs.split_first() {
+        None => call(m, place, function, given),
+        Some((first, rest)) => {
+            let (form, expr) = argument(m.code.file, first);
+            let frame = InValue::Argument(place, function, form, rest, given);
+            push(m, Frame::Value(frame), Control::Eval(expr))
+        }
+    }
+}
+
+/// The same behind one more argument, which has this value.
+pub(crate) fn argued<'p>(
+    m: &mut Machine<'p>,
+    place: Place,
+    function: Value,
+    form: ArgumentForm<'p>,
+    rest: &'p [Expr],
+    given: CallArgs,
+    value: Value,
+) -> Result<Control<'p>, Memory>
+    requires sound { Sound m.old }
+    requires function { Owns (arena_in m.old) function }
+    requires given { OwnsArguments (arena_in m.old) given }
+    requires value { Owns (arena_in m.old) value }
+    ensures { GoesToValue result m.new m.old (argument_then (setting_of m.old) (form_of form.entry) (exprs_of m.old.code.file rest.now) (arguments_in (arena_in m.old).held given) ((setting_of m.old).call place (value_of (arena_in m.old) function)) (value_of (arena_in m.old) value)) }
+{
+    match add_argument(&m.session.arena, form, value, given) {
+        Ok(more) => call_with(m, place, function, rest, more),
+        Err(Stop::Fault(fault)) => Ok(Control::Failed(fault)),
+        Err(Stop::Memory) => Err(Memory),
+    }
+}
+
+/// The note with these arguments, and those of these expressions behind them, at the innermost open node.
+pub(crate) fn note_with<'p>(
+    m: &mut Machine<'p>,
+    name: &'p Text,
+    exprs: &'p [Expr],
+    given: CallArgs,
+) -> Result<Control<'p>, Memory>
+    requires sound { Sound m.old }
+    requires given { OwnsArguments (arena_in m.old) given }
+    ensures { GoesToFlow result m.new m.old (arguments_then (setting_of m.old) (exprs_of m.old.code.file exprs.now) (arguments_in (arena_in m.old).held given) (λ vs. noting name.now vs (nodes_in m.old))) }
+{
+    match exprs.split_first() {
+        None => noted(m, name, given),
+        Some((first, rest)) => {
+            let (form, expr) = argument(m.code.file, first);
+            let frame = InStatement::NoteArgument(name, form, rest, given);
+            push(m, Frame::Statement(frame), Control::Eval(expr))
+        }
+    }
+}
+
+/// The note with these arguments.
+fn noted<'p>(m: &mut Machine<'p>, name: &Text, args: CallArgs) -> Result<Control<'p>, Memory>
+    requires sound { Sound m.old }
+    requires args { OwnsArguments (arena_in m.old) args }
+    ensures { GoesToFlow result m.new m.old (noting name.now (arguments_in (arena_in m.old).held args) (nodes_in m.old)) }
+{
+    let name = name.copy()?;
+    m.nodes.note(BuiltNote { name, args })?;
+    Ok(Control::Went(Flow::On))
+}
+
+/// The note behind one more argument, which has this value.
+pub(crate) fn note_argued<'p>(
+    m: &mut Machine<'p>,
+    name: &'p Text,
+    form: ArgumentForm<'p>,
+    rest: &'p [Expr],
+    given: CallArgs,
+    value: Value,
+) -> Result<Control<'p>, Memory>
+    requires sound { Sound m.old }
+    requires given { OwnsArguments (arena_in m.old) given }
+    requires value { Owns (arena_in m.old) value }
+    ensures { GoesToFlow result m.new m.old (argument_then (setting_of m.old) (form_of form.entry) (exprs_of m.old.code.file rest.now) (arguments_in (arena_in m.old).held given) (λ vs. noting name.now vs (nodes_in m.old)) (value_of (arena_in m.old) value)) }
+{
+    match add_argument(&m.session.arena, form, value, given) {
+        Ok(more) => note_with(m, name, rest, more),
+        Err(Stop::Fault(fault)) => Ok(Control::Left(fault)),
+        Err(Stop::Memory) => Err(Memory),
+    }
+}
