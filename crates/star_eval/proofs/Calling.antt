@@ -133,7 +133,7 @@ native_called_by a file fs p vs s d v r is = subst (λ v. calls_at file fs d p (
 -- the scope of a call, by the parameters of its code
 pub scope_given : (file n r : ℕ) (g : Function) (code : FunctionCode) (params : List Param) (fresh : List Name) (p : Place) (vs : Arguments) (a b : View) (result : Result (List NamedBox) Stop) →
     ((file n : ℕ) (names : List Name) (g : Function) → fresh ≡ added (parameter_names (whole.parameters_of file params)) names → function_at r a.store ≡ Some g →
-        GivesScope (scope_of_call p (whole.parameters_of file params) names g.defaults vs g.env (state_in a n)) result a b n) →
+    GivesScope (scope_of_call p (whole.parameters_of file params) names g.defaults vs g.env (state_in a n)) result a b n) →
     ((file : ℕ) → fresh ≡ added (parameter_names (parameters_of (code_of file code))) (names_of ops_names (code_of file code))) →
     ((file : ℕ) → whole.parameters_of file params ≡ parameters_of (code_of file code)) → function_at r a.store ≡ Some g →
     GivesScope (scope_of_call p (parameters_of (code_of file code)) (names_of ops_names (code_of file code)) g.defaults vs g.env (state_in a n)) result a b n

@@ -1,5 +1,5 @@
 -- The members that are left, one after another.
-use Rattle.std.proofs.Common.{◌≡◌, ℕ, ◌+◌, ◌≤◌, nat_lt, ℤ, pos, Bool, true, false, if◌then◌else◌, [], ◌∷◌, length, map, Option, Some, None, option_map, slice_get, refl, ap, subst, sym, ◌∙◌}
+use Rattle.std.proofs.Common.{◌≡◌, ℕ, zero, suc, ◌+◌, ◌≤◌, nat_lt, ℤ, pos, Bool, true, false, if◌then◌else◌, List, [], ◌∷◌, drop, length, map, Option, Some, None, option_map, slice_get, refl, ap, subst, sym, ◌∙◌, rules, arith}
 use Rattle.std.specs.Prelude.{◌+ℤ◌, ◌*ℤ◌}
 use Rattle.std.proofs.lemmas.Bool.{ltb-false, ltb-true}
 use Rattle.std.proofs.lemmas.List.{length-map}
@@ -17,7 +17,6 @@ use Rattle.star_eval.specs.declared.source.Members.TheVariants as members
 use Rattle.star_eval.specs.declared.numbers.Numbers.{Numbers}
 use Rattle.star_eval.specs.declared.source.Source.{Source}
 use Rattle.star_eval.specs.Sources.{all_members, left_of, number_found}
-use Rattle.star_eval.proofs.Scopes.{none_left, split_at}
 
 pub numbers_length : (from to step : ℤ) → length (numbers_of from to step) ≡ range_count from to step
 numbers_length from to step = length-map (progression (range_count from to step) from step) int_value ∙ progression_length (range_count from to step) from step
@@ -41,6 +40,23 @@ module _ (a : View) (ms : Members) (n : Numbers) (place : ℕ) (found : Option V
 
   pub number_owned : OwnsOption a found
   number_owned = subst (OwnsOption a) (sym by) (owned_if (nat_lt place (range_count n.from n.to n.step)) (n.from +ℤ (pos place *ℤ n.step)))
+
+-- ---- the members behind a place
+
+split_at : {A : Type 0} (xs : List A) (i n : ℕ) (x : A) → slice_get xs i ≡ Some x → n ≡ i + 1 → drop i xs ≡ x ∷ drop n xs
+split_at [] zero n x h e = absurd (search (rules, h))
+split_at [] (suc i) n x h e = absurd (search (rules, h))
+split_at (y ∷ xs) zero n x h e = let same : y ≡ x = search (rules, h) in λ j. same j ∷ drop (sym e j) (y ∷ xs)
+split_at (y ∷ xs) (suc i) n x h e = split_at xs i (i + 1) x h refl ∙ ap (λ m. x ∷ drop m (y ∷ xs)) (next i n e)
+  where
+    next : (i n : ℕ) → n ≡ suc i + 1 → suc (i + 1) ≡ n
+    next i n e = omega (arith, e)
+
+none_left : {A : Type 0} (xs : List A) (i : ℕ) → slice_get xs i ≡ None → drop i xs ≡ []
+none_left [] zero h = refl
+none_left [] (suc i) h = refl
+none_left (x ∷ xs) zero h = absurd (search (rules, h))
+none_left (x ∷ xs) (suc i) h = none_left xs i h
 
 pub over : (a : View) (s : Source) → None ≡ slice_get (all_members a s.members) s.next → left_of a s ≡ []
 over a s e = none_left (all_members a s.members) s.next (sym e)

@@ -6,12 +6,11 @@ mod Counted
 pub mod FileRuns
 pub mod Going
 pub mod Growing
-pub mod Loops
 pub mod Making
 pub mod Open
+pub mod Pieces
 pub mod Popped
 pub mod Rows
 pub mod Says
-pub mod Scopes
 pub mod Sorts
 pub mod Walks

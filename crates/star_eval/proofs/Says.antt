@@ -119,9 +119,6 @@ module _ (c : Setting) where
   pub acts_as : (e : plain.Expr) (p : Place) → place_in e ≡ Some p → paid p (acted c p e) ≡ evaluated c e
   acts_as e p h = ap (λ o. step_at o (λ p. acted c p e)) (sym h) ∙ says e
 
-  pub no_act : (e : plain.Expr) (s : State Here) → place_in e ≡ None → step_at None (λ p. acted c p e) s ≡ evaluated c e s
-  no_act e s h = ap (λ o. step_at o (λ p. acted c p e) s) (sym h) ∙ (λ i. says e i s)
-
   -- ---- statements
 
   -- behind what is indexed

@@ -109,11 +109,11 @@ flow_ending_of a (Err f) k s = bad f s
 pub record Opened (fragment : Option ItemKind) (scope : List NamedBox) (before after : Machine) : Type 0 where
   pub nodes : Builder
   pub is : after ≡ record before {
-      depth = before.depth - 1;
-      scope = scope;
-      nodes = nodes;
-      frames = before.frames ++ frame.Call (record { depth = before.depth; scope = before.scope; nodes = before.nodes; fragment = fragment }) ∷ [];
-    }
+    depth = before.depth - 1;
+    scope = scope;
+    nodes = nodes;
+    frames = before.frames ++ frame.Call (record { depth = before.depth; scope = before.scope; nodes = before.nodes; fragment = fragment }) ∷ [];
+  }
   pub meaning : (a : View) → nodes_of a nodes ≡ bottom (level_of (option_map item_kind_of fragment)) ∷ []
   pub owned : (a : View) → OwnsNodes a nodes
 

@@ -95,7 +95,10 @@ fn call_function<'p>(
         Some(found) => {
             let params = params_of(found.code);
             let arena = &mut m.session.arena;
-            (found.code, call_scope(arena, params, &found.fresh, function, args, place))
+            (
+                found.code,
+                call_scope(arena, params, &found.fresh, function, args, place),
+            )
         }
     };
     match opened {

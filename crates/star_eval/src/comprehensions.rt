@@ -19,12 +19,12 @@ ghost use Rattle.star_eval.specs.Waiting.{clause_turn_of, element_goes, in_eleme
 
 use crate::frame::{Bag, Control, Frame, InClauses, InElement, InValue, Machine};
 use crate::machine::{ill_formed, lost, push, settle};
-use star_calls::open_scope;
 use crate::session::{Session, make_dict, make_list};
 use crate::source::{Members, Source, members_of};
 use crate::walk::{begin, walk_of};
 use object_arena::{Boxes, NamedBox, Pairs, Ref, Value};
 use sqlite_items::{Boxed, Items};
+use star_calls::open_scope;
 use star_compare::key_size;
 use star_ops::truth;
 use star_resolve::{Scope, clause_names};

@@ -12,11 +12,11 @@ ghost use Rattle.star_eval.specs.Meets.{arena_of};
 
 use crate::frame::Code;
 use crate::looped::{Finished, run_block};
-use star_calls::open_scope;
 use crate::session::Session;
 use node_build::Builder;
 use object_arena::{Arena, Work};
 use star_blocks::nest;
+use star_calls::open_scope;
 use star_functions::functions_of;
 use star_resolve::Resolved;
 use std::alloc::Global;

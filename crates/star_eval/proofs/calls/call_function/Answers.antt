@@ -91,7 +91,7 @@ returns-in-Ok c =
     let opened = subst (λ r. Meets (env_in (arena_of s).held) r (state_in (arena_of s) m.session.work.steps) ends) c.in-Ok.is gives.meaning in
     goes c.enter.result c.enter.new.m
     (value_after m (record m { session = s }) k _ _ (found f fs p vs before m.depth c.args.function.at g it.code c.if-m-eq0.false c.function.ensures.here some
-        ∙ ap (λ o. then_do o (λ env. enter_code starlark (enter_ops starlark) (calls_at f fs (m.depth - 1)) (code_of f it.code) env)) opened))
+    ∙ ap (λ o. then_do o (λ env. enter_code starlark (enter_ops starlark) (calls_at f fs (m.depth - 1)) (code_of f it.code) env)) opened))
     c.enter.ensures
 
 pub returns-in-Err-Fault : goal.returns-in-Err-Fault
@@ -114,7 +114,7 @@ returns-in-Err-Fault c =
     let refused = subst (λ r. Meets (env_in (arena_of s).held) r (state_in (arena_of s) m.session.work.steps) ends) (c.in-Err-Fault.is ∙ ap Err c.in-Err-Fault.field-0-is) gives.meaning in
     record {
       same = (λ i. around_value n (waiting_in n) (bad (c.in-Err-Fault.fault-is i) (state_of s))) ∙ value_after m n k _ _ (found f fs p vs before m.depth c.args.function.at g it.code c.if-m-eq0.false c.function.ensures.here some
-        ∙ ap (λ o. then_do o (λ env. enter_code starlark (enter_ops starlark) (calls_at f fs (m.depth - 1)) (code_of f it.code) env)) refused);
+          ∙ ap (λ o. then_do o (λ env. enter_code starlark (enter_ops starlark) (calls_at f fs (m.depth - 1)) (code_of f it.code) env)) refused);
       sound = k.sound;
       owned = tt;
     }

@@ -42,7 +42,7 @@ returns c =
     let waits = pushed_waits m m.session turn (m.frames ++ turn ∷ []) (grows_same a) c.requires.sound c.requires.source (λ i. m.frames ++ turn ∷ []) in
     goes c.push_element.result c.push_element.new.m
     ((λ i. unwind_value (setting_of (c.in_ok-push_clauses.ensures i)) (nodes_in (c.in_ok-push_clauses.ensures i)) (in_element (enter_clauses p (clauses_of (c.in_ok-push_clauses.ensures i).code.file c.args.clauses.now) (bag_of (arena_in (c.in_ok-push_clauses.ensures i)) (c.in_ok-push_clauses.ensures i).code.file c.args.bag)) ∷ waiting_in (c.in_ok-push_clauses.ensures i))
-        (with_none (assigned (setting_of (c.in_ok-push_clauses.ensures i)) p (expr_of (c.in_ok-push_clauses.ensures i).code.file c.args.target.now) (value_of (arena_in (c.in_ok-push_clauses.ensures i)) c.args.value)) (state_of (c.in_ok-push_clauses.ensures i).session)))
+    (with_none (assigned (setting_of (c.in_ok-push_clauses.ensures i)) p (expr_of (c.in_ok-push_clauses.ensures i).code.file c.args.target.now) (value_of (arena_in (c.in_ok-push_clauses.ensures i)) c.args.value)) (state_of (c.in_ok-push_clauses.ensures i).session)))
     ∙ (λ i. unwind_value (setting_of m) (nodes_in m) (in_element (enter_clauses p cs b) ∷ waits i) (with_none (assigned (setting_of m) p x v) s))
     ∙ ap (λ r. around_bag m (waiting_in m) (then_do r (next_turn (turns p (clause_turn_of (setting_of m) p x cs) (left_of a c.args.source))))) (none_then (assigned (setting_of m) p x v s) (clauses_done (setting_of m) p cs b)))
     c.push_element.ensures

@@ -1,0 +1,23 @@
+use Rattle.std.proofs.Common.{[], ◌∷◌, sym, ap, ◌∙◌}
+use Rattle.std.proofs.lemmas.List.{map-append}
+use Rattle.star_tree.specs.Whole.{parameters_of}
+use Rattle.star_values.specs.View.{value_in, value_of, values_of}
+use Rattle.star_eval.specs.Doing.{making}
+use Rattle.star_eval.specs.Frames.{around_value}
+use Rattle.star_eval.specs.Meets.{state_of}
+use Rattle.star_eval.specs.View.{arena_in, making_of, setting_of, value_frame, waiting_in}
+use Rattle.star_eval.specs.Waiting.{value_goes}
+use Rattle.star_eval.proofs.Going.{goes}
+use Rattle.star_eval.proofs.give.give_value.Goals as goal
+
+pub returns-in_ok-push-in-Default : goal.returns-in_ok-push-in-Default
+returns-in_ok-push-in-Default c =
+    let m = c.args.m.now in
+    let a = arena_in m in
+    let vs = c.in-Default.defaults in
+    let behind = ap (values_of a) c.in_ok-push-in-Default.ensures.ok ∙ map-append (value_in a.held) vs (c.args.value ∷ []) in
+    goes c.make_function.result c.make_function.new.m
+    (ap (around_value m (waiting_in m))
+    ((λ i. making (setting_of m) (making_of c.in-Default.making) (parameters_of m.code.file c.in-Default.rest.now) (behind i) (state_of m.session))
+    ∙ sym (ap (λ f. value_goes (setting_of m) (value_frame a m.code.file f) (value_of a c.args.value) (state_of m.session)) c.in-Default.is)))
+    c.make_function.ensures
