@@ -47,6 +47,6 @@ returns c = λ globals loads loader.
     let call = same_calls is os p.file fs c.args.depth cut (λ k. c.in_ok-functions_of.ensures p.file k ∙ ap (λ b. ops_function k (ops_of p.file b)) c.as_slice.ensures) in
     let ran : flow_ending_of a e.result (nodes_of a e.nodes) (state_of e.session) ≡ runs starlark (program_calls starlark no_natives (λ f. is) c.args.depth) os (boxed 0 g []) (bottom 0 ∷ []) (with_unset (length g) (in_store [] c.args.steps)) =
     c.in_ok-finished.ensures
-    ∙ (λ i. runs starlark (sym call i) (ops_of p.file (c.as_slice.ensures i)) (env i) (nodes i) (in_store (store i) c.args.steps)) in
+    ∙ (λ i. runs starlark (sym call i) (ops_of p.file (c.as_slice-2.ensures i)) (env i) (nodes i) (in_store (store i) c.args.steps)) in
     shows_left loader c.args.depth is c.args.steps a os g e.result (nodes_of a e.nodes) (state_of e.session) c.left.result cut loads
     (globals ∙ ap (λ b. each_once (names_of_file b)) cut) ran c.left.ensures
