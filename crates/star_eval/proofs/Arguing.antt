@@ -3,7 +3,7 @@ use Rattle.std.proofs.Common.{◌≡◌, List, [], ◌∷◌, ◌++◌, refl, ap
 use Rattle.ytt_base.specs.declared.fault.Place.{Place}
 use Rattle.code_spec.specs.Code as plain
 use Rattle.star_calls.proofs.Behind.{both_in_a_row, both_none, with_fields_both, with_values_both}
-use Rattle.star_calls.specs.Arguments.{Form, and_argument, both, by_name, none_given, one_argument, positional, star, two_stars}
+use Rattle.star_calls.specs.Arguments.{both, positional, star, two_stars}
 use Rattle.star_spec.specs.Eval.{eval_arguments, members_of, spread_fields, with_fields, with_values}
 use Rattle.star_values.proofs.Growing.{each_joined}
 use Rattle.star_values.specs.Owns.{Owns, OwnsAll, OwnsArguments, OwnsFields, field_values, note_values}

@@ -1,5 +1,5 @@
 -- Calls, as they begin and end.
-use Rattle.std.proofs.Common.{◌≡◌, ◌-◌, Bool, true, false, rules, arith, ℕ, zero, suc, List, [], ◌∷◌, ◌++◌, reverse, Option, Some, None, Result, option_map, refl, ap, subst, sym, ◌∙◌}
+use Rattle.std.proofs.Common.{◌≡◌, ◌-◌, Bool, true, false, arith, ℕ, zero, suc, List, [], ◌∷◌, ◌++◌, Option, Some, None, Result, option_map, refl, ap, subst, sym, ◌∙◌}
 use Rattle.std.proofs.lemmas.List.{reverse-append}
 use Rattle.ytt_base.specs.declared.fault.FaultKind.TheVariants as kind
 use Rattle.ytt_base.specs.declared.fault.Fault.{Fault}
@@ -10,7 +10,6 @@ use Rattle.code_spec.specs.Blocks.{Ops}
 use Rattle.code_spec.specs.Allowed.{parameter_names}
 use Rattle.code_spec.specs.Code.{Name}
 use Rattle.code_spec.specs.Scopes.{ops_names}
-use Rattle.node_build.specs.View.{nodes_of}
 use Rattle.star_functions.specs.Table.{code_with}
 use Rattle.star_functions.specs.View.{code_of}
 use Rattle.star_functions.specs.declared.function.FunctionCode.{FunctionCode}
@@ -33,24 +32,22 @@ use Rattle.star_values.specs.declared.value.Value.TheVariants as value
 use Rattle.star_tree.specs.declared.program.ItemKind.{ItemKind}
 use Rattle.star_values.proofs.Growing.{each_joined}
 use Rattle.star_values.specs.Objects.{env_in}
-use Rattle.star_values.specs.Owns.{Each, OwnsEnv}
+use Rattle.star_values.specs.Owns.{OwnsEnv}
 use Rattle.star_values.specs.declared.object.NamedBox.{NamedBox}
 use Rattle.template_meaning.specs.Calls.{bottom, enter_ops, level_of}
-use Rattle.value_spec.specs.Outcomes.{Computation, Ending, State, bad, done, fail, or_fail, or_ill_formed, then_do, ◌>>=◌}
+use Rattle.value_spec.specs.Outcomes.{Computation, Ending, State, bad, fail, or_fail, or_ill_formed, then_do, ◌>>=◌}
 use Rattle.value_spec.specs.Store.{function_at}
 use Rattle.value_spec.specs.Values as plain
 use Rattle.value_spec.specs.Values.{Arguments, Function, function_value, native_value, builtin, method, host_native, replacement}
 use Rattle.star_eval.specs.declared.frame.Caller.{Caller}
 use Rattle.star_eval.specs.declared.frame.Control.{Control}
 use Rattle.star_eval.specs.declared.frame.Control.TheVariants as control
-use Rattle.star_eval.specs.declared.frame.Frame.{Frame}
 use Rattle.star_eval.specs.declared.frame.Frame.TheVariants as frame
 use Rattle.star_eval.specs.declared.frame.Machine.{Machine}
-use Rattle.star_eval.specs.declared.session.Session.{Session}
 use Rattle.star_eval.specs.Calling.{calls_at, native_refusal, table_of}
-use Rattle.star_eval.specs.Doing.{Nodes, Setting}
+use Rattle.star_eval.specs.Doing.{Nodes}
 use Rattle.star_eval.specs.Frames.{Goes, Opened, around_flow, around_value}
-use Rattle.star_eval.specs.Meets.{Here, arena_of, state_of}
+use Rattle.star_eval.specs.Meets.{Here, state_of}
 use Rattle.star_eval.specs.View.{OwnsFrame, Sound, arena_in, caller_of, frames_of, nodes_in, setting_of, waiting_in}
 use Rattle.star_eval.specs.Waiting.{call_gives, setting}
 

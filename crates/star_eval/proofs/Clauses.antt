@@ -1,24 +1,21 @@
 -- A comprehension has begun: its clauses go on in their scope, and what is around it waits.
-use Rattle.std.proofs.Common.{◌≡◌, ◌++◌, ◌∷◌, [], List, length, ap, sym, ◌∙◌}
+use Rattle.std.proofs.Common.{◌≡◌, ◌++◌, ◌∷◌, [], List, ap, sym, ◌∙◌}
 use Rattle.code_spec.specs.Code.{Clauses, Expr, for_clause}
 use Rattle.code_spec.specs.Names.{clauses_names}
-use Rattle.star_resolve.specs.Frames.{boxed, with_unset}
-use Rattle.star_resolve.specs.Variables.{each_once}
 use Rattle.star_resolve.proofs.Frames.{new_frames}
-use Rattle.star_spec.specs.Names.{with_boxes}
 use Rattle.star_values.proofs.Growing.{value_kept}
 use Rattle.star_values.specs.Owns.{Owns}
 use Rattle.star_values.specs.View.{value_of}
 use Rattle.star_values.specs.declared.object.NamedBox.{NamedBox}
 use Rattle.star_values.specs.declared.value.Value as held
-use Rattle.value_spec.specs.Outcomes.{done, then_do, ◌>>=◌}
+use Rattle.value_spec.specs.Outcomes.{then_do, ◌>>=◌}
 use Rattle.ytt_base.specs.declared.fault.Place.{Place}
 use Rattle.star_eval.specs.declared.frame.Bag as held_bag
 use Rattle.star_eval.specs.declared.frame.Frame.{Frame}
 use Rattle.star_eval.specs.declared.frame.Frame.TheVariants as frame
 use Rattle.star_eval.specs.declared.frame.Machine.{Machine}
 use Rattle.star_eval.specs.declared.session.Session.{Session}
-use Rattle.star_eval.specs.Doing.{Setting, clause_looped, first_done, flow_made, in_scope}
+use Rattle.star_eval.specs.Doing.{clause_looped, first_done, flow_made, in_scope}
 use Rattle.star_eval.specs.Frames.{OpensClauses, around_bag, around_value}
 use Rattle.star_eval.specs.Meets.{arena_of, state_of}
 use Rattle.star_eval.specs.View.{OwnsBag, Sound, arena_in, bag_of, env_of, nodes_in, setting_of, waiting_in}

@@ -1,11 +1,10 @@
 -- The defaults of functions, one behind another.
 use Rattle.std.proofs.Common.{◌≡◌, List, [], ◌∷◌, ◌++◌, Option, Some, None, append-nil, append_assoc, refl, ap, sym, ◌∙◌}
 use Rattle.code_spec.specs.Code.{Expr, Parameters, no_parameters, required, defaulted, bare_star, starred_parameter, double_starred_parameter}
-use Rattle.star_spec.specs.Eval.{default_values, eval}
-use Rattle.value_spec.specs.Outcomes.{Computation, give, ◌>>=◌}
+use Rattle.star_spec.specs.Eval.{default_values}
+use Rattle.value_spec.specs.Outcomes.{give, ◌>>=◌}
 use Rattle.value_spec.specs.Values.{Value}
 use Rattle.star_eval.specs.Doing.{Making, Setting, evaluated, function_made, making, next_default}
-use Rattle.star_eval.specs.Meets.{Here}
 use Rattle.star_eval.proofs.Chaining.{chained}
 
 -- the parts of what may stand there

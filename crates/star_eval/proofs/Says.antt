@@ -11,15 +11,15 @@ use Rattle.index_spec.specs.Slices.{slice_row}
 use Rattle.node_build.specs.Parts.{noting}
 use Rattle.operator_spec.specs.Operators.{augment_row}
 use Rattle.star_calls.specs.Arguments.{both, none_given}
-use Rattle.star_spec.specs.Eval.{assign_to, augment_to, built_so_far, clauses_in_turn, comprehend, default_values, eval, eval_all, eval_arguments, eval_optional, members_of, starlark, truth_of, turn_pair}
-use Rattle.star_spec.specs.Flow.{Flow, on, out, Part, over_members, plain as as_part, turns, worded}
+use Rattle.star_spec.specs.Eval.{assign_to, augment_to, built_so_far, clauses_in_turn, comprehend, eval, eval_arguments, eval_optional, members_of, starlark, truth_of, turn_pair}
+use Rattle.star_spec.specs.Flow.{Flow, on, out, Part, over_members, plain as as_part, worded}
 use Rattle.star_spec.specs.Language.{Call, Word, breaks, continues, returns, define, execute}
 use Rattle.star_spec.specs.Names.{box_of, read_name, with_boxes, write_name}
-use Rattle.template_meaning.proofs.Follows.{Follows, choice_follows, flow_map, mapped, turns_follow, value_follows, walk_follows}
-use Rattle.template_meaning.specs.Run.{node_part, on_top, run, run_arms, runs}
+use Rattle.template_meaning.proofs.Follows.{Follows, mapped, turns_follow, value_follows, walk_follows}
+use Rattle.template_meaning.specs.Run.{node_part, run_arms}
 use Rattle.value_spec.specs.Outcomes.{Computation, Ending, State, bad, done, give, new_dict, new_list, paid, take_steps, then_do, ◌>>=◌}
 use Rattle.value_spec.specs.Values.{Arguments, arguments, Env, Value, none_value}
-use Rattle.star_eval.specs.Doing.{Bag, Nodes, Setting, acted, arguments_then, arms_done, assigned, augmented, bag_made, bound_then, branched, changed_at, clause_looped, comprehended, cut, done_after, element_done, evaluated, flow_made, in_scope, making, op_place, op_through, pairs_bag, part_done, place_in, op_done, stated, statement_place, step_at, through, values_bag}
+use Rattle.star_eval.specs.Doing.{Bag, Nodes, Setting, acted, arms_done, assigned, augmented, bag_made, bound_then, changed_at, comprehended, cut, done_after, element_done, evaluated, flow_made, making, op_place, op_through, pairs_bag, part_done, place_in, op_done, stated, statement_place, step_at, through, values_bag}
 use Rattle.star_eval.specs.Meets.{Here}
 use Rattle.star_eval.proofs.Chaining.{chained}
 

@@ -1,15 +1,14 @@
 -- A fault in what waits goes on alike, whichever nodes are open and whatever was waited for; and what comes where something
 -- else is waited for is the fault of a program in no proper form.
-use Rattle.std.proofs.Common.{◌≡◌, Bool, true, false, List, [], ◌∷◌, refl, sym, ◌∙◌}
+use Rattle.std.proofs.Common.{◌≡◌, Bool, true, false, List, [], ◌∷◌, refl}
 use Rattle.ytt_base.specs.declared.fault.Fault.{Fault}
 use Rattle.ytt_base.specs.declared.fault.FaultKind.TheVariants as kind
 use Rattle.ytt_base.specs.Outcomes.{fault_of}
 use Rattle.star_spec.specs.Flow.{Flow}
 use Rattle.value_spec.specs.Outcomes.{State, bad, done}
-use Rattle.value_spec.specs.Values.{Value}
 use Rattle.star_eval.specs.Doing.{Bag, Nodes, Setting}
 use Rattle.star_eval.specs.Meets.{Here}
-use Rattle.star_eval.specs.Waiting.{InBlock, InClauses, Waiting, in_value, in_statement, in_block, in_element, in_clauses, gather, caller, turn, rest, walk_end, clause_turn, clause_walk_end, in_env, unwind_bag, unwind_flow, unwind_value}
+use Rattle.star_eval.specs.Waiting.{Waiting, in_value, in_statement, in_block, in_element, in_clauses, gather, caller, clause_turn, clause_walk_end, in_env, unwind_bag, unwind_flow, unwind_value}
 
 mutual
   pub value_alike : (c : Setting) (k j : Nodes) (ws : List Waiting) (f : Fault) (s : State Here) → unwind_value c k ws (bad f s) ≡ unwind_value c j ws (bad f s)

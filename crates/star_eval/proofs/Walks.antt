@@ -4,23 +4,18 @@ use Rattle.std.proofs.lemmas.List.{reverse-append}
 use Rattle.star_values.proofs.Growing.{each_joined, owns_kept}
 use Rattle.star_values.specs.Owns.{Each, Grows}
 use Rattle.star_values.specs.View.{View, value_in}
-use Rattle.star_values.specs.declared.value.Ref.{Ref}
 use Rattle.star_spec.specs.Flow.{out}
 use Rattle.star_spec.specs.Language.{returns}
 use Rattle.star_eval.specs.declared.frame.Flow as held
 use Rattle.star_eval.specs.declared.frame.Flow.TheVariants as flow
 use Rattle.star_eval.specs.declared.frame.Frame.{Frame}
-use Rattle.star_eval.specs.declared.frame.Frame.TheVariants as frame
-use Rattle.star_eval.specs.declared.frame.InBlock.TheVariants as in_block_frame
 use Rattle.star_eval.specs.declared.frame.Machine.{Machine}
 use Rattle.star_eval.specs.declared.session.Session.{Session}
 use Rattle.star_eval.specs.Frames.{flow_of}
 use Rattle.star_eval.specs.Meets.{arena_of}
 use Rattle.star_eval.specs.Doing.{Nodes}
-use Rattle.star_eval.specs.Sources.{Walked}
 use Rattle.star_eval.specs.View.{OwnsFlow, OwnsFrame, Sound, arena_in, frame_of, frames_of, waiting_in}
-use Rattle.star_eval.specs.Waiting.{in_block, walk_end}
-use Rattle.star_eval.proofs.Growing.{Kept, kept, walked_kept}
+use Rattle.star_eval.proofs.Growing.{Kept, kept}
 
 module _ (m : Machine) (s : Session) (f : Frame) (fs : List Frame) (g : Grows (arena_in m) (arena_of s)) (sound : Sound m) (owned : OwnsFrame (arena_of s) f) (more : fs ≡ m.frames ++ f ∷ []) where
   abbrev pub Pushed : Machine

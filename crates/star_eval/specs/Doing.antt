@@ -13,7 +13,7 @@ use Rattle.index_spec.specs.Slices.{Cut, slice_row}
 use Rattle.node_build.specs.Parts.{ending, keying, noting, taking, valuing}
 use Rattle.operator_spec.specs.Operators.{augment_row, binary_row, unary_row}
 use Rattle.star_calls.specs.Arguments.{Form, and_argument, both, by_name, none_given, positional, star, two_stars}
-use Rattle.star_spec.specs.Eval.{assign_each, assign_to, built_so_far, clauses_in_turn, comprehend, count_exprs, default_values, display_pair, eval, eval_all, eval_arguments, eval_entries, eval_pieces, members_of, starlark, truth_of, turn_pair}
+use Rattle.star_spec.specs.Eval.{assign_each, assign_to, built_so_far, clauses_in_turn, comprehend, count_exprs, default_values, eval, eval_all, eval_arguments, eval_entries, eval_pieces, members_of, starlark, truth_of, turn_pair}
 use Rattle.star_spec.specs.Flow.{Flow, on, out, Part, over_members}
 use Rattle.star_spec.specs.Language.{Call, breaks, continues, returns}
 use Rattle.star_spec.specs.Names.{box_of, read_name, with_boxes, write_name}

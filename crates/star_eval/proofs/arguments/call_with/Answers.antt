@@ -1,6 +1,5 @@
-use Rattle.std.proofs.Common.{◌≡◌, ap, sym, ◌∙◌}
+use Rattle.std.proofs.Common.{ap, sym, ◌∙◌}
 use Rattle.std.proofs.lemmas.List.{nil_from_length}
-use Rattle.code_spec.specs.Code as plain
 use Rattle.star_tree.specs.Whole.{expr_of, exprs_of}
 use Rattle.star_values.specs.View.{arguments_in, value_of}
 use Rattle.value_spec.specs.Outcomes.{then_do}

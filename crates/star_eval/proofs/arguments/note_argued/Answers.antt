@@ -1,4 +1,4 @@
-use Rattle.std.proofs.Common.{◌≡◌, ap, sym, ◌∙◌}
+use Rattle.std.proofs.Common.{ap, sym}
 use Rattle.node_build.specs.Parts.{noting}
 use Rattle.star_tree.specs.Whole.{exprs_of}
 use Rattle.value_spec.specs.Outcomes.{then_do}

@@ -1,4 +1,4 @@
-use Rattle.std.proofs.Common.{◌≡◌, ap, sym, ◌∙◌}
+use Rattle.std.proofs.Common.{ap, sym, ◌∙◌}
 use Rattle.node_build.specs.Parts.{noting}
 use Rattle.star_values.specs.View.{arguments_in}
 use Rattle.star_eval.specs.Frames.{around_flow}

@@ -1,8 +1,7 @@
 use Rattle.std.proofs.Common.{◌≡◌, false, rules, ap, sym, ◌∙◌}
 use Rattle.ytt_base.specs.declared.fault.FaultKind.TheVariants as kind
 use Rattle.ytt_base.specs.Outcomes.{fault_at}
-use Rattle.star_values.specs.View.{arguments_in, native_in, value_of}
-use Rattle.value_spec.specs.Outcomes.{bad}
+use Rattle.star_values.specs.View.{arguments_in, value_of}
 use Rattle.star_eval.specs.Calling.{calls_at, native_refusal}
 use Rattle.star_eval.specs.Meets.{state_of}
 use Rattle.star_eval.specs.View.{arena_in}

@@ -1,6 +1,5 @@
 use Rattle.std.proofs.Common.{◌≡◌, ◌-◌, None, Some, IfOk, Err, ap, option_map, subst, sym, ◌∙◌}
 use Rattle.ytt_base.specs.declared.fault.FaultKind.TheVariants as kind
-use Rattle.ytt_base.specs.declared.fault.Stop.TheVariants as stop
 use Rattle.ytt_base.specs.Outcomes.{fault_at, fault_of}
 use Rattle.code_spec.specs.Scopes.{ops_names}
 use Rattle.object_arena.specs.Names.{function_in}

@@ -1,4 +1,4 @@
-use Rattle.std.proofs.Common.{◌≡◌, ◌∷◌, reverse, sym, ap, subst, ◌∙◌}
+use Rattle.std.proofs.Common.{◌≡◌, ◌∷◌, reverse, sym, subst, ◌∙◌}
 use Rattle.node_build.proofs.Growing.{nodes_kept}
 use Rattle.star_values.specs.Owns.{Each}
 use Rattle.value_spec.specs.Outcomes.{done}

@@ -1,7 +1,6 @@
 use Rattle.std.proofs.lemmas.Grind.{common_steps}
 use Rattle.std.proofs.Common.{arith, ◌≡◌, ◌∷◌, sym, ap, map as each, ◌∙◌}
 use Rattle.code_spec.specs.Code as plain
-use Rattle.star_spec.specs.Eval.{members_of}
 use Rattle.star_tree.proofs.Forms.{clause_of-ForIn}
 use Rattle.star_tree.specs.Listed.{clause_of, clauses_of}
 use Rattle.star_tree.specs.Whole.{clauses_from, expr_of}

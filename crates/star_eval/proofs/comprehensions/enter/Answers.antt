@@ -1,4 +1,4 @@
-use Rattle.std.proofs.Common.{rules, ◌≡◌, ◌++◌, ◌∷◌, [], ap, ◌∙◌, sym}
+use Rattle.std.proofs.Common.{◌++◌, ◌∷◌, [], ap, ◌∙◌}
 use Rattle.star_spec.specs.Flow.{next_turn, turns}
 use Rattle.star_tree.specs.Listed.{clauses_of}
 use Rattle.star_tree.specs.Whole.{expr_of}
@@ -15,7 +15,7 @@ use Rattle.star_eval.specs.Waiting.{clause_turn_of, enter_clauses, in_element, u
 use Rattle.star_values.proofs.Growing.{grows_same}
 use Rattle.star_eval.proofs.Chaining.{none_then}
 use Rattle.star_eval.proofs.Going.{goes}
-use Rattle.star_eval.proofs.Walks.{Pushed, pushed_sound, pushed_waits}
+use Rattle.star_eval.proofs.Walks.{pushed_sound, pushed_waits}
 use Rattle.star_eval.proofs.comprehensions.enter.Goals as goal
 
 pub push_element-requires-clause-sound : goal.push_element-requires-clause-sound

@@ -1,4 +1,4 @@
-use Rattle.std.proofs.Common.{◌≡◌, [], ◌++◌, length, sym, ap, subst, ◌∙◌}
+use Rattle.std.proofs.Common.{[], ◌++◌, length, sym, ap, subst, ◌∙◌}
 use Rattle.std.proofs.lemmas.List.{map-append}
 use Rattle.star_resolve.specs.Frames.{boxed, unset_boxes}
 use Rattle.star_resolve.specs.Variables.{each_once}

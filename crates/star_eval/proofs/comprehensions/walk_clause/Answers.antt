@@ -1,4 +1,4 @@
-use Rattle.std.proofs.Common.{rules, ◌≡◌, ◌++◌, ◌∷◌, [], ap, subst, sym, ◌∙◌}
+use Rattle.std.proofs.Common.{◌++◌, ◌∷◌, [], ap, ◌∙◌}
 use Rattle.star_spec.specs.Flow.{turns}
 use Rattle.star_tree.specs.Listed.{clauses_of}
 use Rattle.star_tree.specs.Whole.{expr_of}
@@ -7,8 +7,8 @@ use Rattle.star_eval.specs.declared.frame.InClauses.TheVariants as in_clauses_fr
 use Rattle.star_eval.specs.declared.frame.Machine.{Machine}
 use Rattle.star_eval.specs.declared.source.Source.{Source}
 use Rattle.star_eval.specs.Meets.{arena_of, state_of}
-use Rattle.star_eval.specs.Sources.{OwnsSource, left_of}
-use Rattle.star_eval.specs.View.{OwnsBag, Sound, arena_in, bag_of, nodes_in, setting_of, waiting_in}
+use Rattle.star_eval.specs.Sources.{left_of}
+use Rattle.star_eval.specs.View.{arena_in, bag_of, nodes_in, setting_of, waiting_in}
 use Rattle.star_eval.specs.Waiting.{clause_turn_of, unwind_bag}
 use Rattle.star_eval.proofs.Going.{goes}
 use Rattle.star_eval.proofs.Growing.{bag_kept, kept, source_kept, walked_kept}

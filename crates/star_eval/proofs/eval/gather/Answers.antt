@@ -1,4 +1,4 @@
-use Rattle.std.proofs.Common.{rules, ◌≡◌, ◌++◌, ◌∷◌, ap, sym, ◌∙◌}
+use Rattle.std.proofs.Common.{◌≡◌, ◌++◌, ◌∷◌, ap, sym, ◌∙◌}
 use Rattle.code_spec.specs.Code.{an_expr}
 use Rattle.star_tree.specs.Whole.{expr_of, exprs_of}
 use Rattle.star_values.specs.View.{values_of}

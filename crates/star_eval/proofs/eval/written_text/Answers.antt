@@ -1,4 +1,4 @@
-use Rattle.std.proofs.Common.{◌≡◌, ◌++◌, ◌∷◌, append-nil, append_assoc, ap, sym, map as each, ◌∙◌}
+use Rattle.std.proofs.Common.{◌++◌, ◌∷◌, append-nil, append_assoc, ap, sym, map as each, ◌∙◌}
 use Rattle.std.proofs.lemmas.List.{nil_from_length}
 use Rattle.std.specs.Prelude.{string_bytes}
 use Rattle.star_tree.proofs.Forms.{piece_of-Shown, piece_of-Written}

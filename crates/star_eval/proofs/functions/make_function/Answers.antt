@@ -1,8 +1,7 @@
-use Rattle.std.proofs.Common.{◌≡◌, ◌++◌, ◌∷◌, [], None, Some, append-nil, append_assoc, ap, sym, ◌∙◌}
+use Rattle.std.proofs.Common.{◌≡◌, None, Some, ap, sym, ◌∙◌}
 use Rattle.star_tree.specs.Whole.{expr_of, parameters_of}
 use Rattle.star_values.specs.View.{values_of}
-use Rattle.value_spec.specs.Outcomes.{then_do}
-use Rattle.star_eval.specs.Doing.{evaluated, making, next_default}
+use Rattle.star_eval.specs.Doing.{next_default}
 use Rattle.star_eval.specs.Frames.{around_value}
 use Rattle.star_eval.specs.Meets.{state_of}
 use Rattle.star_eval.specs.View.{arena_in, default_of, making_of, setting_of, waiting_in}

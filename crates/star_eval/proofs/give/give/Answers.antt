@@ -1,4 +1,4 @@
-use Rattle.std.proofs.Common.{◌≡◌, ◌∷◌, sym, ap, subst}
+use Rattle.std.proofs.Common.{◌∷◌, sym, ap, subst}
 use Rattle.star_values.specs.View.{value_of}
 use Rattle.value_spec.specs.Outcomes.{done}
 use Rattle.star_eval.specs.declared.frame.Control.TheVariants as control

@@ -1,4 +1,4 @@
-use Rattle.std.proofs.Common.{rules, ◌≡◌, ◌++◌, ◌∷◌, [], ap, ◌∙◌, sym}
+use Rattle.std.proofs.Common.{rules, ◌≡◌, ◌++◌, ◌∷◌, [], ap, ◌∙◌}
 use Rattle.star_blocks.specs.Nested.{ops_of}
 use Rattle.star_spec.specs.Flow.{next_turn, turns}
 use Rattle.star_tree.specs.Whole.{expr_of}

@@ -1,4 +1,4 @@
-use Rattle.std.proofs.Common.{◌≡◌, ◌∷◌, sym, ap, subst}
+use Rattle.std.proofs.Common.{◌∷◌, sym, ap, subst}
 use Rattle.value_spec.specs.Outcomes.{bad}
 use Rattle.star_eval.specs.declared.frame.Control.TheVariants as control
 use Rattle.star_eval.specs.declared.frame.Machine.{Machine}
