@@ -1,8 +1,8 @@
 //! What a program does: expressions, statements and blocks by one loop over a stack of frames, which calls itself on no part of the
 //! program, so no nesting costs the machine's stack.
 //!
-//! `run_flat` gives the documents that a program means and the steps that are left, or the fault that it ends with, where all of the
-//! program is built. Frames are seen as plain data (`specs/Waiting`), and each step keeps what the machine stands for
+//! `run_flat` gives the documents that a program means and the steps that are left, or the fault that it ends with. Calls stand in
+//! frames too. Frames are seen as plain data (`specs/Waiting`), and each step keeps what the machine stands for
 //! (`specs/Frames`). What parts of nodes build is `node_build`'s.
 #![tactic(auto)]
 
