@@ -3,17 +3,15 @@ ghost use Rattle.std.specs.Prelude.{◌≡◌, ◌≤◌, ◌+◌, ◌∷◌, []
 ghost use Rattle.ytt_base.specs.declared.fault.Stop.TheVariants as stop;
 ghost use Rattle.ytt_base.specs.declared.fault.FaultKind.TheVariants as fault_kind;
 ghost use Rattle.ytt_base.specs.Outcomes.{fault_of};
-ghost use Rattle.ytt_base.specs.View.{key_of, trees_of};
+ghost use Rattle.ytt_base.specs.View.{key_of};
 ghost use Rattle.star_spec.specs.Flow.{on};
 ghost use Rattle.star_tree.specs.View.{holds_of, item_kind_of};
 ghost use Rattle.star_values.specs.Objects.{seen};
 ghost use Rattle.star_values.specs.Owns.{Each, Owns, OwnsAll, OwnsBuilt, note_values};
 ghost use Rattle.star_values.specs.View.{View, arguments_in, built_in, value_of};
 ghost use Rattle.template_meaning.specs.Calls.{bottom, bottom_children};
-ghost use Rattle.template_meaning.specs.Meaning.{documents};
 ghost use Rattle.node_build.specs.Parts.{Changes, Does, Spends, Tells, IsOnTopAt, cut_to, ending, finished, has_two, keying, noting, starting, taking, valuing};
 
-use crate::documents::documents_of;
 use crate::end::ended;
 use crate::fill::{scalar_tree, taken_over};
 use crate::list::push;
@@ -24,7 +22,7 @@ use std::alloc::Global;
 use std::mem;
 use ytt_base::fault::{Fault, FaultKind, Place, Stop};
 use ytt_base::text::{Memory, Text};
-use ytt_base::tree::{Key, Trees};
+use ytt_base::tree::Key;
 
 /// The refusal of what is in no proper form, of no place.
 fn ill_formed(alloc: Global) -> Stop
@@ -226,12 +224,5 @@ impl Builder {
         } else {
             below.swap_remove(0)
         }
-    }
-
-    /// The trees of what stands in the node on top, without the null ones.
-    pub fn documents(&self, alloc: Global) -> Result<Trees, Memory>
-        ensures { (a : View) → IfOk result (λ ts. trees_of ts ≡ documents (bottom_children (nodes_of a self.now))) }
-    {
-        documents_of(alloc, self.top.children.items.as_slice())
     }
 }

@@ -81,7 +81,7 @@ fn put_document(trees: &mut Trees, tree: Tree) -> Result<(), Memory>
 }
 
 /// The trees of documents, without the null ones.
-pub(crate) fn documents_of(alloc: Global, items: &[BuiltItem]) -> Result<Trees, Memory>
+pub fn documents_of(alloc: Global, items: &[BuiltItem]) -> Result<Trees, Memory>
     ensures { (held : List plain.Value) → IfOk result (λ ts. trees_of ts ≡ documents (built_in held items.now)) }
 {
     let mut trees = Items::new(alloc);

@@ -30,9 +30,9 @@ use Rattle.star_values.specs.declared.value.Ref.{Ref}
 use Rattle.star_values.specs.declared.value.Value as held_value
 use Rattle.star_values.specs.declared.value.Value.TheVariants as value
 use Rattle.star_tree.specs.declared.program.ItemKind.{ItemKind}
-use Rattle.star_values.proofs.Growing.{each_joined}
+use Rattle.star_values.proofs.Growing.{each_joined, grows_same}
 use Rattle.star_values.specs.Objects.{env_in}
-use Rattle.star_values.specs.Owns.{OwnsEnv}
+use Rattle.star_values.specs.Owns.{OwnsEnv, Grows}
 use Rattle.star_values.specs.declared.object.NamedBox.{NamedBox}
 use Rattle.template_meaning.specs.Calls.{bottom, enter_ops, level_of}
 use Rattle.value_spec.specs.Outcomes.{Computation, Ending, State, bad, fail, or_fail, or_ill_formed, then_do, ◌>>=◌}
@@ -141,9 +141,9 @@ scope_given file n r g code params fresh p vs a b result h besides same there =
 
 -- a fault that changes nothing
 pub refused : (m : Machine) (f : Computation Here plain.Value) (d : Fault) (x : Control) → Sound m → x ≡ control.Failed d → f (state_of m.session) ≡ bad d (state_of m.session) →
-    Goes m x (around_value m (waiting_in m) (f (state_of m.session)))
+    Goes (arena_in m) m x (around_value m (waiting_in m) (f (state_of m.session)))
 refused m f d x sound is e =
-    subst (λ x. Goes m x (around_value m (waiting_in m) (f (state_of m.session)))) (sym is) (record { same = ap (around_value m (waiting_in m)) (sym e); sound = sound; owned = tt })
+    subst (λ x. Goes (arena_in m) m x (around_value m (waiting_in m) (f (state_of m.session)))) (sym is) (record { same = ap (around_value m (waiting_in m)) (sym e); sound = sound; owned = tt; grows = grows_same (arena_in m) })
 
 -- ---- a call that has begun
 
@@ -162,6 +162,9 @@ module _ (m n : Machine) (fragment : Option ItemKind) (scope : List NamedBox) (o
 
   pub opened_sound : Sound n
   opened_sound = subst Sound (sym o.is) begun_sound
+
+  pub opened_grows : Grows (arena_in m) (arena_in n)
+  opened_grows = subst (λ (x : Machine). Grows (arena_in m) (arena_in x)) (sym o.is) (grows_same (arena_in m))
 
   pub opened_setting : setting_of n ≡ setting (calls_at m.code.file m.code.functions (m.depth - 1)) (env_in (arena_in m).held scope)
   opened_setting = ap setting_of o.is

@@ -1,11 +1,11 @@
 -- The run of a file that loads nothing: a box for each of its names, and then its blocks.
-use Rattle.std.proofs.Common.{◌≡◌, ℕ, List, [], ◌∷◌, length, option_map, Some, None, Result, Ok, Err, refl, sym, ap, ◌∙◌, subst}
+use Rattle.std.proofs.Common.{◌≡◌, ℕ, List, [], ◌∷◌, length, option_map, Some, None, Result, Ok, Err, refl, sym, ap, ◌∙◌}
 use Rattle.ytt_base.specs.declared.fault.Fault.{Fault}
 use Rattle.ytt_base.specs.declared.fault.FaultKind.TheVariants as kind
 use Rattle.ytt_base.specs.declared.fault.Stop.{Stop}
 use Rattle.ytt_base.specs.declared.fault.Stop.TheVariants as stop
 use Rattle.ytt_base.specs.Outcomes.{fault_of}
-use Rattle.ytt_base.specs.View.{trees_of}
+use Rattle.node_build.specs.View.{nodes_of}
 use Rattle.code_spec.specs.Blocks.{Ops, blocks}
 use Rattle.star_functions.specs.Table.{code_with}
 use Rattle.star_functions.specs.View.{code_of}
@@ -15,7 +15,7 @@ use Rattle.star_spec.specs.Language.{Call}
 use Rattle.code_spec.specs.Code.{Name}
 use Rattle.star_spec.specs.Eval.{starlark}
 use Rattle.star_spec.specs.Flow.{Flow}
-use Rattle.value_spec.specs.Outcomes.{State, Ending, bad, give, then_do}
+use Rattle.value_spec.specs.Outcomes.{State, Ending, bad, done, give, then_do}
 use Rattle.code_spec.specs.Program.{Instruction}
 use Rattle.code_spec.specs.Scopes.{ops_names}
 use Rattle.value_spec.specs.Values.{Env}
@@ -25,16 +25,22 @@ use Rattle.star_resolve.proofs.Frames.{new_frames}
 use Rattle.template_meaning.specs.Build.{built}
 use Rattle.template_meaning.specs.Calls.{bottom, bottom_children, bottom_flow, enter_ops, ops_function, program_calls, program_function}
 use Rattle.template_meaning.specs.Files.{FileResult, File, Loader, ended}
-use Rattle.template_meaning.specs.Meaning.{RunFile, documents, loads_in, names_in, run_blocks}
+use Rattle.template_meaning.specs.Meaning.{RunFile, loads_in, names_in, run_blocks}
 use Rattle.template_meaning.specs.Run.{runs}
-use Rattle.star_eval.specs.declared.file.FlatResult.{FlatResult}
+use Rattle.star_values.proofs.Growing.{grows_then}
+use Rattle.star_values.specs.Objects.{env_in}
+use Rattle.star_values.specs.Owns.{Grows}
 use Rattle.star_values.specs.View.{View}
+use Rattle.star_eval.specs.declared.file.FileResult.{FileResult as Given}
+use Rattle.star_eval.specs.declared.looped.Finished.{Finished}
+use Rattle.star_eval.specs.declared.session.Session.{Session}
+use Rattle.star_eval.specs.FileRun.{RunsAs}
+use Rattle.star_eval.specs.Finishes.{Leaves, result_of}
 use Rattle.star_eval.specs.declared.frame.Flow.{Flow as Held}
 use Rattle.star_eval.specs.declared.frame.Flow.TheVariants as held
 use Rattle.star_eval.specs.Calling.{calls_at}
-use Rattle.star_eval.specs.FileRun.{LeftBy, Shows}
-use Rattle.star_eval.specs.Frames.{flow_ending_of}
-use Rattle.star_eval.specs.Meets.{Here, in_store}
+use Rattle.star_eval.specs.Frames.{flow_ending_of, flow_of}
+use Rattle.star_eval.specs.Meets.{Here, arena_of, state_of}
 use Rattle.star_eval.specs.Doing.{Nodes}
 
 -- ---- the calls
@@ -48,58 +54,74 @@ same_calls is os file fs d e h = λ i. apply starlark no_natives ops_names (ente
 -- ---- the file
 
 -- what a file gives after its blocks, in its scope
-abbrev after_run : Env → Ending Here (Flow Nodes) → Ending Here FileResult
-after_run env o = then_do (then_do o (λ f. give (built (bottom_flow f)))) (ended 0 env)
+abbrev after_run : ℕ → Env → Ending Here (Flow Nodes) → Ending Here FileResult
+after_run n env o = then_do (then_do o (λ f. give (built (bottom_flow f)))) (ended n env)
 
-module _ (loader : Loader Here) (depth : ℕ) (is : List Instruction) (n : ℕ) where
+module _ (loader : Loader Here) (depth : ℕ) (is : List Instruction) (s : State Here) where
   abbrev calls : Call Here
   calls = program_calls starlark no_natives (λ f. is) depth
 
-  abbrev Scope : Ops → List Name
-  Scope os = each_once (ops_names os)
+  abbrev made : ℕ
+  made = length s.store
 
-  run_from : (os : Ops) → blocks is ≡ Some os → loads_in (blocks is) ≡ [] →
-      RunFile starlark no_natives loader (λ f. is) depth is (in_store [] n)
-      ≡ after_run (boxed 0 (Scope os) []) (runs starlark calls os (boxed 0 (Scope os) []) (bottom 0 ∷ []) (with_unset (length (Scope os)) (in_store [] n)))
-  run_from os e h =
-      (λ i. File loader (h i) (names_in (blocks is)) (λ env. run_blocks starlark calls (blocks is) env) (in_store [] n))
-      ∙ (λ i. File loader [] (names_in (e i)) (λ env. run_blocks starlark calls (e i) env) (in_store [] n))
-      ∙ ap (λ o. then_do o (λ env s. then_do (run_blocks starlark calls (Some os) env s) (ended 0 env))) (new_frames (ops_names os) (in_store [] n)).0
+  abbrev Runs : Ending Here FileResult
+  Runs = RunFile starlark no_natives loader (λ f. is) depth is s
+
+  -- the blocks in the scope of these names
+  abbrev block_run : Ops → List Name → Ending Here (Flow Nodes)
+  block_run os g = runs starlark calls os (boxed made g []) (bottom 0 ∷ []) (with_unset (length g) s)
+
+  module _ (os : Ops) (g : List Name) (cut : blocks is ≡ Some os) (loads : loads_in (blocks is) ≡ []) (names : g ≡ each_once (ops_names os)) where
+    run_from : Runs ≡ after_run made (boxed made g []) (block_run os g)
+    run_from =
+        (λ i. File loader (loads i) (names_in (blocks is)) (λ env. run_blocks starlark calls (blocks is) env) s)
+        ∙ (λ i. File loader [] (names_in (cut i)) (λ env. run_blocks starlark calls (cut i) env) s)
+        ∙ ap (λ o. then_do o (λ env s. then_do (run_blocks starlark calls (Some os) env s) (ended made env))) (new_frames (ops_names os) s).0
+        ∙ (λ i. after_run made (boxed made (sym names i) []) (block_run os (sym names i)))
+
+    built_of : (a : View) (w : Held) (k : Nodes) → built (bottom_flow (flow_of a w k)) ≡ bottom_children k
+    built_of a held.On k = refl
+    built_of a held.Break k = refl
+    built_of a held.Continue k = refl
+    built_of a (held.Return v) k = refl
+
+    -- where the block ended, and with a fault
+    pub file_ends : (a : View) (w : Held) (k : Nodes) (t : State Here) (x : FileResult) (u : State Here) → flow_ending_of a (Ok w) k t ≡ block_run os g → ended made (boxed made g []) (bottom_children k) t ≡ done x u → Runs ≡ done x u
+    file_ends a w k t x u ran e = run_from ∙ ap (after_run made (boxed made g [])) (sym ran) ∙ ap (λ cs. ended made (boxed made g []) cs t) (built_of a w k) ∙ e
+
+    pub file_fails : (a : View) (f : Fault) (k : Nodes) (t : State Here) → flow_ending_of a (Err f) k t ≡ block_run os g → Runs ≡ bad f t
+    file_fails a f k t ran = run_from ∙ ap (after_run made (boxed made g [])) (sym ran)
 
   -- a program that isn't closed as it should be
-  pub broken_run : blocks is ≡ None → RunFile starlark no_natives loader (λ f. is) depth is (in_store [] n) ≡ bad (fault_of kind.CodeForm) (in_store [] n)
-  broken_run e = λ i. File loader (loads_in (e i)) (names_in (e i)) (λ env. run_blocks starlark calls (e i) env) (in_store [] n)
+  pub broken_run : blocks is ≡ None → Runs ≡ bad (fault_of kind.CodeForm) s
+  broken_run e = λ i. File loader (loads_in (e i)) (names_in (e i)) (λ env. run_blocks starlark calls (e i) env) s
 
-  -- ---- what is shown
+-- ---- what the call gives
 
-  pub shows_documents : (a : View) (os : Ops) (g : List Name) (w : Held) (k : Nodes) (s : State Here) (r : FlatResult) → blocks is ≡ Some os → loads_in (blocks is) ≡ [] → g ≡ Scope os →
-      flow_ending_of a (Ok w) k s ≡ runs starlark calls os (boxed 0 g []) (bottom 0 ∷ []) (with_unset (length g) (in_store [] n)) →
-      trees_of r.documents ≡ documents (bottom_children k) → r.steps_left ≡ s.steps → Shows (Ok r) (RunFile starlark no_natives loader (λ f. is) depth is (in_store [] n))
-  shows_documents a os g w k s r e h same ran d left =
-      subst (Shows (Ok r))
-      (sym (run_from os e h ∙ (λ i. after_run (boxed 0 (sym same i) []) (runs starlark calls os (boxed 0 (sym same i) []) (bottom 0 ∷ []) (with_unset (length (sym same i)) (in_store [] n)))) ∙ ap (after_run (boxed 0 g [])) (sym ran)))
-      (by w)
-    where
-      by : (w : Held) → Shows (Ok r) (after_run (boxed 0 g []) (flow_ending_of a (Ok w) k s))
-      by held.On = (sym d, sym left)
-      by held.Break = (sym d, sym left)
-      by held.Continue = (sym d, sym left)
-      by (held.Return v) = (sym d, sym left)
+module _ (is : List Instruction) (depth made_before : ℕ) (before after : Session) (os : Ops) (g : List Name) (e : Finished) (cut : blocks is ≡ Some os) (names : g ≡ each_once (ops_names os)) (mark : made_before ≡ length (arena_of before).store)
+    (scope : env_in (arena_of e.session).held e.scope ≡ boxed (length (arena_of before).store) g []) (grows : Grows (arena_of before) (arena_of e.session)) where
+  abbrev nodes : Nodes
+  nodes = nodes_of (arena_of e.session) e.nodes
 
-  pub shows_fault : (a : View) (os : Ops) (g : List Name) (f : Fault) (k : Nodes) (s : State Here) → blocks is ≡ Some os → loads_in (blocks is) ≡ [] → g ≡ Scope os →
-      flow_ending_of a (Err f) k s ≡ runs starlark calls os (boxed 0 g []) (bottom 0 ∷ []) (with_unset (length g) (in_store [] n)) →
-      Shows (Err (stop.Fault f)) (RunFile starlark no_natives loader (λ f. is) depth is (in_store [] n))
-  shows_fault a os g f k s e h same ran =
-      subst (Shows (Err (stop.Fault f)))
-      (sym (run_from os e h ∙ (λ i. after_run (boxed 0 (sym same i) []) (runs starlark calls os (boxed 0 (sym same i) []) (bottom 0 ∷ []) (with_unset (length (sym same i)) (in_store [] n)))) ∙ ap (after_run (boxed 0 g [])) (sym ran)))
-      refl
+  -- the block ended so, which is how the program's block runs
+  abbrev Ran : Result Held Fault → Type 0
+  Ran w = flow_ending_of (arena_of e.session) w nodes (state_of e.session) ≡ runs starlark (program_calls starlark no_natives (λ f. is) depth) os (boxed (length (arena_of before).store) g []) (bottom 0 ∷ []) (with_unset (length g) (state_of before))
 
-  -- what a block left is what its run shows
-  pub shows_left : (a : View) (os : Ops) (g : List Name) (w : Result Held Fault) (k : Nodes) (s : State Here) (r : Result FlatResult Stop) → blocks is ≡ Some os → loads_in (blocks is) ≡ [] → g ≡ Scope os →
-      flow_ending_of a w k s ≡ runs starlark calls os (boxed 0 g []) (bottom 0 ∷ []) (with_unset (length g) (in_store [] n)) → LeftBy w k s.steps r → Shows r (RunFile starlark no_natives loader (λ f. is) depth is (in_store [] n))
-  shows_left a os g (Ok w) k s (Ok r) e h same ran left = shows_documents a os g w k s r e h same ran left.0 left.1
-  shows_left a os g (Ok w) k s (Err (stop.Fault f)) e h same ran left = elim left [ ]
-  shows_left a os g (Ok w) k s (Err stop.Memory) e h same ran left = tt
-  shows_left a os g (Err f) k s (Ok r) e h same ran left = elim left [ ]
-  shows_left a os g (Err f) k s (Err (stop.Fault d)) e h same ran left = subst (λ d. Shows (Err (stop.Fault d)) (RunFile starlark no_natives loader (λ f. is) depth is (in_store [] n))) (sym left) (shows_fault a os g f k s e h same ran)
-  shows_left a os g (Err f) k s (Err stop.Memory) e h same ran left = tt
+  pub file_runs : (w : Result Held Fault) (result : Result Given Stop) → Ran w → Leaves made_before e w result after → RunsAs is depth result after before
+  file_runs (Ok w) (Ok r) ran left = record {
+    meaning = λ loads loader. file_ends loader depth is (state_of before) os g cut loads names (arena_of e.session) w nodes (state_of e.session) (result_of (arena_of after) r) (state_of after) ran
+        ((λ i. ended (sym mark i) (sym scope i) (bottom_children nodes) (state_of e.session)) ∙ left.meaning);
+    owned = record {
+      documents = left.owned.documents;
+      globals = left.owned.globals;
+      grows = grows_then (arena_of before) (arena_of e.session) (arena_of after) grows left.owned.grows;
+    };
+  }
+  file_runs (Ok w) (Err (stop.Fault f)) ran left = elim left [ ]
+  file_runs (Err f) (Ok r) ran left = elim left [ ]
+  file_runs (Err f) (Err (stop.Fault d)) ran left = record {
+    meaning = λ loads loader. file_fails loader depth is (state_of before) os g cut loads names (arena_of e.session) f nodes (state_of e.session) ran ∙ (λ i. bad (sym left.0 i) (sym left.1 i));
+    owned = tt;
+  }
+  file_runs (Ok w) (Err stop.Memory) ran left = record { meaning = λ loads loader. tt; owned = tt }
+  file_runs (Err f) (Err stop.Memory) ran left = record { meaning = λ loads loader. tt; owned = tt }

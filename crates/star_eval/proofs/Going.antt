@@ -12,6 +12,9 @@ use Rattle.star_steps.specs.Meets.{Meets, state_in}
 use Rattle.star_values.specs.declared.value.Value.{Value}
 use Rattle.star_values.specs.declared.value.Work.{Work}
 use Rattle.star_values.specs.declared.value.Value.TheVariants as value
+use Rattle.star_values.proofs.Growing.{grows_same, grows_then}
+use Rattle.star_values.specs.Owns.{Grows}
+use Rattle.star_values.specs.View.{View}
 use Rattle.star_eval.specs.declared.frame.Control.{Control}
 use Rattle.star_eval.specs.declared.frame.Control.TheVariants as control
 use Rattle.star_eval.specs.declared.frame.Flow.TheVariants as flow
@@ -26,9 +29,14 @@ use Rattle.star_eval.specs.Waiting.{Final, unwind_flow, unwind_value, with_none}
 use Rattle.star_eval.proofs.Growing.{Kept, kept}
 
 -- what went on from one thing goes on from what is the same
-pub goes : {E : Type 0} (r : Result Control E) (m : Machine) {b d : Final} → b ≡ d → IfOk r (λ c. Goes m c b) → IfOk r (λ c. Goes m c d)
-goes (Ok c) m e h = record { same = h.same ∙ e; sound = h.sound; owned = h.owned }
-goes (Err x) m e h = tt
+pub goes : {E : Type 0} (a : View) (r : Result Control E) (m : Machine) {b d : Final} → b ≡ d → IfOk r (λ c. Goes a m c b) → IfOk r (λ c. Goes a m c d)
+goes a (Ok c) m e h = record { same = h.same ∙ e; sound = h.sound; owned = h.owned; grows = h.grows }
+goes a (Err x) m e h = tt
+
+-- from an arena that has grown
+pub goes_after : {E : Type 0} (a b : View) (r : Result Control E) (m : Machine) {before after : Final} → Grows a b → after ≡ before → IfOk r (λ c. Goes b m c after) → IfOk r (λ c. Goes a m c before)
+goes_after a b (Ok c) m g e h = record { same = h.same ∙ e; sound = h.sound; owned = h.owned; grows = grows_then a b (arena_in m) g h.grows }
+goes_after a b (Err x) m g e h = tt
 
 -- ---- endings in a machine that is kept
 
@@ -39,8 +47,8 @@ module _ (m n : Machine) (k : Kept m n) where
   pub flow_after : (r o : Ending Here (Flow Nodes)) → o ≡ r → around_flow n (waiting_in n) r ≡ around_flow m (waiting_in m) o
   flow_after r o e = (λ i. unwind_flow (k.setting i) (k.waiting i) r) ∙ ap (around_flow m (waiting_in m)) (sym e)
 
-  one_control : (c d : Control) (before : Final) → c ≡ d → Goes n d before → Goes n c before
-  one_control c d before e g = subst (λ x. Goes n x before) (sym e) g
+  one_control : (c d : Control) (before : Final) → c ≡ d → Goes (arena_in m) n d before → Goes (arena_in m) n c before
+  one_control c d before e g = subst (λ x. Goes (arena_in m) n x before) (sym e) g
 
 -- ---- calls that give a value, or nothing
 
@@ -51,10 +59,10 @@ module _ (m : Machine) (s : Session) (sound : Sound m) where
   pub gives_on : (f : Computation Here plain.Value) (given : Result Value Stop) (r : Result Control Memory) → GivesFrom f given s m.session → Settles given r → GoesToValue r After m f
   gives_on f (Ok v) (Ok c) g e =
       let k = kept m s g.grows sound in
-      one_control m After k c (control.Gave v) _ e (record { same = value_after m After k _ _ g.meaning; sound = k.sound; owned = g.owns })
+      one_control m After k c (control.Gave v) _ e (record { same = value_after m After k _ _ g.meaning; sound = k.sound; owned = g.owns; grows = k.grows })
   gives_on f (Err (stop.Fault d)) (Ok c) g e =
       let k = kept m s g.grows sound in
-      one_control m After k c (control.Failed d) _ e (record { same = value_after m After k _ _ g.meaning; sound = k.sound; owned = tt })
+      one_control m After k c (control.Failed d) _ e (record { same = value_after m After k _ _ g.meaning; sound = k.sound; owned = tt; grows = k.grows })
   gives_on f (Err stop.Memory) (Ok c) g e = elim e [ ]
   gives_on f given (Err x) g e = tt
 
@@ -64,10 +72,10 @@ module _ (m : Machine) (s : Session) (sound : Sound m) where
   pub acts_on : (f : Computation Here Here) (given : Result Here Stop) (r : Result Control Memory) → Acts f given s m.session → SettlesNone given r → GoesToValue r After m (with_none f)
   acts_on f (Ok u) (Ok c) g e =
       let k = kept m s g.grows sound in
-      one_control m After k c (control.Gave value.None) _ e (record { same = value_after m After k _ _ (then_none f u g.meaning); sound = k.sound; owned = tt })
+      one_control m After k c (control.Gave value.None) _ e (record { same = value_after m After k _ _ (then_none f u g.meaning); sound = k.sound; owned = tt; grows = k.grows })
   acts_on f (Err (stop.Fault d)) (Ok c) g e =
       let k = kept m s g.grows sound in
-      one_control m After k c (control.Failed d) _ e (record { same = value_after m After k _ _ (ap (λ o. then_do o (λ u. give plain.none_value)) g.meaning); sound = k.sound; owned = tt })
+      one_control m After k c (control.Failed d) _ e (record { same = value_after m After k _ _ (ap (λ o. then_do o (λ u. give plain.none_value)) g.meaning); sound = k.sound; owned = tt; grows = k.grows })
   acts_on f (Err stop.Memory) (Ok c) g e = elim e [ ]
   acts_on f given (Err x) g e = tt
 
@@ -79,10 +87,11 @@ module _ (m : Machine) (s : Session) (sound : Sound m) where
         same = (λ i. unwind_flow (k.setting i) (k.waiting i) (done (on (k.nodes i)) (state_of s))) ∙ ap (around_flow m (waiting_in m)) (sym (ap (λ o. then_do o (λ u. give (on (nodes_in m)))) g.meaning));
         sound = k.sound;
         owned = tt;
+        grows = k.grows;
       })
   ends_on f (Err (stop.Fault d)) (Ok c) g e =
       let k = kept m s g.grows sound in
-      one_control m After k c (control.Left d) _ e (record { same = flow_after m After k _ _ (ap (λ o. then_do o (λ u. give (on (nodes_in m)))) g.meaning); sound = k.sound; owned = tt })
+      one_control m After k c (control.Left d) _ e (record { same = flow_after m After k _ _ (ap (λ o. then_do o (λ u. give (on (nodes_in m)))) g.meaning); sound = k.sound; owned = tt; grows = k.grows })
   ends_on f (Err stop.Memory) (Ok c) g e = elim e [ ]
   ends_on f given (Err x) g e = tt
 
@@ -93,11 +102,11 @@ pub nodes_on : (m : Machine) (b : Builder) (w : Work) (f : Part Here Nodes) (giv
     GoesToFlow r (record m { nodes = b; session = record { arena = m.session.arena; work = w } }) m (f (nodes_in m))
 nodes_on m b w f (Ok u) (Ok c) sound g owned e =
     let n = record m { nodes = b; session = record { arena = m.session.arena; work = w } } in
-    subst (λ x. Goes n x (around_flow m (waiting_in m) (f (nodes_in m) (state_of m.session)))) (sym e)
-    (record { same = ap (around_flow m (waiting_in m)) (sym g); sound = record { scope = sound.scope; nodes = owned; frames = sound.frames }; owned = tt })
+    subst (λ x. Goes (arena_in m) n x (around_flow m (waiting_in m) (f (nodes_in m) (state_of m.session)))) (sym e)
+    (record { same = ap (around_flow m (waiting_in m)) (sym g); sound = record { scope = sound.scope; nodes = owned; frames = sound.frames }; owned = tt; grows = grows_same (arena_in m) })
 nodes_on m b w f (Err (stop.Fault d)) (Ok c) sound g owned e =
     let n = record m { nodes = b; session = record { arena = m.session.arena; work = w } } in
-    subst (λ x. Goes n x (around_flow m (waiting_in m) (f (nodes_in m) (state_of m.session)))) (sym e)
-    (record { same = ap (around_flow m (waiting_in m)) (sym g); sound = record { scope = sound.scope; nodes = owned; frames = sound.frames }; owned = tt })
+    subst (λ x. Goes (arena_in m) n x (around_flow m (waiting_in m) (f (nodes_in m) (state_of m.session)))) (sym e)
+    (record { same = ap (around_flow m (waiting_in m)) (sym g); sound = record { scope = sound.scope; nodes = owned; frames = sound.frames }; owned = tt; grows = grows_same (arena_in m) })
 nodes_on m b w f (Err stop.Memory) (Ok c) sound g owned e = elim e [ ]
 nodes_on m b w f given (Err x) sound g owned e = tt

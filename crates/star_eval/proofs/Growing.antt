@@ -201,6 +201,7 @@ pub record Kept (m n : Machine) : Type 0 where
   pub nodes : nodes_in n ≡ nodes_in m
   pub waiting : waiting_in n ≡ waiting_in m
   pub sound : Sound n
+  pub grows : Grows (arena_in m) (arena_in n)
 
 pub kept : (m : Machine) (s : Session) → Grows (arena_in m) (arena_of s) → Sound m → Kept m (record m { session = s })
 kept m s g w =
@@ -213,4 +214,5 @@ kept m s g w =
       nodes = nodes.1;
       waiting = (frames_kept a b m.code g (reverse m.frames) (reversed_each (OwnsFrame a) m.frames w.frames)).1;
       sound = record { scope = env.0; nodes = nodes.0; frames = (frames_kept a b m.code g m.frames w.frames).0 };
+      grows = g;
     }

@@ -3,6 +3,7 @@ pub mod Calling
 pub mod Chaining
 pub mod Clauses
 mod Counted
+pub mod Ended
 pub mod FileRuns
 pub mod Going
 pub mod Growing

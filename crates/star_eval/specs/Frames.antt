@@ -70,21 +70,22 @@ inside m ws (control.Lost f) = around_bag m ws (bad f (state_of m.session))
 abbrev pub means : Machine → Control → Final
 means m c = inside m (waiting_in m) c
 
--- What a call leaves goes on to what there was before, and all that it holds is owned.
-pub record Goes (m : Machine) (c : Control) (before : Final) : Type 0 where
+-- What a call leaves goes on to what there was before, all that it holds is owned, and the arena has grown from this one.
+pub record Goes (a : View) (m : Machine) (c : Control) (before : Final) : Type 0 where
   pub same : means m c ≡ before
   pub sound : Sound m
   pub owned : OwnsControl (arena_in m) c
+  pub grows : Grows a (arena_in m)
 
 -- a call goes on to what comes of a value's computation, of a part of a block, or of a comprehension, in what waited
 abbrev pub GoesToValue : {E : Type 0} → Result Control E → (after before : Machine) → Computation Here plain.Value → Type 0
-GoesToValue r n m f = IfOk r (λ c. Goes n c (around_value m (waiting_in m) (f (state_of m.session))))
+GoesToValue r n m f = IfOk r (λ c. Goes (arena_in m) n c (around_value m (waiting_in m) (f (state_of m.session))))
 
 abbrev pub GoesToFlow : {E : Type 0} → Result Control E → (after before : Machine) → Computation Here (Flow Nodes) → Type 0
-GoesToFlow r n m f = IfOk r (λ c. Goes n c (around_flow m (waiting_in m) (f (state_of m.session))))
+GoesToFlow r n m f = IfOk r (λ c. Goes (arena_in m) n c (around_flow m (waiting_in m) (f (state_of m.session))))
 
 abbrev pub GoesToBag : {E : Type 0} → Result Control E → (after before : Machine) → Computation Here (Flow Bag) → Type 0
-GoesToBag r n m f = IfOk r (λ c. Goes n c (around_bag m (waiting_in m) (f (state_of m.session))))
+GoesToBag r n m f = IfOk r (λ c. Goes (arena_in m) n c (around_bag m (waiting_in m) (f (state_of m.session))))
 
 -- ---- the end
 
@@ -97,6 +98,14 @@ is_active m (control.Left f) = not (is_empty m.frames)
 is_active m (control.Bagged b) = not (is_empty m.frames)
 is_active m (control.Lost f) = not (is_empty m.frames)
 is_active m _ = true
+
+-- how a block ended that goes on to this, with this fault where something else comes
+abbrev pub left_by : Fault → Control → Result held.Flow Fault
+left_by form (control.Went w) = Ok w
+left_by form (control.Failed f) = Err f
+left_by form (control.Left f) = Err f
+left_by form (control.Lost f) = Err f
+left_by form _ = Err form
 
 -- an end or a fault is how a block ends with these nodes open in this state
 abbrev pub flow_ending_of : View → Result held.Flow Fault → Nodes → State Here → Ending Here (Flow Nodes)

@@ -1,5 +1,6 @@
 pub mod Calling
 pub mod Doing
+pub mod Finishes
 pub mod FileRun
 pub mod Frames
 pub mod Meets

@@ -176,11 +176,11 @@ clauses_end c (clause_walk_end o) r = finally r (on_store (end_loop (Some o)))
 
 -- ---- what comes of all
 
--- how an expression ends, a block with the nodes that are then open, or a comprehension
+-- how an expression ends, a block with the nodes that are then open, or a comprehension, in its scope
 pub data Final : Type 0 where
-  value_end : Ending Here Value → Final
-  flow_end : Ending Here (Flow Nodes) → Final
-  bag_end : Ending Here (Flow Bag) → Final
+  value_end : Env → Ending Here Value → Final
+  flow_end : Env → Ending Here (Flow Nodes) → Final
+  bag_end : Env → Ending Here (Flow Bag) → Final
 
 abbrev pub in_env : Setting → Env → Setting
 in_env c env = record c { env = env }
@@ -196,7 +196,7 @@ call_gives fragment r = then_do r (λ f. give (result_of fragment (bottom_flow f
 -- comprehension has gathered, the innermost first. Where another one comes, the program is in no proper form.
 abbrev mutual
   pub unwind_value : Setting → Nodes → List Waiting → Ending Here Value → Final
-  unwind_value c k [] r = value_end r
+  unwind_value c k [] r = value_end c.env r
   unwind_value c k (in_value w ∷ ws) r = unwind_value c k ws (then_do r (value_goes c w))
   unwind_value c k (in_statement w ∷ ws) r = unwind_flow c ws (then_do r (λ v. statement_goes c w v k))
   unwind_value c k (in_block w ∷ ws) r = unwind_flow c ws (block_ends c w (then_do r (λ v. ill_formed)))
@@ -206,7 +206,7 @@ abbrev mutual
   unwind_value c k (caller call env j fragment ∷ ws) r = unwind_value (setting call env) j ws r
 
   pub unwind_flow : Setting → List Waiting → Ending Here (Flow Nodes) → Final
-  unwind_flow c [] r = flow_end r
+  unwind_flow c [] r = flow_end c.env r
   unwind_flow c (in_value w ∷ ws) r = unwind_value c [] ws (then_do r (λ f. ill_formed))
   unwind_flow c (in_statement w ∷ ws) r = unwind_flow c ws (then_do r (λ f. ill_formed))
   unwind_flow c (in_block w ∷ ws) r = unwind_flow c ws (block_ends c w r)
@@ -216,7 +216,7 @@ abbrev mutual
   unwind_flow c (caller call env j fragment ∷ ws) r = unwind_value (setting call env) j ws (call_gives fragment r)
 
   pub unwind_bag : Setting → Nodes → List Waiting → Ending Here (Flow Bag) → Final
-  unwind_bag c k [] r = bag_end r
+  unwind_bag c k [] r = bag_end c.env r
   unwind_bag c k (in_value w ∷ ws) r = unwind_value c k ws (then_do r (λ f. ill_formed))
   unwind_bag c k (in_statement w ∷ ws) r = unwind_flow c ws (then_do r (λ f. ill_formed))
   unwind_bag c k (in_block w ∷ ws) r = unwind_flow c ws (block_ends c w (then_do r (λ f. ill_formed)))
@@ -225,11 +225,22 @@ abbrev mutual
   unwind_bag c k (gather env ∷ ws) r = unwind_value (in_env c env) k ws (then_do r flow_made)
   unwind_bag c k (caller call env j fragment ∷ ws) r = unwind_value (setting call env) j ws (then_do r (λ f. ill_formed))
 
--- how the block ended
+-- how the expression ended, or the block
+abbrev pub value_ends : Final → Ending Here Value
+value_ends (value_end env r) = r
+value_ends (flow_end env r) = then_do r (λ f. ill_formed)
+value_ends (bag_end env r) = then_do r (λ f. ill_formed)
+
 abbrev pub flow_ends : Final → Ending Here (Flow Nodes)
-flow_ends (value_end r) = then_do r (λ v. ill_formed)
-flow_ends (flow_end r) = r
-flow_ends (bag_end r) = then_do r (λ f. ill_formed)
+flow_ends (value_end env r) = then_do r (λ v. ill_formed)
+flow_ends (flow_end env r) = r
+flow_ends (bag_end env r) = then_do r (λ f. ill_formed)
+
+-- the scope at the end
+abbrev pub end_env : Final → Env
+end_env (value_end env r) = env
+end_env (flow_end env r) = env
+end_env (bag_end env r) = env
 
 -- a part that walks an object
 abbrev pub walked : {K : Type 0} → (object : ℕ) → Part Here K → Part Here K

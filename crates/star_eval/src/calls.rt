@@ -209,7 +209,7 @@ pub(crate) fn returned<'p>(
     requires sound { Sound m.old }
     requires caller { OwnsCaller (arena_in m.old) caller }
     requires flow { OwnsFlow (arena_in m.old) flow }
-    ensures { IfOk result (λ c. Goes m.new c (inside m.old (caller_of (arena_in m.old) m.old.code caller ∷ waiting_in m.old) (control.Went flow))) }
+    ensures { IfOk result (λ c. Goes (arena_in m.old) m.new c (inside m.old (caller_of (arena_in m.old) m.old.code caller ∷ waiting_in m.old) (control.Went flow))) }
 {
     let value = result_of(m, caller.fragment, flow)?;
     restore(m, caller);

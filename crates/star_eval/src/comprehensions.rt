@@ -64,7 +64,7 @@ fn push_element<'p>(
     requires sound { Sound m.old }
     requires frame { OwnsInElement (arena_in m.old) frame }
     requires control { OwnsControl (arena_in m.old) control }
-    ensures { IfOk result (λ c. Goes m.new c (inside m.old (in_element (element_frame (arena_in m.old) m.old.code.file frame.entry) ∷ waiting_in m.old) control.entry)) }
+    ensures { IfOk result (λ c. Goes (arena_in m.old) m.new c (inside m.old (in_element (element_frame (arena_in m.old) m.old.code.file frame.entry) ∷ waiting_in m.old) control.entry)) }
 {
     let boxed = Boxed::new(m.session.arena.alloc(), frame)?;
     push(m, Frame::Element(boxed), control)

@@ -62,7 +62,7 @@ fn place_of(file: u32, expr: &Expr) -> Option<Place>
 /// An expression, which takes a step before it acts.
 pub(crate) fn eval<'p>(m: &mut Machine<'p>, expr: &'p Expr) -> Result<Control<'p>, Memory>
     requires { Sound m.old }
-    ensures { IfOk result (λ c. Goes m.new c (means m.old (control.Eval expr.entry))) }
+    ensures { IfOk result (λ c. Goes (arena_in m.old) m.new c (means m.old (control.Eval expr.entry))) }
 {
     match place_of(m.code.file, expr) {
         None => Ok(ill_formed(m)),

@@ -5,30 +5,36 @@ ghost use Rattle.ytt_base.specs.declared.fault.Stop.TheVariants as stop;
 ghost use Rattle.ytt_base.specs.Outcomes.{fault_of};
 ghost use Rattle.code_spec.specs.Scopes.{program_names};
 ghost use Rattle.star_tree.specs.Whole.{program_of};
-ghost use Rattle.node_build.specs.View.{nodes_of};
+ghost use Rattle.node_build.specs.View.{OwnsNodes, nodes_of};
 ghost use Rattle.star_resolve.specs.Variables.{each_once};
-ghost use Rattle.star_eval.specs.FileRun.{LeftBy, RunsAs};
+ghost use Rattle.star_values.specs.Objects.{env_in, seen};
+ghost use Rattle.star_values.specs.Owns.{OwnsEnv, OwnsFields};
+ghost use Rattle.template_meaning.specs.Calls.{bottom_children};
+ghost use Rattle.template_meaning.specs.Files.{globals_in};
+ghost use Rattle.star_eval.specs.FileRun.{RunsAs};
+ghost use Rattle.star_eval.specs.Finishes.{EndsFile, Leaves, globals_of};
 ghost use Rattle.star_eval.specs.Meets.{arena_of};
 
 use crate::frame::Code;
 use crate::looped::{Finished, run_block};
 use crate::session::Session;
 use node_build::Builder;
-use object_arena::{Arena, Work};
+use object_arena::{Arena, Built, Mark, NamedBox, NamedValue, NamedValues};
+use sqlite_items::Items;
 use star_blocks::nest;
 use star_calls::open_scope;
 use star_functions::functions_of;
 use star_resolve::Resolved;
 use std::alloc::Global;
+use std::mem;
 use ytt_base::fault::{Fault, FaultKind, Stop};
 use ytt_base::text::{Memory, Text};
-use ytt_base::tree::Trees;
 
-/// What a program gives: its documents, without the null ones, and the steps that are left.
+/// What a file gives: its documents, and its names with the values that they have at its end.
 #[derive(Drop)]
-pub struct FlatResult {
-    pub documents: Trees,
-    pub steps_left: u64,
+pub struct FileResult {
+    pub documents: Built,
+    pub globals: NamedValues,
 }
 
 /// The refusal of a program in no proper form, of no place.
@@ -42,54 +48,99 @@ fn ill_formed(alloc: Global) -> Stop
     })
 }
 
-/// What a block left: its documents and its steps, or its fault.
-fn left(alloc: Global, finished: Finished) -> Result<FlatResult, Stop>
-    ensures { LeftBy finished.result (nodes_of (arena_of finished.session) finished.nodes) finished.session.work.steps result }
+/// The names of a scope that have a value, with it.
+fn globals_of(alloc: Global, arena: &Arena, scope: &[NamedBox]) -> Result<NamedValues, Memory>
+    requires { OwnsEnv (seen arena.now) scope.now }
+    ensures meaning { IfOk result (λ gs. globals_of (seen arena.now) gs ≡ globals_in (seen arena.now).store (env_in (seen arena.now).held scope.now)) }
+    ensures owned { IfOk result (OwnsFields (seen arena.now)) }
 {
-    let Finished {
-        session,
-        nodes,
-        result,
-    } = finished;
-    match result {
-        Ok(_flow) => Ok(FlatResult {
-            documents: nodes.documents(alloc)?,
-            steps_left: session.work.steps,
-        }),
-        Err(fault) => Err(Stop::Fault(fault)),
+    let mut globals = Items::new(alloc);
+    let mut rest = scope;
+    while let [first, more @ ..] = rest {
+        if let Some(value) = arena.boxed(first.at) {
+            let name = arena.text(first.name).copy()?;
+            globals.push(NamedValue { name, value })?;
+        }
+        rest = more;
     }
+    Ok(globals)
 }
 
-/// Runs a program with so many steps, where so many calls of its functions may stand in one another, it loads nothing, and its
-/// scope has the names of its file, as `compile` of `template_program` gives it. The result is what the program means: the same
-/// documents and the same steps left, or the fault that it ends with, at its place.
+/// What a file gives whose block ended, in its scope and with these open nodes. What was made since the mark is frozen.
+fn end(
+    alloc: Global,
+    session: &mut Session,
+    mark: Mark,
+    scope: &[NamedBox],
+    nodes: Builder,
+) -> Result<FileResult, Memory>
+    requires scope { OwnsEnv (arena_of session.old) scope.now }
+    requires nodes { OwnsNodes (arena_of session.old) nodes }
+    ensures { IfOk result (EndsFile mark.at (env_in (arena_of session.old).held scope.now) (bottom_children (nodes_of (arena_of session.old) nodes)) session.new session.old) }
+{
+    let globals = globals_of(alloc, &session.arena, scope)?;
+    let documents = nodes.into_children();
+    session.arena.freeze_since(mark);
+    Ok(FileResult { documents, globals })
+}
+
+/// Runs a program in a session, where it loads nothing and its scope has the names of its file, as `compile` of `template_program`
+/// gives it. The result is what the program means, from the objects and the steps that the session has: its documents and its
+/// globals, or the fault that it ends with, at its place; and the session is left with the objects and the steps that are left. All
+/// that the file made is frozen at its end, but not where it ends with a fault.
 ///
 /// A pair whose key stands already is `KeyTwice` with the key, a name that has no value yet `NameUnset` with the
 /// name, a value that an operator, a loop or a target isn't for `ValueKind`, an integer outside 128 bits
 /// `IntOverflow`, a division by zero `DivideZero`, tuples that nest too deep `TooDeep`, arguments that don't fit parameters `ArgBind`,
-/// a call past the depth `Depth`, and an act for which no step is left `Steps`. A program whose blocks aren't closed as they should be is `CodeForm` at no place.
-pub fn run_flat(
+/// a call past the session's depth `Depth`, and an act for which no step is left `Steps`. A program whose blocks aren't closed as they
+/// should be is `CodeForm` at no place. After want of memory the session is of no use.
+pub fn run_file(
     alloc: Global,
     resolved: &Resolved,
-    steps: u64,
-    depth: u32,
-) -> Result<FlatResult, Stop>
-    ensures { resolved.now.globals ≡ each_once (program_names (program_of resolved.now.program)) → RunsAs (program_of resolved.now.program) steps depth result }
+    session: &mut Session,
+) -> Result<FileResult, Stop>
+    ensures { resolved.now.globals ≡ each_once (program_names (program_of resolved.now.program)) → RunsAs (program_of resolved.now.program) session.old.work.depth result session.new session.old }
 {
     let program = &resolved.program;
     let block = match nest(alloc, &program.code)? {
         Some(block) => block,
         None => return Err(ill_formed(alloc)),
     };
-    let mut arena = Arena::new(alloc);
-    let scope = open_scope(alloc, &mut arena, &resolved.globals)?;
-    let work = Work { steps, depth: 0 };
-    let session = Session { arena, work };
-    let nodes = Builder::new(alloc);
+    let depth = session.work.depth;
+    let mark = session.arena.mark();
+    let scope = open_scope(alloc, &mut session.arena, &resolved.globals)?;
     let code = Code {
         file: program.file,
         functions: functions_of(alloc, block.as_slice())?,
     };
-    let finished = run_block(alloc, code, depth, block.as_slice(), scope, session, nodes)?;
-    left(alloc, finished)
+    let own = mem::replace(session, Session::new(alloc, 0, depth));
+    let nodes = Builder::new(alloc);
+    let finished = run_block(alloc, code, depth, block.as_slice(), scope, own, nodes)?;
+    left(alloc, finished, mark, depth, session)
+}
+
+/// What a file gives whose block ended so, and the session that it leaves.
+fn left(
+    alloc: Global,
+    finished: Finished,
+    mark: Mark,
+    depth: u32,
+    session: &mut Session,
+) -> Result<FileResult, Stop>
+    requires scope { OwnsEnv (arena_of finished.session) finished.scope }
+    requires nodes { OwnsNodes (arena_of finished.session) finished.nodes }
+    ensures { Leaves mark.at finished finished.result result session.new }
+{
+    let Finished {
+        session: after,
+        scope,
+        nodes,
+        result,
+    } = finished;
+    *session = after;
+    session.work.depth = depth;
+    match result {
+        Ok(_flow) => Ok(end(alloc, session, mark, scope.as_slice(), nodes)?),
+        Err(fault) => Err(Stop::Fault(fault)),
+    }
 }

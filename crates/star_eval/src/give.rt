@@ -35,7 +35,7 @@ pub(crate) fn give<'p>(
     requires sound { Sound m.old }
     requires frame { OwnsFrame (arena_in m.old) frame }
     requires value { Owns (arena_in m.old) value }
-    ensures { IfOk result (λ c. Goes m.new c (inside m.old (frame_of (arena_in m.old) m.old.code frame.entry ∷ waiting_in m.old) (control.Gave value))) }
+    ensures { IfOk result (λ c. Goes (arena_in m.old) m.new c (inside m.old (frame_of (arena_in m.old) m.old.code frame.entry ∷ waiting_in m.old) (control.Gave value))) }
 {
     match frame {
         Frame::Value(inner) => give_value(m, inner, value),

@@ -1,8 +1,8 @@
 //! What a program does: expressions, statements and blocks by one loop over a stack of frames, which calls itself on no part of the
 //! program, so no nesting costs the machine's stack.
 //!
-//! `run_flat` gives the documents that a program means and the steps that are left, or the fault that it ends with. Calls stand in
-//! frames too. Frames are seen as plain data (`specs/Waiting`), and each step keeps what the machine stands for
+//! `run_file` gives the documents and the globals that a program means, or the fault that it ends with, in a `Session` of objects and
+//! steps that goes on from one call to the next. Calls stand in frames too. Frames are seen as plain data (`specs/Waiting`), and each step keeps what the machine stands for
 //! (`specs/Frames`). What parts of nodes build is `node_build`'s.
 #![tactic(auto)]
 
@@ -28,4 +28,5 @@ mod source;
 mod walk;
 mod went;
 
-pub use file::{FlatResult, run_flat};
+pub use file::{FileResult, run_file};
+pub use session::Session;

@@ -7,11 +7,12 @@ ghost use Rattle.star_spec.specs.Eval.{starlark};
 ghost use Rattle.star_values.specs.Objects.{env_in};
 ghost use Rattle.star_values.specs.Owns.{OwnsEnv};
 ghost use Rattle.template_meaning.specs.Run.{runs};
-ghost use Rattle.star_eval.specs.Frames.{Goes, flow_ending_of, is_active, means};
+ghost use Rattle.star_eval.specs.Finishes.{Finishes};
+ghost use Rattle.star_eval.specs.Frames.{Goes, is_active, left_by, means};
 ghost use Rattle.star_eval.specs.Calling.{calls_at};
 ghost use Rattle.star_eval.specs.Meets.{arena_of, state_of};
 ghost use Rattle.star_eval.specs.View.{OwnsControl, Sound, arena_in};
-ghost use Rattle.star_eval.specs.Waiting.{flow_ends};
+ghost use Rattle.star_eval.specs.Waiting.{end_env, flow_ends};
 
 use crate::assign::assign;
 use crate::comprehensions::clauses;
@@ -60,7 +61,7 @@ fn step<'p>(m: &mut Machine<'p>, control: Control<'p>) -> Result<Control<'p>, Me
     requires active { is_active m.old control ≡ true }
     requires sound { Sound m.old }
     requires control { OwnsControl (arena_in m.old) control }
-    ensures { IfOk result (λ c. Goes m.new c (means m.old control.entry)) }
+    ensures { IfOk result (λ c. Goes (arena_in m.old) m.new c (means m.old control.entry)) }
 {
     match control {
         Control::Eval(expr) => eval(m, expr),
@@ -99,7 +100,7 @@ fn step<'p>(m: &mut Machine<'p>, control: Control<'p>) -> Result<Control<'p>, Me
 fn run_down<'p>(machine: Machine<'p>, start: Control<'p>) -> Result<Stopped<'p>, Memory>
     requires sound { Sound machine }
     requires control { OwnsControl (arena_in machine) start }
-    ensures same { IfOk result (λ e. means e.machine e.control ≡ means machine.entry start.entry) }
+    ensures goes { IfOk result (λ e. Goes (arena_in machine.entry) e.machine e.control (means machine.entry start.entry)) }
     ensures over { IfOk result (λ e. is_active e.machine e.control ≡ false) }
 {
     let mut machine = machine;
@@ -115,22 +116,20 @@ fn run_down<'p>(machine: Machine<'p>, start: Control<'p>) -> Result<Stopped<'p>,
     Ok(Stopped { machine, control })
 }
 
-/// How a block ended: the session after it with the nodes that are open then, and how it was left or its fault.
+/// How a block ended: the session after it with the scope and the nodes that are open then, and how it was left or its fault.
 #[derive(Drop)]
 pub(crate) struct Finished {
     pub session: Session,
+    pub scope: Boxes,
     pub nodes: Builder,
     pub result: Result<Flow, Fault>,
 }
 
-/// How a block ended, where there is nothing more to do.
-fn flow_at_end<'p>(machine: Machine<'p>, control: Control<'p>) -> Finished
-    requires { is_active machine control ≡ false }
-    ensures { flow_ending_of (arena_of result.session) result.result (nodes_of (arena_of result.session) result.nodes) (state_of result.session) ≡ flow_ends (means machine.entry control.entry) }
+/// How a block ended that goes on to this, with this fault where something else comes.
+fn how_left(control: Control<'_>, form: Fault) -> Result<Flow, Fault>
+    ensures { result ≡ left_by form control.entry }
 {
-    let form = form_fault(&machine.session.arena);
-    let Machine { session, nodes, .. } = machine;
-    let result = match control {
+    match control {
         Control::Went(flow) => Ok(flow),
         Control::Failed(fault) => Err(fault),
         Control::Left(fault) => Err(fault),
@@ -141,16 +140,33 @@ fn flow_at_end<'p>(machine: Machine<'p>, control: Control<'p>) -> Finished
         Control::Clauses(_place, _clauses, _bag) => Err(form),
         Control::Bagged(_bag) => Err(form),
         Control::Lost(fault) => Err(fault),
-    };
+    }
+}
+
+/// How a block ended, where there is nothing more to do.
+fn flow_at_end<'p>(machine: Machine<'p>, control: Control<'p>) -> Finished
+    requires over { is_active machine control ≡ false }
+    requires sound { Sound machine }
+    ensures { Finishes (arena_in machine.entry) (end_env (means machine.entry control.entry)) (flow_ends (means machine.entry control.entry)) result }
+{
+    let form = form_fault(&machine.session.arena);
+    let Machine {
+        session,
+        scope,
+        nodes,
+        ..
+    } = machine;
+    let result = how_left(control, form);
     Finished {
         session,
+        scope,
         nodes,
         result,
     }
 }
 
-/// Runs a block of this code in a scope, where so many calls may stand in one another, with the session and the open nodes
-/// that it leaves.
+/// Runs a block of this code in a scope, where so many calls may stand in one another, with the session, the scope and the open
+/// nodes that it leaves.
 pub(crate) fn run_block<'p>(
     alloc: Global,
     code: Code<'p>,
@@ -162,7 +178,7 @@ pub(crate) fn run_block<'p>(
 ) -> Result<Finished, Memory>
     requires scope { OwnsEnv (arena_of session) scope }
     requires nodes { OwnsNodes (arena_of session) nodes }
-    ensures { IfOk result (λ e. flow_ending_of (arena_of e.session) e.result (nodes_of (arena_of e.session) e.nodes) (state_of e.session) ≡ runs starlark (calls_at code.entry.file code.entry.functions depth) (ops_of code.entry.file block.now) (env_in (arena_of session).held scope) (nodes_of (arena_of session) nodes) (state_of session)) }
+    ensures { IfOk result (Finishes (arena_of session) (env_in (arena_of session).held scope) (runs starlark (calls_at code.entry.file code.entry.functions depth) (ops_of code.entry.file block.now) (env_in (arena_of session).held scope) (nodes_of (arena_of session) nodes) (state_of session))) }
 {
     let machine = Machine {
         code,

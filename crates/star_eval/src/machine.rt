@@ -21,7 +21,7 @@ pub(crate) fn push<'p>(
     requires sound { Sound m.old }
     requires frame { OwnsFrame (arena_in m.old) frame }
     requires control { OwnsControl (arena_in m.old) control }
-    ensures { IfOk result (λ c. Goes m.new c (inside m.old (frame_of (arena_in m.old) m.old.code frame.entry ∷ waiting_in m.old) control.entry)) }
+    ensures { IfOk result (λ c. Goes (arena_in m.old) m.new c (inside m.old (frame_of (arena_in m.old) m.old.code frame.entry ∷ waiting_in m.old) control.entry)) }
 {
     m.frames.push(frame)?;
     Ok(control)

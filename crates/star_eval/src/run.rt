@@ -46,7 +46,7 @@ fn place_of(file: u32, statement: &Statement) -> Place
 /// A block: what stands first in it, and then the rest. Each statement takes a step before it acts.
 pub(crate) fn run<'p>(m: &mut Machine<'p>, block: &'p [Op]) -> Result<Control<'p>, Memory>
     requires { Sound m.old }
-    ensures { IfOk result (λ c. Goes m.new c (means m.old (control.Run block.entry))) }
+    ensures { IfOk result (λ c. Goes (arena_in m.old) m.new c (means m.old (control.Run block.entry))) }
 {
     match block.split_first() {
         None => Ok(Control::Went(Flow::On)),

@@ -1,6 +1,7 @@
 // What goes on through a run.
 ghost use Rattle.index_spec.specs.Index.{set_index_row};
-ghost use Rattle.star_eval.specs.Meets.{Acts, GivesFrom};
+ghost use Rattle.std.specs.Prelude.{◌≡◌, []};
+ghost use Rattle.star_eval.specs.Meets.{Acts, GivesFrom, in_store, state_of};
 ghost use Rattle.value_spec.specs.Outcomes.{give, new_dict, new_list};
 ghost use Rattle.value_spec.specs.Values.{text_value, tuple_value, values_from};
 ghost use Rattle.star_values.specs.Objects.{pairs_in, seen};
@@ -8,14 +9,29 @@ ghost use Rattle.star_values.specs.Owns.{Each, Owns, OwnsAll, OwnsPair};
 ghost use Rattle.star_values.specs.View.{value_of, values_of};
 
 use object_arena::{Arena, Pairs, Value, Work};
+use std::alloc::Global;
 use ytt_base::fault::{Place, Stop};
 use ytt_base::text::Text;
 
-/// A run: the arena of its values and objects, and the steps and the depth that are left.
+/// What goes on from one call to the next: the arena of all values and objects, the steps that are left, and how many calls of
+/// functions may stand in one another.
 #[derive(Drop)]
 pub struct Session {
     pub arena: Arena,
     pub work: Work,
+}
+
+impl Session {
+    /// A session without objects.
+    pub fn new(alloc: Global, steps: u64, depth: u32) -> Session
+        ensures state { state_of result ≡ in_store [] steps }
+        ensures depth { result.work.depth ≡ depth }
+    {
+        Session {
+            arena: Arena::new(alloc),
+            work: Work { steps, depth },
+        }
+    }
 }
 
 /// A text.

@@ -32,7 +32,7 @@ pub(crate) fn went<'p>(
     requires sound { Sound m.old }
     requires frame { OwnsFrame (arena_in m.old) frame }
     requires flow { OwnsFlow (arena_in m.old) flow }
-    ensures { IfOk result (λ c. Goes m.new c (inside m.old (frame_of (arena_in m.old) m.old.code frame.entry ∷ waiting_in m.old) (control.Went flow))) }
+    ensures { IfOk result (λ c. Goes (arena_in m.old) m.new c (inside m.old (frame_of (arena_in m.old) m.old.code frame.entry ∷ waiting_in m.old) (control.Went flow))) }
 {
     match frame {
         Frame::Block(inner) => go_on(m, inner, flow),
@@ -50,7 +50,7 @@ fn go_on<'p>(m: &mut Machine<'p>, frame: InBlock<'p>, flow: Flow) -> Result<Cont
     requires sound { Sound m.old }
     requires frame { OwnsInBlock (arena_in m.old) frame }
     requires flow { OwnsFlow (arena_in m.old) flow }
-    ensures { IfOk result (λ c. Goes m.new c (around_flow m.old (waiting_in m.old) (block_ends (setting_of m.old) (block_frame (arena_in m.old) m.old.code.file frame.entry) (done (flow_of (arena_in m.old) flow (nodes_in m.old)) (state_of m.old.session))))) }
+    ensures { IfOk result (λ c. Goes (arena_in m.old) m.new c (around_flow m.old (waiting_in m.old) (block_ends (setting_of m.old) (block_frame (arena_in m.old) m.old.code.file frame.entry) (done (flow_of (arena_in m.old) flow (nodes_in m.old)) (state_of m.old.session))))) }
 {
     match frame {
         InBlock::Rest(rest) => match flow {
@@ -81,7 +81,7 @@ pub(crate) fn bagged<'p>(
     requires sound { Sound m.old }
     requires frame { OwnsFrame (arena_in m.old) frame }
     requires bag { OwnsBag (arena_in m.old) bag }
-    ensures { IfOk result (λ c. Goes m.new c (inside m.old (frame_of (arena_in m.old) m.old.code frame.entry ∷ waiting_in m.old) (control.Bagged bag.entry))) }
+    ensures { IfOk result (λ c. Goes (arena_in m.old) m.new c (inside m.old (frame_of (arena_in m.old) m.old.code frame.entry ∷ waiting_in m.old) (control.Bagged bag.entry))) }
 {
     match frame {
         Frame::Clauses(inner) => next_clause_turn(m, inner.into_inner(), bag),
@@ -103,7 +103,7 @@ fn next_clause_turn<'p>(
     requires sound { Sound m.old }
     requires frame { OwnsInClauses (arena_in m.old) frame }
     requires bag { OwnsBag (arena_in m.old) bag }
-    ensures { IfOk result (λ c. Goes m.new c (around_bag m.old (waiting_in m.old) (clauses_end (setting_of m.old) (clauses_frame (arena_in m.old) m.old.code.file frame.entry) (done (on (bag_of (arena_in m.old) m.old.code.file bag.entry)) (state_of m.old.session))))) }
+    ensures { IfOk result (λ c. Goes (arena_in m.old) m.new c (around_bag m.old (waiting_in m.old) (clauses_end (setting_of m.old) (clauses_frame (arena_in m.old) m.old.code.file frame.entry) (done (on (bag_of (arena_in m.old) m.old.code.file bag.entry)) (state_of m.old.session))))) }
 {
     match frame {
         InClauses::Turn(place, target, clauses, source) => {
@@ -121,7 +121,7 @@ fn gathered<'p>(m: &mut Machine<'p>, scope: Boxes, bag: Bag<'p>) -> Result<Contr
     requires sound { Sound m.old }
     requires scope { OwnsEnv (arena_in m.old) scope }
     requires bag { OwnsBag (arena_in m.old) bag }
-    ensures { IfOk result (λ c. Goes m.new c (inside m.old (gather (env_in (arena_in m.old).held scope) ∷ waiting_in m.old) (control.Bagged bag.entry))) }
+    ensures { IfOk result (λ c. Goes (arena_in m.old) m.new c (inside m.old (gather (env_in (arena_in m.old).held scope) ∷ waiting_in m.old) (control.Bagged bag.entry))) }
 {
     m.scope = scope;
     bag_made(m, bag)
@@ -139,7 +139,7 @@ fn end(session: &mut Session, object: Ref)
 pub(crate) fn fail<'p>(m: &mut Machine<'p>, frame: Frame<'p>, fault: Fault) -> Control<'p>
     requires sound { Sound m.old }
     requires frame { OwnsFrame (arena_in m.old) frame }
-    ensures { Goes m.new result (inside m.old (frame_of (arena_in m.old) m.old.code frame.entry ∷ waiting_in m.old) (control.Failed fault)) }
+    ensures { Goes (arena_in m.old) m.new result (inside m.old (frame_of (arena_in m.old) m.old.code frame.entry ∷ waiting_in m.old) (control.Failed fault)) }
 {
     match frame {
         Frame::Value(_inner) => Control::Failed(fault),
@@ -162,7 +162,7 @@ pub(crate) fn fail<'p>(m: &mut Machine<'p>, frame: Frame<'p>, fault: Fault) -> C
 pub(crate) fn misplaced<'p>(m: &mut Machine<'p>, frame: Frame<'p>) -> Control<'p>
     requires sound { Sound m.old }
     requires frame { OwnsFrame (arena_in m.old) frame }
-    ensures { Goes m.new result (inside m.old (frame_of (arena_in m.old) m.old.code frame.entry ∷ waiting_in m.old) (control.Failed (fault_of kind.CodeForm))) }
+    ensures { Goes (arena_in m.old) m.new result (inside m.old (frame_of (arena_in m.old) m.old.code frame.entry ∷ waiting_in m.old) (control.Failed (fault_of kind.CodeForm))) }
 {
     let fault = form_fault(&m.session.arena);
     fail(m, frame, fault)
@@ -172,7 +172,7 @@ pub(crate) fn misplaced<'p>(m: &mut Machine<'p>, frame: Frame<'p>) -> Control<'p
 fn leave_block<'p>(m: &mut Machine<'p>, frame: InBlock<'p>, fault: Fault) -> Control<'p>
     requires sound { Sound m.old }
     requires frame { OwnsInBlock (arena_in m.old) frame }
-    ensures { Goes m.new result (around_flow m.old (waiting_in m.old) (block_ends (setting_of m.old) (block_frame (arena_in m.old) m.old.code.file frame.entry) (bad fault (state_of m.old.session)))) }
+    ensures { Goes (arena_in m.old) m.new result (around_flow m.old (waiting_in m.old) (block_ends (setting_of m.old) (block_frame (arena_in m.old) m.old.code.file frame.entry) (bad fault (state_of m.old.session)))) }
 {
     match frame {
         InBlock::WalkEnd(object) => {
@@ -188,7 +188,7 @@ fn leave_block<'p>(m: &mut Machine<'p>, frame: InBlock<'p>, fault: Fault) -> Con
 fn leave_clauses<'p>(m: &mut Machine<'p>, frame: InClauses<'p>, fault: Fault) -> Control<'p>
     requires sound { Sound m.old }
     requires frame { OwnsInClauses (arena_in m.old) frame }
-    ensures { Goes m.new result (around_bag m.old (waiting_in m.old) (clauses_end (setting_of m.old) (clauses_frame (arena_in m.old) m.old.code.file frame.entry) (bad fault (state_of m.old.session)))) }
+    ensures { Goes (arena_in m.old) m.new result (around_bag m.old (waiting_in m.old) (clauses_end (setting_of m.old) (clauses_frame (arena_in m.old) m.old.code.file frame.entry) (bad fault (state_of m.old.session)))) }
 {
     match frame {
         InClauses::WalkEnd(object) => {

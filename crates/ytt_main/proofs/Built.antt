@@ -1,44 +1,46 @@
 -- What a template builds, by the run of its program.
-use Rattle.std.proofs.Common.{◌≡◌, ap, subst, Result, Ok, Err}
+use Rattle.std.proofs.Common.{◌≡◌, ◌∙◌, ℕ, List, ap, subst, Result, Ok, Err}
 use Rattle.ytt_base.specs.Outcomes.{Gives}
-use Rattle.ytt_base.specs.View.{trees_of}
 use Rattle.ytt_base.specs.declared.fault.Stop.{Stop}
 use Rattle.ytt_base.specs.declared.fault.Stop.TheVariants as stop
 use Rattle.star_spec.specs.Calls.{no_natives}
 use Rattle.star_spec.specs.Eval.{starlark}
-use Rattle.value_spec.specs.Outcomes.{Ending, done, bad}
+use Rattle.value_spec.specs.Outcomes.{Ending, State}
+use Rattle.code_spec.specs.Program.{Instruction}
+use Rattle.star_steps.specs.Meets.{Meets}
+use Rattle.star_values.specs.View.{View, built_in}
 use Rattle.code_spec.specs.Scopes.{program_names}
 use Rattle.star_tree.specs.Whole.{program_of}
 use Rattle.star_resolve.specs.declared.binding.Resolved.{Resolved}
 use Rattle.star_resolve.specs.Variables.{each_once}
-use Rattle.template_spec.specs.Compiled.{compiled}
-use Rattle.template_meaning.specs.Files.{FileResult, Loader, nothing_to_load}
-use Rattle.template_meaning.specs.Meaning.{RunFile}
-use Rattle.template_spec.specs.Names.{items_names}
+use Rattle.template_meaning.specs.Files.{FileResult, nothing_to_load}
+use Rattle.template_meaning.specs.Meaning.{RunFile, documents}
 use Rattle.template_spec.specs.Numbered.{numbered}
 use Rattle.template_spec.specs.Template.{Items}
 use Rattle.template_meaning.proofs.Theorem.{files_agree}
-use Rattle.star_eval.specs.FileRun.{RunsAs, Shows}
-use Rattle.star_eval.specs.declared.file.FlatResult.{FlatResult}
+use Rattle.star_eval.specs.FileRun.{RunsAs}
+use Rattle.star_eval.specs.Finishes.{result_of}
+use Rattle.star_eval.specs.Meets.{arena_of, state_of}
+use Rattle.star_eval.specs.declared.file.FileResult.{FileResult as Given}
+use Rattle.star_eval.specs.declared.session.Session.{Session}
 use Rattle.ytt_main.specs.Programs.{IsProgramOf}
 use Rattle.ytt_spec.specs.Meaning.{built, outcome_of, started}
 use Rattle.ytt_spec.specs.Words.{Budget}
 
--- what a run shows is its outcome
-gives_shown : (result : Result FlatResult Stop) (ending : Ending (Unit {0}) FileResult) → Shows result ending → Gives (λ r. trees_of r.documents) result (outcome_of ending)
-gives_shown (Ok r) (done x s) h = ap Ok h.0
-gives_shown (Err (stop.Fault f)) (bad e s) h = ap Err h
-gives_shown (Err stop.Memory) ending h = tt
-gives_shown (Ok r) (bad e s) h = elim h [ ]
-gives_shown (Err (stop.Fault f)) (done x s) h = elim h [ ]
+-- what a file gives is its outcome
+gives_documents : (a : View) (s : State (Unit {0})) (result : Result Given Stop) (ending : Ending (Unit {0}) FileResult) → Meets (result_of a) result s ending → Gives (λ r. documents (built_in a.held r.documents)) result (outcome_of ending)
+gives_documents a s (Ok r) ending h = ap outcome_of h
+gives_documents a s (Err (stop.Fault f)) ending h = ap outcome_of h
+gives_documents a s (Err stop.Memory) ending h = tt
 
--- where its program is the template's, it is what the template builds
-pub gives_built : (budget : Budget) (t : Items) (r : Resolved) (result : Result FlatResult Stop) → IsProgramOf t r → (r.globals ≡ each_once (program_names (program_of r.program)) → RunsAs (program_of r.program) budget.steps budget.depth result)
-    → Gives (λ x. trees_of x.documents) result (built budget t)
-gives_built budget t r result is runs =
-    subst (λ e. Gives (λ x. trees_of x.documents) result (outcome_of e))
-    (files_agree starlark no_natives (program_of r.program) (numbered t) is.code is.stands (λ f. numbered t) (λ f. is.stands) nothing_to_load budget.depth (started budget.steps))
-    (gives_shown result (RunFile starlark no_natives nothing_to_load (λ f. compiled (numbered t)) budget.depth (program_of r.program) (started budget.steps)) (subst
-    (λ code. Shows result (RunFile starlark no_natives nothing_to_load (λ f. code) budget.depth (program_of r.program) (started budget.steps)))
-    is.code
-    (runs is.globals is.loads nothing_to_load)))
+-- where its program is the template's, a session that begins gives what the template builds
+pub gives_built : (budget : Budget) (t : Items) (r : Resolved) (before after : Session) (result : Result Given Stop) → state_of before ≡ started budget.steps → before.work.depth ≡ budget.depth → IsProgramOf t r →
+    (r.globals ≡ each_once (program_names (program_of r.program)) → RunsAs (program_of r.program) before.work.depth result after before) →
+    Gives (λ x. documents (built_in (arena_of after).held x.documents)) result (built budget t)
+gives_built budget t r before after result begins depth is runs =
+    let view = λ (x : Given). documents (built_in (arena_of after).held x.documents) in
+    let runs_so = λ (code : List Instruction) (d : ℕ) (s : State (Unit {0})). RunFile starlark no_natives nothing_to_load (λ f. code) d (program_of r.program) s in
+    let ran = (runs is.globals).meaning is.loads nothing_to_load in
+    subst (λ e. Gives view result (outcome_of e))
+    ((λ i. runs_so (is.code i) (depth i) (begins i)) ∙ files_agree starlark no_natives (program_of r.program) (numbered t) is.code is.stands (λ f. numbered t) (λ f. is.stands) nothing_to_load budget.depth (started budget.steps))
+    (gives_documents (arena_of after) (state_of after) result (runs_so (program_of r.program) before.work.depth (state_of before)) ran)

@@ -1,21 +1,24 @@
 // What a request means over the files that are handed in.
 ghost use Rattle.std.specs.Prelude.{◌≡◌, ◌^◌, ◌<◌, IfOk, IfSome, length, true};
-ghost use Rattle.ytt_base.specs.Outcomes.{and_then};
+ghost use Rattle.ytt_base.specs.Outcomes.{Gives, and_then};
 ghost use Rattle.ytt_base.specs.Trees.{AreTrees, Writable};
 ghost use Rattle.ytt_base.specs.View.{trees_of};
 ghost use Rattle.yaml_held.specs.Keyed.{KeyedDocuments};
 ghost use Rattle.yaml_noted.specs.View.{documents_of};
 ghost use Rattle.star_grammar.specs.CodeReaders.{GivesCode};
 ghost use Rattle.template_spec.specs.Passes.{template_passed};
+ghost use Rattle.template_spec.specs.Template.{Items as TemplateItems};
 ghost use Rattle.ytt_spec.specs.Meaning.{Means, built, documents_meaning, file_names, gives_documents, has_ending, last_part, path_fault, text_meaning};
 ghost use Rattle.ytt_main.specs.Asks.{budget_of, command_of};
+ghost use Rattle.ytt_main.specs.Programs.{IsProgramOf};
 ghost use Rattle.ytt_main.specs.Rendering.{HasCause, IsNoFolder, IsReadFailure, Refuses, Renders};
 
 use crate::template::pass_template;
 use crate::words::{Budget, Request};
 use notes_read::a_code_reader_exists;
 use sqlite_items::Items;
-use star_eval::run_flat;
+use star_eval::{Session, run_file};
+use star_resolve::Resolved;
 use std::alloc::Global;
 use yaml_held::reads_keyed;
 use yaml_read::{NotedDocs, has_code, plain_trees, read_noted};
@@ -97,6 +100,16 @@ fn read_failed(alloc: Global, path: &str) -> RenderStop
     }
 }
 
+/// The documents of a program within a budget, in a session of its own, or the fault that it ends with.
+fn run_within(alloc: Global, program: &Resolved, budget: Budget) -> Result<Trees, Stop>
+    ensures { (t : TemplateItems) → IsProgramOf t program.now → Gives trees_of result (built (budget_of budget) t) }
+{
+    let mut session = Session::new(alloc, budget.steps, budget.depth);
+    let file = run_file(alloc, program, &mut session)?;
+    let trees = node_build::documents_of(alloc, file.documents.as_slice())?;
+    Ok(trees)
+}
+
 /// The documents that a template builds within a budget, or its first fault.
 fn build(
     alloc: Global,
@@ -108,8 +121,7 @@ fn build(
     ensures { GivesCode trees_of result (λ r. and_then (built (budget_of budget)) (template_passed r ignore_unknown 1 (documents_of documents))) }
 {
     let passed = pass_template(alloc, &documents, ignore_unknown)?;
-    let ran = run_flat(alloc, &passed.program, budget.steps, budget.depth)?;
-    Ok(ran.documents)
+    run_within(alloc, &passed.program, budget)
 }
 
 /// What noted documents mean: with code they are a template, which is built, and without they are

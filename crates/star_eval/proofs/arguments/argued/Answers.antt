@@ -11,6 +11,6 @@ use Rattle.star_eval.proofs.arguments.argued.Goals as goal
 pub returns-in-Ok : goal.returns-in-Ok
 returns-in-Ok c =
     let m = c.args.m.now in
-    goes c.call_with.result c.call_with.new.m
+    goes _ c.call_with.result c.call_with.new.m
     (ap (λ r. around_value m (waiting_in m) (then_do r (λ more. arguments_then (setting_of m) (exprs_of m.code.file c.args.rest.now) more ((setting_of m).call c.args.place (value_of (arena_in m) c.args.function))))) (sym (c.in-Ok.ensures.meaning m.session.work.steps)))
     c.call_with.ensures

@@ -17,7 +17,7 @@ returns-in-None c =
     let before = arguments_in (arena_in m).held c.args.given in
     let then = (setting_of m).call c.args.place (value_of (arena_in m) c.args.function) in
     let none = nil_from_length c.args.exprs.now c.in-None.ensures.cases in
-    goes c.call.result c.call.new.m
+    goes _ c.call.result c.call.new.m
     (ap (around_value m (waiting_in m)) (sym (ap (λ es. arguments_then (setting_of m) (exprs_of m.code.file es) before then (state_of m.session)) none ∙ (λ i. none_behind (setting_of m) before then i (state_of m.session)))))
     c.call.ensures
 
@@ -31,7 +31,7 @@ returns-in-Some c =
     let e = expr_of f c.in-Some.first.now in
     let es = exprs_of f c.in-Some.rest.now in
     let some = c.in-Some.ensures.cases.0 in
-    goes c.push.result c.push.new.m
+    goes _ c.push.result c.push.new.m
     (ap (around_value m (waiting_in m))
     ((λ i. then_do (evaluated (setting_of m) (c.argument.ensures.value i) s) (argument_then (setting_of m) (c.argument.ensures.form i) es before then))
     ∙ sym (ap (λ xs. arguments_then (setting_of m) (exprs_of f xs) before then s) some ∙ (λ i. argument_first (setting_of m) before then e es i s))))

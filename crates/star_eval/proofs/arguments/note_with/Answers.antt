@@ -20,7 +20,7 @@ returns-in-None c =
     let before = arguments_in (arena_in m).held c.args.given in
     let then : Arguments → Computation Here (Flow Nodes) = λ vs. noting c.args.name.now vs (nodes_in m) in
     let none = nil_from_length c.args.exprs.now c.in-None.ensures.cases in
-    goes c.noted.result c.noted.new.m
+    goes _ c.noted.result c.noted.new.m
     (ap (around_flow m (waiting_in m)) (sym (ap (λ es. arguments_then (setting_of m) (exprs_of m.code.file es) before then (state_of m.session)) none ∙ (λ i. none_behind (setting_of m) before then i (state_of m.session)))))
     c.noted.ensures
 
@@ -34,7 +34,7 @@ returns-in-Some c =
     let e = expr_of f c.in-Some.first.now in
     let es = exprs_of f c.in-Some.rest.now in
     let some = c.in-Some.ensures.cases.0 in
-    goes c.push.result c.push.new.m
+    goes _ c.push.result c.push.new.m
     (ap (around_flow m (waiting_in m))
     ((λ i. then_do (evaluated (setting_of m) (c.argument.ensures.value i) s) (argument_then (setting_of m) (c.argument.ensures.form i) es before then))
     ∙ sym (ap (λ xs. arguments_then (setting_of m) (exprs_of f xs) before then s) some ∙ (λ i. argument_first (setting_of m) before then e es i s))))

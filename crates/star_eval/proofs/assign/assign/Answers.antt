@@ -38,7 +38,7 @@ returns-in-Index c =
     let v = value_of (arena_in m) c.args.value in
     let p = place_at f b.line in
     let is : expr_of f c.args.target.now ≡ plain.index p (expr_of f b.a) (expr_of f b.index) = ap (expr_of f) b.is ∙ expr_of-Index f b.line b.a b.index in
-    goes c.within_index.result c.within_index.new.m
+    goes _ c.within_index.result c.within_index.new.m
     (ap (around_value m (waiting_in m))
     ((λ i. then_do (evaluated (setting_of m) (expr_of f (c.get-in-Index.ensures i)) s) (value_goes (setting_of m) (target_of p (expr_of f (c.get.ensures i)) v)))
     ∙ sym (index_goes (evaluated (setting_of m) (expr_of f b.a) s) (λ x. evaluated (setting_of m) (expr_of f b.index)) (λ x y. set_index_row p x y v))

@@ -12,7 +12,7 @@ use Rattle.star_eval.specs.Meets.{Here, arena_of, state_of}
 use Rattle.star_eval.specs.Doing.{augmented_in}
 use Rattle.star_eval.specs.View.{arena_in, nodes_in, setting_of, waiting_in}
 use Rattle.star_eval.specs.Waiting.{unwind_flow}
-use Rattle.star_eval.proofs.Going.{goes}
+use Rattle.star_eval.proofs.Going.{goes_after}
 use Rattle.star_eval.proofs.Growing.{kept}
 use Rattle.star_eval.proofs.assign.augment_at.Goals as goal
 
@@ -38,7 +38,7 @@ returns-in-Ok c =
     let y = value_kept a b c.args.index g c.requires.index in
     let o = binary_operator_of c.args.op in
     let e = expr_of m.code.file c.args.expr.now in
-    goes c.within.result c.within.new.m
+    goes_after a b c.within.result c.within.new.m g
     ((λ i. unwind_flow (k.setting i) (k.waiting i) (augmented_in (k.setting i) c.args.place o c.args.at (x i) (y i) e (value_of b c.in-Ok.old) (k.nodes i) (state_of s)))
     ∙ ap (λ r. around_flow m (waiting_in m) (then_do r (λ old. augmented_in (setting_of m) c.args.place o c.args.at (value_of a c.args.indexed) (value_of a c.args.index) e old (nodes_in m)))) (sym c.in-Ok.ensures.row.meaning))
     c.within.ensures
@@ -58,4 +58,5 @@ returns-in-Err-Fault c =
           ∙ ap (λ r. around_flow m (waiting_in m) (then_do r (λ old. augmented_in (setting_of m) c.args.place o c.args.at (value_of a c.args.indexed) (value_of a c.args.index) e old (nodes_in m)))) (sym refused);
       sound = k.sound;
       owned = tt;
+      grows = k.grows;
     })

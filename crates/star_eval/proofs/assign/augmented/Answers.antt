@@ -12,7 +12,7 @@ use Rattle.star_eval.specs.Meets.{Here, arena_of, state_of}
 use Rattle.star_eval.specs.Doing.{concluded}
 use Rattle.star_eval.specs.View.{arena_in, env_of, nodes_in, waiting_in}
 use Rattle.star_eval.specs.Waiting.{unwind_flow}
-use Rattle.star_eval.proofs.Going.{goes}
+use Rattle.star_eval.proofs.Going.{goes_after}
 use Rattle.star_eval.proofs.Growing.{kept}
 use Rattle.star_eval.proofs.assign.augmented.Goals as goal
 
@@ -26,7 +26,7 @@ returns-in-Ok c =
     let k = kept m s c.augment.ensures.row.grows c.requires.sound in
     let x = c.args.name.now in
     let v = value_of (arena_of s) c.in-Ok.changed in
-    goes c.name_gets.result c.name_gets.new.m
+    goes_after (arena_in m) (arena_of s) c.name_gets.result c.name_gets.new.m k.grows
     ((λ i. unwind_flow (k.setting i) (k.waiting i) (concluded (write_name c.args.at x v (box_of x (k.setting i).env)) (k.nodes i) (state_of s)))
     ∙ ap (λ o. around_flow m (waiting_in m) (then_do o (λ w. concluded (write_name c.args.at x w (box_of x (env_of m))) (nodes_in m)))) (sym c.in-Ok.ensures.row.meaning))
     c.name_gets.ensures
@@ -44,4 +44,5 @@ returns-in-Err-Fault c =
           ∙ ap (λ o. around_flow m (waiting_in m) (then_do o (λ w. concluded (write_name c.args.at x w (box_of x (env_of m))) (nodes_in m)))) (sym refused);
       sound = k.sound;
       owned = tt;
+      grows = k.grows;
     })

@@ -13,7 +13,7 @@ use Rattle.star_eval.specs.Meets.{Here, arena_of, state_of}
 use Rattle.star_eval.specs.Doing.{concluded}
 use Rattle.star_eval.specs.View.{arena_in, nodes_in, waiting_in}
 use Rattle.star_eval.specs.Waiting.{unwind_flow}
-use Rattle.star_eval.proofs.Going.{goes}
+use Rattle.star_eval.proofs.Going.{goes_after}
 use Rattle.star_eval.proofs.Growing.{kept}
 use Rattle.star_eval.proofs.assign.augmented_at.Goals as goal
 
@@ -37,7 +37,7 @@ returns-in-Ok c =
     let x = value_kept a b c.args.indexed.0 g c.requires.indexed in
     let y = value_kept a b c.args.indexed.1 g c.requires.index in
     let v = value_of b c.in-Ok.changed in
-    goes c.index_gets.result c.index_gets.new.m
+    goes_after a b c.index_gets.result c.index_gets.new.m g
     ((λ i. unwind_flow (k.setting i) (k.waiting i) (concluded (set_index_row c.args.at (x i) (y i) v) (k.nodes i) (state_of s)))
     ∙ ap (λ o. around_flow m (waiting_in m) (then_do o (λ w. concluded (set_index_row c.args.at (value_of a c.args.indexed.0) (value_of a c.args.indexed.1) w) (nodes_in m)))) (sym c.in-Ok.ensures.row.meaning))
     c.index_gets.ensures
@@ -55,4 +55,5 @@ returns-in-Err-Fault c =
           ∙ ap (λ o. around_flow m (waiting_in m) (then_do o (λ w. concluded (set_index_row c.args.at (value_of a c.args.indexed.0) (value_of a c.args.indexed.1) w) (nodes_in m)))) (sym refused);
       sound = k.sound;
       owned = tt;
+      grows = k.grows;
     })

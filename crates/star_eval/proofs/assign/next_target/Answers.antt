@@ -2,6 +2,7 @@ use Rattle.std.proofs.Common.{rules, ◌≡◌, ◌∷◌, [], ap, subst}
 use Rattle.star_tree.specs.Whole.{expr_of, exprs_of}
 use Rattle.star_values.specs.View.{value_of}
 use Rattle.code_spec.specs.Code.{an_expr}
+use Rattle.star_values.proofs.Growing.{grows_same}
 use Rattle.star_eval.specs.Frames.{around_value}
 use Rattle.star_eval.specs.Meets.{state_of}
 use Rattle.star_eval.specs.Sources.{Advances, left_of}
@@ -25,6 +26,7 @@ returns-in-None-2 c =
       same = ap (around_value m (waiting_in m)) (none_assigned c.args.place (setting_of m) (exprs_of m.code.file c.args.targets.now) (left_of a c.args.source) (state_of m.session) none);
       sound = c.requires.sound;
       owned = tt;
+      grows = grows_same a;
     }
 
 pub returns-in-Some-2 : goal.returns-in-Some-2
@@ -34,7 +36,7 @@ returns-in-Some-2 c =
     let h = c.in_ok-advance.ensures a c.requires.source in
     let first : left_of a c.args.source ≡ value_of a c.in-Some-2.value ∷ left_of a c.in-Some-2.source = search (rules, h) in
     let targets : exprs_of m.code.file c.args.targets.now ≡ an_expr (expr_of m.code.file c.in-Some.target.now) (exprs_of m.code.file c.in-Some.rest.now) = search rules in
-    goes c.push.result c.push.new.m
+    goes _ c.push.result c.push.new.m
     (ap (around_value m (waiting_in m))
     (first_assigned c.args.place (setting_of m) (expr_of m.code.file c.in-Some.target.now) (exprs_of m.code.file c.in-Some.rest.now) (exprs_of m.code.file c.args.targets.now) (value_of a c.in-Some-2.value) (left_of a c.in-Some-2.source) (left_of a c.args.source) (state_of m.session) targets
     first))

@@ -3,6 +3,7 @@ use Rattle.star_spec.specs.Eval.{count_exprs}
 use Rattle.star_tree.specs.Whole.{exprs_of}
 use Rattle.star_values.specs.View.{value_of}
 use Rattle.value_spec.specs.Members.{members_in}
+use Rattle.star_values.proofs.Growing.{grows_same}
 use Rattle.star_eval.specs.declared.frame.Control.{Control}
 use Rattle.star_eval.specs.Frames.{Goes, around_value}
 use Rattle.star_eval.specs.Meets.{state_of}
@@ -27,8 +28,8 @@ returns-then-len-targets c =
     let count : c.len.result ≡ length vs = c.len.ensures a owned in
     let differs : (c.len.result == length c.args.targets.now) ≡ false = search rules in
     let other : (length vs == count_exprs es) ≡ false = (λ i. sym count i == as_many m.code.file c.args.targets.now i) ∙ differs in
-    subst (λ (x : Control). Goes m x (around_value m (waiting_in m) (with_none (spread_over (setting_of m) c.args.place es v) s))) (sym c.failed-then-len-targets.ensures)
-    (record { same = ap (around_value m (waiting_in m)) (spread_refused c.args.place (setting_of m) es v vs s there other); sound = c.requires.sound; owned = tt })
+    subst (λ (x : Control). Goes (arena_in m) m x (around_value m (waiting_in m) (with_none (spread_over (setting_of m) c.args.place es v) s))) (sym c.failed-then-len-targets.ensures)
+    (record { same = ap (around_value m (waiting_in m)) (spread_refused c.args.place (setting_of m) es v vs s there other); sound = c.requires.sound; owned = tt; grows = grows_same a })
 
 pub returns : goal.returns
 returns c =
@@ -43,6 +44,6 @@ returns c =
     let count : c.len.result ≡ length vs = c.len.ensures a owned in
     let same : (c.len.result == length c.args.targets.now) ≡ true = search rules in
     let many : (length vs == count_exprs es) ≡ true = (λ i. sym count i == as_many m.code.file c.args.targets.now i) ∙ same in
-    goes c.next_target.result c.next_target.new.m
+    goes _ c.next_target.result c.next_target.new.m
     (ap (around_value m (waiting_in m)) ((λ i. with_none (assigned_each (setting_of m) c.args.place es (left_of a (c.of.ensures i))) s) ∙ spread_on c.args.place (setting_of m) es v vs s there many))
     c.next_target.ensures

@@ -22,7 +22,7 @@ use Rattle.star_eval.specs.View.{arena_in, waiting_in}
 use Rattle.star_eval.specs.declared.frame.Machine.{Machine}
 use Rattle.star_eval.specs.declared.session.Session.{Session}
 use Rattle.star_eval.proofs.Calling.{depth_wanting, found, not_found, refused, scope_given}
-use Rattle.star_eval.proofs.Going.{goes, value_after}
+use Rattle.star_eval.proofs.Going.{goes_after, value_after}
 use Rattle.star_eval.proofs.Growing.{kept}
 use Rattle.star_eval.proofs.calls.call_function.Goals as goal
 
@@ -88,7 +88,7 @@ returns-in-Ok c =
     let some : code_with g.number fs ≡ Some it.code = sym c.find.ensures.code ∙ ap (option_map (λ f. f.now.code)) c.in-Some.is in
     let ends = scope_of_call p (parameters_of (code_of f it.code)) (names_of ops_names (code_of f it.code)) g.defaults vs g.env before in
     let opened = subst (λ r. Meets (env_in (arena_of s).held) r (state_in (arena_of s) m.session.work.steps) ends) c.in-Ok.is gives.meaning in
-    goes c.enter.result c.enter.new.m
+    goes_after a (arena_of s) c.enter.result c.enter.new.m k.grows
     (value_after m (record m { session = s }) k _ _ (found f fs p vs before m.depth c.args.function.at g it.code c.if-m-eq0.false c.function.ensures.here some
     ∙ ap (λ o. then_do o (λ env. enter_code starlark (enter_ops starlark) (calls_at f fs (m.depth - 1)) (code_of f it.code) env)) opened))
     c.enter.ensures
@@ -116,4 +116,5 @@ returns-in-Err-Fault c =
           ∙ ap (λ o. then_do o (λ env. enter_code starlark (enter_ops starlark) (calls_at f fs (m.depth - 1)) (code_of f it.code) env)) refused);
       sound = k.sound;
       owned = tt;
+      grows = k.grows;
     }

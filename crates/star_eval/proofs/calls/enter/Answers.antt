@@ -13,7 +13,7 @@ use Rattle.star_eval.specs.Doing.{evaluated, through}
 use Rattle.star_eval.specs.Frames.{around_value}
 use Rattle.star_eval.specs.Meets.{state_of}
 use Rattle.star_eval.specs.View.{arena_in, waiting_in}
-use Rattle.star_eval.proofs.Calling.{opened_file, opened_flow, opened_nodes, opened_setting, opened_sound, opened_state, opened_value}
+use Rattle.star_eval.proofs.Calling.{opened_file, opened_flow, opened_grows, opened_nodes, opened_setting, opened_sound, opened_state, opened_value}
 use Rattle.star_eval.proofs.calls.enter.Goals as goal
 
 pub returns-in_ok-open_call-in-Lambda : goal.returns-in_ok-open_call-in-Lambda
@@ -29,6 +29,7 @@ returns-in_ok-open_call-in-Lambda c =
           ∙ sym (ap (λ f. around_value m (waiting_in m) (enter_code starlark (enter_ops starlark) (calls_at m.code.file m.code.functions (m.depth - 1)) (code_of m.code.file f) (env_in (arena_in m).held c.args.scope) (state_of m.session))) c.in-Lambda.is);
       sound = opened_sound m n None c.args.scope o sound scope;
       owned = tt;
+      grows = opened_grows m n None c.args.scope o sound scope;
     }
 
 pub returns-in_ok-open_call-in-Def : goal.returns-in_ok-open_call-in-Def
@@ -45,4 +46,5 @@ returns-in_ok-open_call-in-Def c =
           ∙ sym (ap (λ f. around_value m (waiting_in m) (enter_code starlark (enter_ops starlark) (calls_at m.code.file m.code.functions (m.depth - 1)) (code_of m.code.file f) (env_in (arena_in m).held c.args.scope) (state_of m.session))) c.in-Def.is);
       sound = opened_sound m n fragment c.args.scope o sound scope;
       owned = tt;
+      grows = opened_grows m n fragment c.args.scope o sound scope;
     }

@@ -23,8 +23,9 @@ returns c =
     let nodes = nodes_kept a b caller.nodes g.grows c.requires.caller.1 in
     let waits : frames_of b n.code (reverse n.frames) ≡ waiting_in m =
     (λ i. frames_of b (g.code i) (reverse (g.frames i))) ∙ (frames_kept a b m.code g.grows (reverse m.frames) (reversed_each (OwnsFrame a) m.frames c.requires.sound.frames)).1 in
-    subst (λ (x : Machine). Goes x (control.Gave c.in_ok-value.value) (inside m (caller_of a m.code caller ∷ waiting_in m) (control.Went c.args.flow))) (sym c.restore.ensures) (record {
+    subst (λ (x : Machine). Goes a x (control.Gave c.in_ok-value.value) (inside m (caller_of a m.code caller ∷ waiting_in m) (control.Went c.args.flow))) (sym c.restore.ensures) (record {
       same = λ i. unwind_value (setting (calls_at (g.code i).file (g.code i).functions caller.depth) (env.1 i)) (nodes.1 i) (waits i) (done (g.value i) (g.state i));
       sound = record { scope = env.0; nodes = nodes.0; frames = subst (Each (OwnsFrame b)) (sym g.frames) (frames_kept a b m.code g.grows m.frames c.requires.sound.frames).0 };
       owned = g.owned;
+      grows = g.grows;
     })

@@ -4,6 +4,7 @@ use Rattle.star_tree.specs.Listed.{clauses_of}
 use Rattle.star_tree.specs.Whole.{expr_of}
 use Rattle.star_values.specs.View.{value_of}
 use Rattle.value_spec.specs.Outcomes.{then_do}
+use Rattle.star_values.proofs.Growing.{grows_same}
 use Rattle.star_eval.specs.declared.frame.Control.{Control}
 use Rattle.star_eval.specs.Frames.{Goes, around_bag}
 use Rattle.star_eval.specs.Meets.{state_of}
@@ -31,6 +32,7 @@ returns-in-None c =
       same = sym (ap (λ vs. around_bag m (waiting_in m) (turns c.args.place f vs b (state_of m.session))) none);
       sound = c.requires.sound;
       owned = c.requires.bag;
+      grows = grows_same a;
     }
 
 pub returns-then-m-eq0 : goal.returns-then-m-eq0
@@ -45,10 +47,11 @@ returns-then-m-eq0 c =
     let first : left_of a c.args.source ≡ value_of a c.in-Some.value ∷ left_of a c.in-Some.source = search (rules, h) in
     let zero : (m.session.work.steps == 0) ≡ true = search rules in
     let ends = step_wanting p (f (value_of a c.in-Some.value) b) s (none_left m.session.work.steps zero) in
-    subst (λ (x : Control). Goes m x (around_bag m (waiting_in m) (turns p f (left_of a c.args.source) b s))) (sym c.lost.ensures) (record {
+    subst (λ (x : Control). Goes (arena_in m) m x (around_bag m (waiting_in m) (turns p f (left_of a c.args.source) b s))) (sym c.lost.ensures) (record {
       same = ap (around_bag m (waiting_in m)) (sym (ap (λ vs. turns p f vs b s) first ∙ ap (λ o. then_do o (next_turn (turns p f (left_of a c.in-Some.source)))) ends));
       sound = c.requires.sound;
       owned = tt;
+      grows = grows_same a;
     })
 
 pub returns-else-m-eq0 : goal.returns-else-m-eq0
@@ -63,6 +66,6 @@ returns-else-m-eq0 c =
     let first : left_of a c.args.source ≡ value_of a c.in-Some.value ∷ left_of a c.in-Some.source = search (rules, h) in
     let some : (m.session.work.steps == 0) ≡ false = search rules in
     let goes_on = step_taken p (f (value_of a c.in-Some.value) b) s (enough m.session.work.steps some) in
-    goes c.enter.result c.enter.new.m
+    goes _ c.enter.result c.enter.new.m
     (ap (around_bag m (waiting_in m)) (sym (ap (λ vs. turns p f vs b s) first ∙ ap (λ o. then_do o (next_turn (turns p f (left_of a c.in-Some.source)))) goes_on)))
     c.enter.ensures

@@ -23,7 +23,7 @@ returns-in-Some-ForIn-default c =
     ap (clauses_of f) n.ensures.cases.0 ∙ ap (λ x. clauses_from (x ∷ each (clause_of f) n.rest.now)) (ap (clause_of f) n.field-0-0-is ∙ clause_of-ForIn f n.target n.members) in
     let members : expr_of f c.get-in-Some-ForIn-default.result.now ≡ expr_of f n.members = grind (arith, common_steps) in
     let target : expr_of f c.get.result.now ≡ expr_of f n.target = grind (arith, common_steps) in
-    goes c.push_element.result c.push_element.new.m
+    goes _ c.push_element.result c.push_element.new.m
     ((λ i. around_bag m (waiting_in m) (then_do (evaluated (setting_of m) (members i) (state_of m.session)) (λ v. clause_looped (setting_of m) p (target i) (clauses_of f n.rest.now) v b)))
     ∙ sym (ap (λ cs. around_bag m (waiting_in m) (clauses_done (setting_of m) p cs b (state_of m.session))) is))
     c.push_element.ensures

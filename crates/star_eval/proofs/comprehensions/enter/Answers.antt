@@ -1,9 +1,11 @@
-use Rattle.std.proofs.Common.{◌++◌, ◌∷◌, [], ap, ◌∙◌}
+use Rattle.std.proofs.Common.{◌++◌, ◌∷◌, [], ap, ◌∙◌, subst, sym}
 use Rattle.star_spec.specs.Flow.{next_turn, turns}
 use Rattle.star_tree.specs.Listed.{clauses_of}
 use Rattle.star_tree.specs.Whole.{expr_of}
 use Rattle.star_values.specs.View.{value_of}
 use Rattle.value_spec.specs.Outcomes.{then_do}
+use Rattle.star_values.specs.Owns.{Grows}
+use Rattle.star_eval.specs.declared.frame.Machine.{Machine}
 use Rattle.star_eval.specs.declared.frame.Frame.TheVariants as frame
 use Rattle.star_eval.specs.declared.frame.InClauses.TheVariants as in_clauses_frame
 use Rattle.star_eval.specs.Doing.{assigned, clauses_done}
@@ -14,7 +16,7 @@ use Rattle.star_eval.specs.View.{arena_in, bag_of, nodes_in, setting_of, waiting
 use Rattle.star_eval.specs.Waiting.{clause_turn_of, enter_clauses, in_element, unwind_value, with_none}
 use Rattle.star_values.proofs.Growing.{grows_same}
 use Rattle.star_eval.proofs.Chaining.{none_then}
-use Rattle.star_eval.proofs.Going.{goes}
+use Rattle.star_eval.proofs.Going.{goes_after}
 use Rattle.star_eval.proofs.Walks.{pushed_sound, pushed_waits}
 use Rattle.star_eval.proofs.comprehensions.enter.Goals as goal
 
@@ -40,7 +42,7 @@ returns c =
     let b = bag_of a m.code.file c.args.bag in
     let turn = frame.Clauses (in_clauses_frame.Turn p c.args.target c.args.clauses c.args.source) in
     let waits = pushed_waits m m.session turn (m.frames ++ turn ∷ []) (grows_same a) c.requires.sound c.requires.source (λ i. m.frames ++ turn ∷ []) in
-    goes c.push_element.result c.push_element.new.m
+    goes_after a (arena_in c.push_clauses.new.m) c.push_element.result c.push_element.new.m (subst (λ (n : Machine). Grows a (arena_in n)) (sym c.in_ok-push_clauses.ensures) (grows_same a))
     ((λ i. unwind_value (setting_of (c.in_ok-push_clauses.ensures i)) (nodes_in (c.in_ok-push_clauses.ensures i)) (in_element (enter_clauses p (clauses_of (c.in_ok-push_clauses.ensures i).code.file c.args.clauses.now) (bag_of (arena_in (c.in_ok-push_clauses.ensures i)) (c.in_ok-push_clauses.ensures i).code.file c.args.bag)) ∷ waiting_in (c.in_ok-push_clauses.ensures i))
     (with_none (assigned (setting_of (c.in_ok-push_clauses.ensures i)) p (expr_of (c.in_ok-push_clauses.ensures i).code.file c.args.target.now) (value_of (arena_in (c.in_ok-push_clauses.ensures i)) c.args.value)) (state_of (c.in_ok-push_clauses.ensures i).session)))
     ∙ (λ i. unwind_value (setting_of m) (nodes_in m) (in_element (enter_clauses p cs b) ∷ waits i) (with_none (assigned (setting_of m) p x v) s))

@@ -14,7 +14,7 @@ use Rattle.star_eval.specs.Frames.{OpensClauses, around_bag, around_value}
 use Rattle.star_eval.specs.Meets.{arena_of, state_of}
 use Rattle.star_eval.specs.View.{Sound, arena_in, bag_of, env_of, setting_of, waiting_in}
 use Rattle.star_eval.proofs.Clauses.{Begun, begun_same, begun_sound}
-use Rattle.star_eval.proofs.Going.{goes}
+use Rattle.star_eval.proofs.Going.{goes_after}
 use Rattle.star_eval.proofs.Growing.{bag_kept}
 use Rattle.star_eval.proofs.comprehensions.first.Goals as goal
 
@@ -67,7 +67,7 @@ returns-in-Some-ForIn-default c =
     let target : expr_of f c.get.result.now ≡ expr_of f n.target = grind (arith, common_steps) in
     let machine : (record m { scope = c.replace-outer.new.dest; session = s; frames = c.push.new.self }) ≡ Begun m s scope fs x e cs o c.requires.sound (λ i. fs) =
     λ i. record m { scope = c.replace-outer.ensures.after i; session = s; frames = frames i } in
-    goes c.clause_loop.result c.clause_loop.new.m
+    goes_after (arena_in m) (arena_of s) c.clause_loop.result c.clause_loop.new.m o.grows
     ((λ i. around_bag (machine i) (waiting_in (machine i)) (clause_looped (setting_of (machine i)) c.args.place (target i) cs (value_of (arena_of s) c.args.value) (bag_of (arena_of s) f c.args.bag) (state_of s)))
     ∙ begun_same m s scope fs x e cs o c.requires.sound (λ i. fs) c.args.place c.args.value c.args.bag c.requires.value c.requires.bag
     ∙ sym (ap (λ cs. around_value m (waiting_in m) (first_done (setting_of m) c.args.place cs (bag_of (arena_in m) f c.args.bag) (value_of (arena_in m) c.args.value) (state_of m.session))) is))

@@ -1,7 +1,8 @@
-use Rattle.std.proofs.Common.{◌++◌, ◌∷◌, [], ap, ◌∙◌}
+use Rattle.std.proofs.Common.{◌++◌, ◌∷◌, [], ap, ◌∙◌, subst, sym}
 use Rattle.star_spec.specs.Flow.{turns}
 use Rattle.star_tree.specs.Listed.{clauses_of}
 use Rattle.star_tree.specs.Whole.{expr_of}
+use Rattle.star_values.specs.Owns.{Grows}
 use Rattle.star_eval.specs.declared.frame.Frame.TheVariants as frame
 use Rattle.star_eval.specs.declared.frame.InClauses.TheVariants as in_clauses_frame
 use Rattle.star_eval.specs.declared.frame.Machine.{Machine}
@@ -10,7 +11,7 @@ use Rattle.star_eval.specs.Meets.{arena_of, state_of}
 use Rattle.star_eval.specs.Sources.{left_of}
 use Rattle.star_eval.specs.View.{arena_in, bag_of, nodes_in, setting_of, waiting_in}
 use Rattle.star_eval.specs.Waiting.{clause_turn_of, unwind_bag}
-use Rattle.star_eval.proofs.Going.{goes}
+use Rattle.star_eval.proofs.Going.{goes_after}
 use Rattle.star_eval.proofs.Growing.{bag_kept, kept, source_kept, walked_kept}
 use Rattle.star_eval.proofs.Walks.{pushed_sound, pushed_waits}
 use Rattle.star_eval.proofs.comprehensions.walk_clause.Goals as goal
@@ -49,7 +50,7 @@ returns c =
     let is = c.in_ok-push_clauses.ensures in
     let x = λ (n : Machine). expr_of n.code.file c.args.target.now in
     let cs = λ (n : Machine). clauses_of n.code.file c.args.clauses.now in
-    goes c.clause_turn.result c.clause_turn.new.m
+    goes_after (arena_in m) (arena_in c.push_clauses.new.m) c.clause_turn.result c.clause_turn.new.m (subst (λ (n : Machine). Grows (arena_in m) (arena_in n)) (sym is) b.grows)
     ((λ i. unwind_bag (setting_of (is i)) (nodes_in (is i)) (waiting_in (is i)) (turns p (clause_turn_of (setting_of (is i)) p (x (is i)) (cs (is i))) (left_of (arena_in (is i)) c.of.result) (bag_of (arena_in (is i)) (is i).code.file c.args.bag) (state_of (is i).session)))
     ∙ (λ i. unwind_bag (k.setting i) (k.nodes i) (waits i) (turns p (clause_turn_of (k.setting i) p (x m) (cs m)) (members i) (gathered i) (b.state i))))
     c.clause_turn.ensures

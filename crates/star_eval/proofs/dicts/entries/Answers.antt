@@ -28,4 +28,4 @@ returns-in-Some c =
     let m = c.args.m.now in
     let ps = pairs_in (arena_in m).held c.args.pairs.entries in
     let some : entries_of m.code.file c.args.entries.now ≡ with_entry (entry_of m.code.file c.in-Some.entry.now) (entries_of m.code.file c.in-Some.rest.now) = search rules in
-    goes c.first_entry.result c.first_entry.new.m (ap (λ es. around_value m (waiting_in m) (entries_done (setting_of m) c.args.place es ps (state_of m.session))) (sym some)) c.first_entry.ensures
+    goes _ c.first_entry.result c.first_entry.new.m (ap (λ es. around_value m (waiting_in m) (entries_done (setting_of m) c.args.place es ps (state_of m.session))) (sym some)) c.first_entry.ensures

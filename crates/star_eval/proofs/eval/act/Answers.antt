@@ -21,7 +21,7 @@ returns-in-Binary c =
     let s = state_of m.session in
     let b = c.in-Binary in
     let is : expr_of m.code.file c.args.expr.now ≡ plain.binary (place_at m.code.file b.field-0) (binary_operator_of b.op) (expr_of m.code.file b.a) (expr_of m.code.file b.b) = ap (expr_of m.code.file) b.is ∙ expr_of-Binary m.code.file b.field-0 b.op b.a b.b in
-    goes c.push-in-Binary.result c.push-in-Binary.new.m
+    goes _ c.push-in-Binary.result c.push-in-Binary.new.m
     ((λ i. around_value m (waiting_in m) (then_do (evaluated (setting_of m) (expr_of m.code.file (c.get-in-Binary-2.ensures i)) s) (λ x. evaluated (setting_of m) (expr_of m.code.file (c.get-in-Binary.ensures i)) >>= binary_row c.args.place (binary_operator_of b.op) x)))
     ∙ sym (ap (λ e. around_value m (waiting_in m) (acted (setting_of m) c.args.place e s)) is))
     c.push-in-Binary.ensures
@@ -33,7 +33,7 @@ returns-in-Index c =
     let s = state_of m.session in
     let b = c.in-Index in
     let is : expr_of m.code.file c.args.expr.now ≡ plain.index (place_at m.code.file b.field-0) (expr_of m.code.file b.a) (expr_of m.code.file b.index) = ap (expr_of m.code.file) b.is ∙ expr_of-Index m.code.file b.field-0 b.a b.index in
-    goes c.within_index.result c.within_index.new.m
+    goes _ c.within_index.result c.within_index.new.m
     ((λ i. around_value m (waiting_in m) (then_do (evaluated (setting_of m) (expr_of m.code.file (c.get-in-Index.ensures i)) s) (value_goes (setting_of m) (index_of c.args.place (expr_of m.code.file (c.get.ensures i))))))
     ∙ sym (ap (λ e. around_value m (waiting_in m) (acted (setting_of m) c.args.place e s)) is))
     c.within_index.ensures
@@ -45,7 +45,7 @@ returns-in-Slice c =
     let s = state_of m.session in
     let b = c.in-Slice in
     let is : expr_of m.code.file c.args.expr.now ≡ plain.slice (place_at m.code.file b.field-0) (expr_of m.code.file b.a) (optional_of m.code.file b.from) (optional_of m.code.file b.to) (optional_of m.code.file b.step) = ap (expr_of m.code.file) b.is ∙ expr_of-Slice m.code.file b.field-0 b.a b.from b.to b.step in
-    goes c.within_index-in-Slice.result c.within_index-in-Slice.new.m
+    goes _ c.within_index-in-Slice.result c.within_index-in-Slice.new.m
     ((λ i. around_value m (waiting_in m) (then_do (evaluated (setting_of m) (expr_of m.code.file (c.get-in-Slice.ensures i)) s) (value_goes (setting_of m) (bounds_of c.args.place (optional_of m.code.file b.from) (optional_of m.code.file b.to) (optional_of m.code.file b.step)))))
     ∙ sym (ap (λ e. around_value m (waiting_in m) (acted (setting_of m) c.args.place e s)) is))
     c.within_index-in-Slice.ensures

@@ -18,6 +18,6 @@ returns-else-m-eq0 c =
     let e = expr_of m.code.file c.args.expr.now in
     let place : place_in e ≡ Some p = sym c.place_of.ensures ∙ c.in-Some.is in
     let enough : nat_le 1 m.session.work.steps ≡ true = search (rules, c.if-m-eq0.false) in
-    goes c.act.result c.act.new.m
+    goes _ c.act.result c.act.new.m
     (ap (around_value m (waiting_in m)) (sym (ap (λ b. then_do (take_if b 1 p s) (λ u. acted here p e)) enough) ∙ (λ i. acts_as here e p place i s)))
     c.act.ensures

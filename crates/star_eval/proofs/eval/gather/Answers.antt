@@ -22,7 +22,7 @@ returns-in-Some c =
     let es = exprs_of f c.in-Some.rest.now in
     let g = gathering_of c.args.gathering in
     let is : exprs_of f c.args.members.now ≡ an_expr e es = ap (exprs_of f) c.in-Some.ensures.cases.0 in
-    goes c.push.result c.push.new.m
+    goes _ c.push.result c.push.new.m
     (ap (around_value m (waiting_in m))
     (sym (ap (λ xs. then_do (all_evaluated (setting_of m) xs s) (λ ws. gathered g (before ++ ws))) is
     ∙ in_a_row (evaluated (setting_of m) e s) (λ v t. then_do (all_evaluated (setting_of m) es t) (λ vs. give (v ∷ vs))) (λ ws. gathered g (before ++ ws))

@@ -15,7 +15,7 @@ returns-in-None c =
     let ps = parameters_of m.code.file c.args.params.now in
     let before = values_of (arena_in m) c.args.defaults in
     let none : next_default ps ≡ None = sym (c.next_default.ensures m.code.file) ∙ ap (default_of m.code.file) c.in-None.is in
-    goes c.made.result c.made.new.m (ap (around_value m (waiting_in m)) (sym (λ i. none_defaulted (setting_of m) (making_of c.args.making) before ps none i (state_of m.session)))) c.made.ensures
+    goes _ c.made.result c.made.new.m (ap (around_value m (waiting_in m)) (sym (λ i. none_defaulted (setting_of m) (making_of c.args.making) before ps none i (state_of m.session)))) c.made.ensures
 
 pub returns-in-Some : goal.returns-in-Some
 returns-in-Some c =
@@ -26,4 +26,4 @@ returns-in-Some c =
     let e = expr_of f c.in-Some.expr.now in
     let rest = parameters_of f c.in-Some.rest.now in
     let some : next_default ps ≡ Some (e, rest) = sym (c.next_default.ensures f) ∙ ap (default_of f) c.in-Some.is in
-    goes c.push.result c.push.new.m (ap (around_value m (waiting_in m)) (sym (λ i. one_defaulted (setting_of m) (making_of c.args.making) before ps e rest some i (state_of m.session)))) c.push.ensures
+    goes _ c.push.result c.push.new.m (ap (around_value m (waiting_in m)) (sym (λ i. one_defaulted (setting_of m) (making_of c.args.making) before ps e rest some i (state_of m.session)))) c.push.ensures

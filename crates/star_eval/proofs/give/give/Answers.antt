@@ -1,6 +1,7 @@
 use Rattle.std.proofs.Common.{◌∷◌, sym, ap, subst}
 use Rattle.star_values.specs.View.{value_of}
 use Rattle.value_spec.specs.Outcomes.{done}
+use Rattle.star_values.proofs.Growing.{grows_same}
 use Rattle.star_eval.specs.declared.frame.Control.TheVariants as control
 use Rattle.star_eval.specs.declared.frame.Machine.{Machine}
 use Rattle.star_eval.specs.Frames.{Goes, inside}
@@ -17,8 +18,9 @@ returns-in-Call c =
     let ws = waiting_in m in
     let caller = c.in-Call.caller in
     let owned : OwnsCaller a caller = subst (OwnsFrame a) c.in-Call.is c.requires.frame in
-    subst (λ (n : Machine). Goes n (control.Gave c.args.value) (inside m (frame_of a m.code c.args.frame ∷ ws) (control.Gave c.args.value))) (sym c.restore.ensures) (record {
+    subst (λ (n : Machine). Goes a n (control.Gave c.args.value) (inside m (frame_of a m.code c.args.frame ∷ ws) (control.Gave c.args.value))) (sym c.restore.ensures) (record {
       same = sym (ap (λ f. unwind_value (setting_of m) (nodes_in m) (frame_of a m.code f ∷ ws) (done (value_of a c.args.value) s)) c.in-Call.is);
       sound = record { scope = owned.0; nodes = owned.1; frames = c.requires.sound.frames };
       owned = c.requires.value;
+      grows = grows_same a;
     })

@@ -11,16 +11,16 @@ pub returns-in-Walk : goal.returns-in-Walk
 returns-in-Walk c =
     let m = c.args.m.now in
     let a = arena_in m in
-    goes c.walk.result c.walk.new.m (sym (ap (λ f. around_flow m (waiting_in m) (statement_goes (setting_of m) (statement_frame a m.code.file f) (value_of a c.args.value) (nodes_in m) (state_of m.session))) c.in-Walk.is)) c.walk.ensures
+    goes _ c.walk.result c.walk.new.m (sym (ap (λ f. around_flow m (waiting_in m) (statement_goes (setting_of m) (statement_frame a m.code.file f) (value_of a c.args.value) (nodes_in m) (state_of m.session))) c.in-Walk.is)) c.walk.ensures
 
 pub returns-in-AugmentOf : goal.returns-in-AugmentOf
 returns-in-AugmentOf c =
     let m = c.args.m.now in
     let a = arena_in m in
-    goes c.within.result c.within.new.m (sym (ap (λ f. around_flow m (waiting_in m) (statement_goes (setting_of m) (statement_frame a m.code.file f) (value_of a c.args.value) (nodes_in m) (state_of m.session))) c.in-AugmentOf.is)) c.within.ensures
+    goes _ c.within.result c.within.new.m (sym (ap (λ f. around_flow m (waiting_in m) (statement_goes (setting_of m) (statement_frame a m.code.file f) (value_of a c.args.value) (nodes_in m) (state_of m.session))) c.in-AugmentOf.is)) c.within.ensures
 
 pub returns-in-AugmentIndex : goal.returns-in-AugmentIndex
 returns-in-AugmentIndex c =
     let m = c.args.m.now in
     let a = arena_in m in
-    goes c.augmented_at.result c.augmented_at.new.m (sym (ap (λ f. around_flow m (waiting_in m) (statement_goes (setting_of m) (statement_frame a m.code.file f) (value_of a c.args.value) (nodes_in m) (state_of m.session))) c.in-AugmentIndex.is)) c.augmented_at.ensures
+    goes _ c.augmented_at.result c.augmented_at.new.m (sym (ap (λ f. around_flow m (waiting_in m) (statement_goes (setting_of m) (statement_frame a m.code.file f) (value_of a c.args.value) (nodes_in m) (state_of m.session))) c.in-AugmentIndex.is)) c.augmented_at.ensures

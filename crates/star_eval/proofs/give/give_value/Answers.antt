@@ -16,7 +16,7 @@ returns-in_ok-push-in-Default c =
     let a = arena_in m in
     let vs = c.in-Default.defaults in
     let behind = ap (values_of a) c.in_ok-push-in-Default.ensures.ok ∙ map-append (value_in a.held) vs (c.args.value ∷ []) in
-    goes c.make_function.result c.make_function.new.m
+    goes _ c.make_function.result c.make_function.new.m
     (ap (around_value m (waiting_in m))
     ((λ i. making (setting_of m) (making_of c.in-Default.making) (parameters_of m.code.file c.in-Default.rest.now) (behind i) (state_of m.session))
     ∙ sym (ap (λ f. value_goes (setting_of m) (value_frame a m.code.file f) (value_of a c.args.value) (state_of m.session)) c.in-Default.is)))

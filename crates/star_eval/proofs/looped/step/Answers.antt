@@ -42,14 +42,14 @@ fail-requires-in-Some-pop-5-clause-frame c = popped_owned c.args.m.now c.pop-in-
 pub returns-in-Some : goal.returns-in-Some
 returns-in-Some c =
     let m = c.args.m.now in
-    goes c.give.result c.give.new.m
+    goes _ c.give.result c.give.new.m
     (sym (ap (inside m (waiting_in m)) c.in-Gave.is ∙ ap (λ ws. inside m ws (control.Gave c.in-Gave.value)) (popped_waits m c.pop.new.self c.in-Some.frame c.in-Some.ensures)))
     c.give.ensures
 
 pub returns-in-Some-pop-2 : goal.returns-in-Some-pop-2
 returns-in-Some-pop-2 c =
     let m = c.args.m.now in
-    goes c.went.result c.went.new.m
+    goes _ c.went.result c.went.new.m
     (sym (ap (inside m (waiting_in m)) c.in-Went.is ∙ ap (λ ws. inside m ws (control.Went c.in-Went.flow)) (popped_waits m c.pop-in-Went.new.self c.in-Some-pop-2.frame c.in-Some-pop-2.ensures)))
     c.went.ensures
 
@@ -64,11 +64,12 @@ returns-in-Some-pop-3 c =
       same = g.same ∙ sym (ap (inside m (waiting_in m)) c.in-Left.is ∙ ap (λ ws. inside m ws (control.Left f)) (popped_waits m c.pop-in-Left.new.self c.in-Some-pop-3.frame c.in-Some-pop-3.ensures) ∙ flow_fails (setting_of m) (nodes_in m) (waiting_in n) f (state_of m.session) w);
       sound = g.sound;
       owned = g.owned;
+      grows = g.grows;
     }
 
 pub returns-in-Some-pop-4 : goal.returns-in-Some-pop-4
 returns-in-Some-pop-4 c =
     let m = c.args.m.now in
-    goes c.bagged.result c.bagged.new.m
+    goes _ c.bagged.result c.bagged.new.m
     (sym (ap (inside m (waiting_in m)) c.in-Bagged.is ∙ ap (λ ws. inside m ws (control.Bagged c.in-Bagged.bag)) (popped_waits m c.pop-in-Bagged.new.self c.in-Some-pop-4.frame c.in-Some-pop-4.ensures)))
     c.bagged.ensures

@@ -2,6 +2,7 @@ use Rattle.std.proofs.Common.{ap, sym, ◌∙◌}
 use Rattle.node_build.specs.Parts.{ending, keying}
 use Rattle.star_tree.specs.Whole.{part_of}
 use Rattle.ytt_base.specs.View.{key_of}
+use Rattle.star_values.proofs.Growing.{grows_same}
 use Rattle.star_eval.specs.Frames.{around_flow}
 use Rattle.star_eval.specs.Meets.{Here, state_of}
 use Rattle.star_eval.specs.Doing.{part_done}
@@ -19,6 +20,7 @@ returns-in_ok-key-in-Key c =
       same = ap (around_flow m (waiting_in m)) (sym (ap (λ x. part_done (setting_of m) (part_of m.code.file x) k s) c.in-Key.is ∙ ap (λ x. keying {H = Here} (key_of x) k s) (sym c.in_ok-key-in-Key.ensures) ∙ c.key.ensures.meaning a s));
       sound = record { scope = c.requires.scope; nodes = c.key.ensures.owned a c.requires.nodes; frames = c.requires.frames };
       owned = tt;
+      grows = grows_same a;
     }
 
 pub returns-in_ok-scalar-in-Value : goal.returns-in_ok-scalar-in-Value
@@ -31,6 +33,7 @@ returns-in_ok-scalar-in-Value c =
       same = ap (around_flow m (waiting_in m)) (sym (ap (λ x. part_done (setting_of m) (part_of m.code.file x) k s) c.in-Value.is ∙ c.in_ok-scalar-in-Value.ensures.meaning a s));
       sound = record { scope = c.requires.scope; nodes = c.in_ok-scalar-in-Value.ensures.owned a c.requires.nodes; frames = c.requires.frames };
       owned = tt;
+      grows = grows_same a;
     }
 
 pub returns-in-End : goal.returns-in-End
@@ -38,6 +41,6 @@ returns-in-End c =
     let m = c.args.m.now in
     let a = arena_in m in
     let s = state_of m.session in
-    goes c.settle_flow.result (record m { nodes = c.end.new.self })
+    goes _ c.settle_flow.result (record m { nodes = c.end.new.self })
     (ap (around_flow m (waiting_in m)) (sym (ap (λ x. part_done (setting_of m) (part_of m.code.file x) (nodes_in m) s) c.in-End.is)))
     (nodes_on m c.end.new.self m.session.work ending c.end.result c.settle_flow.result c.requires (c.end.ensures.meaning a s) (c.end.ensures.owned a c.requires.nodes) c.settle_flow.ensures)

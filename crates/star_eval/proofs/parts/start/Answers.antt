@@ -4,6 +4,7 @@ use Rattle.node_build.specs.View.{nodes_of}
 use Rattle.star_spec.specs.Flow.{on}
 use Rattle.star_tree.specs.View.{holds_of, item_kind_of}
 use Rattle.value_spec.specs.Outcomes.{give, take_if, then_do}
+use Rattle.star_values.proofs.Growing.{grows_same}
 use Rattle.star_eval.specs.Frames.{around_flow}
 use Rattle.star_eval.specs.Meets.{Here, state_of}
 use Rattle.star_eval.specs.View.{arena_in, nodes_in, waiting_in}
@@ -23,4 +24,5 @@ returns c =
           ∙ ap (λ b. then_do {H = Here} (take_if b 1 p s) (λ u. give (on new))) (enough m.session.work.steps some)));
       sound = record { scope = c.requires.scope; nodes = c.in_ok-start.ensures.owned a c.requires.nodes; frames = c.requires.frames };
       owned = tt;
+      grows = grows_same a;
     }

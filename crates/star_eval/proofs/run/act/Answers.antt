@@ -20,7 +20,7 @@ returns-in-Assign c =
     let m = c.args.m.now in
     let p = c.args.place in
     let is : statement_of m.code.file c.args.statement.now ≡ op_statement (plain.assign (place_at m.code.file c.in-Assign.field-0) (expr_of m.code.file c.in-Assign.target) (expr_of m.code.file c.in-Assign.expr)) = search (rules, the_lemmas) in
-    goes c.within-in-Assign.result c.within-in-Assign.new.m
+    goes _ c.within-in-Assign.result c.within-in-Assign.new.m
     ((λ i. around_flow m (waiting_in m) (then_do (evaluated (setting_of m) (expr_of m.code.file (c.get-in-Assign-2.ensures i)) (state_of m.session)) (λ v s. then_do (assigned (setting_of m) p (expr_of m.code.file (c.get-in-Assign.ensures i)) v s) (λ u. give (on (nodes_in m))))))
     ∙ sym (ap (λ o. around_flow m (waiting_in m) (done_after (setting_of m) p o (nodes_in m) (state_of m.session))) is))
     c.within-in-Assign.ensures

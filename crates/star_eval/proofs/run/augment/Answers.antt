@@ -24,7 +24,7 @@ returns-in-Index c =
     let e = expr_of m.code.file c.args.expr.now in
     let p = place_at m.code.file b.line in
     let is : expr_of m.code.file c.args.target.now ≡ plain.index p (expr_of m.code.file b.a) (expr_of m.code.file b.index) = ap (expr_of m.code.file) b.is ∙ expr_of-Index m.code.file b.line b.a b.index in
-    goes c.within.result c.within.new.m
+    goes _ c.within.result c.within.new.m
     ((λ i. around_flow m (waiting_in m) (then_do (evaluated (setting_of m) (expr_of m.code.file (c.get-in-Index.ensures i)) s) (λ v. statement_goes (setting_of m) (augment_of c.args.place o p (expr_of m.code.file (c.get.ensures i)) e) v k)))
     ∙ sym (ap (λ x. around_flow m (waiting_in m) (augmented (setting_of m) o c.args.place x e k s)) is))
     c.within.ensures

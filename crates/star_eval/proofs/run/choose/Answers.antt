@@ -2,10 +2,11 @@ use Rattle.std.proofs.Common.{rules, ◌≡◌, sym, ap}
 use Rattle.code_spec.specs.Blocks.{else_arm}
 use Rattle.star_blocks.specs.Nested.{arms_of, ops_of}
 use Rattle.star_blocks.specs.declared.block.Arm.{the_lemmas}
+use Rattle.star_values.proofs.Growing.{grows_same}
 use Rattle.star_eval.specs.Doing.{arms_done}
 use Rattle.star_eval.specs.Frames.{around_flow}
 use Rattle.star_eval.specs.Meets.{state_of}
-use Rattle.star_eval.specs.View.{nodes_in, setting_of, waiting_in}
+use Rattle.star_eval.specs.View.{nodes_in, setting_of, waiting_in, arena_in}
 use Rattle.star_eval.proofs.run.choose.Goals as goal
 
 pub returns-in-Some-Else-default : goal.returns-in-Some-Else-default
@@ -17,4 +18,5 @@ returns-in-Some-Else-default c =
       same = ap (λ bs. around_flow m (waiting_in m) (arms_done (setting_of m) bs (nodes_in m) (state_of m.session))) (sym is);
       sound = c.requires;
       owned = tt;
+      grows = grows_same (arena_in m);
     }

@@ -17,7 +17,7 @@ pub returns-in-Code : goal.returns-in-Code
 returns-in-Code c =
     let m = c.args.m.now in
     let same : op_of m.code.file c.args.first.now ≡ statement_of m.code.file c.in-Code.statement = search (rules, the_lemmas) in
-    goes c.run_statement.result c.run_statement.new.m
+    goes _ c.run_statement.result c.run_statement.new.m
     (ap (λ r. around_flow m (waiting_in m) (then_do r (go_on (through (setting_of m) (ops_of m.code.file c.args.rest.now)))))
     ((λ i. op_says (setting_of m) (statement_of m.code.file c.in-Code.statement) (nodes_in m) i (state_of m.session)) ∙ sym (ap (λ o. op_through (setting_of m) o (nodes_in m) (state_of m.session)) same)))
     c.run_statement.ensures
@@ -26,7 +26,7 @@ pub returns-in-Node : goal.returns-in-Node
 returns-in-Node c =
     let m = c.args.m.now in
     let same : op_of m.code.file c.args.first.now ≡ op_part (part_of m.code.file c.in-Node.part) = search (rules, the_lemmas) in
-    goes c.node_part.result c.node_part.new.m
+    goes _ c.node_part.result c.node_part.new.m
     (ap (λ r. around_flow m (waiting_in m) (then_do r (go_on (through (setting_of m) (ops_of m.code.file c.args.rest.now)))))
     ((λ i. part_says (setting_of m) (part_of m.code.file c.in-Node.part) (nodes_in m) i (state_of m.session)) ∙ sym (ap (λ o. op_through (setting_of m) o (nodes_in m) (state_of m.session)) same)))
     c.node_part.ensures

@@ -9,7 +9,7 @@ use Rattle.star_eval.specs.Meets.{arena_of}
 use Rattle.star_eval.specs.Sources.{left_of}
 use Rattle.star_eval.specs.View.{arena_in}
 use Rattle.star_eval.specs.Waiting.{turn_of, unwind_flow}
-use Rattle.star_eval.proofs.Going.{goes}
+use Rattle.star_eval.proofs.Going.{goes_after}
 use Rattle.star_eval.proofs.Growing.{kept, source_kept, walked_kept}
 use Rattle.star_eval.proofs.Walks.{pushed_sound, pushed_waits}
 use Rattle.star_eval.proofs.walk.walk_object.Goals as goal
@@ -40,4 +40,4 @@ returns c =
     let p = c.args.place in
     let x = expr_of m.code.file c.args.target.now in
     let os = ops_of m.code.file c.args.body.now in
-    goes c.turn.result c.turn.new.m (λ i. unwind_flow (k.setting i) (waits i) (turns p (turn_of (k.setting i) p x os) (members i) (k.nodes i) (b.state i))) c.turn.ensures
+    goes_after (arena_in m) (arena_of s) c.turn.result c.turn.new.m b.grows (λ i. unwind_flow (k.setting i) (waits i) (turns p (turn_of (k.setting i) p x os) (members i) (k.nodes i) (b.state i))) c.turn.ensures

@@ -1,5 +1,6 @@
 use Rattle.std.proofs.Common.{◌∷◌, sym, ap, subst}
 use Rattle.value_spec.specs.Outcomes.{bad}
+use Rattle.star_values.proofs.Growing.{grows_same}
 use Rattle.star_eval.specs.declared.frame.Control.TheVariants as control
 use Rattle.star_eval.specs.declared.frame.Machine.{Machine}
 use Rattle.star_eval.specs.Frames.{Goes, inside}
@@ -16,8 +17,9 @@ returns-in-Call c =
     let ws = waiting_in m in
     let caller = c.in-Call.caller in
     let owned : OwnsCaller a caller = subst (OwnsFrame a) c.in-Call.is c.requires.frame in
-    subst (λ (n : Machine). Goes n (control.Failed c.args.fault) (inside m (frame_of a m.code c.args.frame ∷ ws) (control.Failed c.args.fault))) (sym c.restore.ensures) (record {
+    subst (λ (n : Machine). Goes a n (control.Failed c.args.fault) (inside m (frame_of a m.code c.args.frame ∷ ws) (control.Failed c.args.fault))) (sym c.restore.ensures) (record {
       same = sym (ap (λ f. unwind_value (setting_of m) (nodes_in m) (frame_of a m.code f ∷ ws) (bad c.args.fault s)) c.in-Call.is);
       sound = record { scope = owned.0; nodes = owned.1; frames = c.requires.sound.frames };
       owned = tt;
+      grows = grows_same a;
     })

@@ -20,4 +20,5 @@ returns-in-WalkEnd c =
           ∙ (λ i. around_flow m (waiting_in m) (block_ends (setting_of m) (block_frame a m.code.file (sym c.in-WalkEnd.is i)) (done (flow_kept a (arena_of s) c.args.flow (nodes_in m) e.held i) (state_of m.session))));
       sound = k.sound;
       owned = flow_owned a (arena_of s) c.args.flow e.grows c.requires.flow;
+      grows = k.grows;
     }

@@ -17,4 +17,5 @@ returns-in-WalkEnd c =
           ∙ sym (ap (λ f. around_flow m (waiting_in m) (block_ends (setting_of m) (block_frame (arena_in m) m.code.file f) (bad c.args.fault (state_of m.session)))) c.in-WalkEnd.is);
       sound = k.sound;
       owned = tt;
+      grows = k.grows;
     }

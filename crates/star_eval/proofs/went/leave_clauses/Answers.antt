@@ -17,4 +17,5 @@ returns-in-WalkEnd c =
           ∙ sym (ap (λ f. around_bag m (waiting_in m) (clauses_end (setting_of m) (clauses_frame (arena_in m) m.code.file f) (bad c.args.fault (state_of m.session)))) c.in-WalkEnd.is);
       sound = k.sound;
       owned = tt;
+      grows = k.grows;
     }

@@ -21,4 +21,5 @@ returns-in-WalkEnd c =
           ∙ (λ i. around_bag m (waiting_in m) (clauses_end (setting_of m) (clauses_frame a m.code.file (sym c.in-WalkEnd.is i)) (done (on (bag_of a m.code.file c.args.bag)) (state_of m.session))));
       sound = k.sound;
       owned = b.0;
+      grows = k.grows;
     }

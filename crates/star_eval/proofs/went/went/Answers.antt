@@ -14,13 +14,14 @@ use Rattle.star_eval.proofs.went.went.Goals as goal
 
 -- a frame that waits for no block
 lost : (m n : Machine) (f g : Frame) (w : Flow) (c : Control) → f ≡ g → takes_flow (frame_of (arena_in m) m.code g) ≡ false →
-    Goes n c (inside m (frame_of (arena_in m) m.code g ∷ waiting_in m) (control.Failed (fault_of kind.CodeForm))) → Goes n c (inside m (frame_of (arena_in m) m.code f ∷ waiting_in m) (control.Went w))
+    Goes (arena_in m) n c (inside m (frame_of (arena_in m) m.code g ∷ waiting_in m) (control.Failed (fault_of kind.CodeForm))) → Goes (arena_in m) n c (inside m (frame_of (arena_in m) m.code f ∷ waiting_in m) (control.Went w))
 lost m n f g w c is other h =
     let a = arena_in m in
     record {
       same = h.same ∙ sym (ap (λ f. inside m (frame_of a m.code f ∷ waiting_in m) (control.Went w)) is ∙ flow_misplaced (setting_of m) (nodes_in m) (waiting_in m) (state_of m.session) (frame_of a m.code g) (flow_of a w (nodes_in m)) other);
       sound = h.sound;
       owned = h.owned;
+      grows = h.grows;
     }
 
 pub returns-in-Value : goal.returns-in-Value

@@ -1,0 +1,58 @@
+-- How a block or a file ended.
+use Rattle.std.specs.Prelude.{◌≡◌, ℕ, List, [], ◌∷◌, map as each, Result, Ok, Err, IfOk}
+use Rattle.ytt_base.specs.declared.fault.Fault.{Fault}
+use Rattle.ytt_base.specs.declared.fault.Stop.{Stop}
+use Rattle.ytt_base.specs.declared.fault.Stop.TheVariants as stop
+use Rattle.node_build.specs.View.{OwnsNodes, nodes_of}
+use Rattle.star_spec.specs.Flow.{Flow}
+use Rattle.star_values.specs.Objects.{env_in}
+use Rattle.star_values.specs.Owns.{Grows, OwnsBuilt, OwnsEnv, OwnsFields}
+use Rattle.star_values.specs.View.{View, built_in, value_of}
+use Rattle.star_values.specs.declared.value.NamedValue.{NamedValue}
+use Rattle.template_meaning.specs.Calls.{bottom_children}
+use Rattle.template_meaning.specs.Files.{FileResult as PlainResult, Globals, ended}
+use Rattle.value_spec.specs.Outcomes.{Ending, done}
+use Rattle.value_spec.specs.Values.{Children, Env}
+use Rattle.star_eval.specs.Doing.{Nodes}
+use Rattle.star_eval.specs.Frames.{flow_ending_of}
+use Rattle.star_eval.specs.Meets.{Here, arena_of, state_of}
+use Rattle.star_eval.specs.declared.file.FileResult.{FileResult}
+use Rattle.star_eval.specs.declared.frame.Flow as held
+use Rattle.star_eval.specs.declared.looped.Finished.{Finished}
+use Rattle.star_eval.specs.declared.session.Session.{Session}
+
+-- A block ended so, in this scope: what is left is owned by an arena that has grown from the one there was.
+pub record Finishes (a : View) (variables : Env) (ending : Ending Here (Flow Nodes)) (e : Finished) : Type 0 where
+  pub ended : flow_ending_of (arena_of e.session) e.result (nodes_of (arena_of e.session) e.nodes) (state_of e.session) ≡ ending
+  pub env : env_in (arena_of e.session).held e.scope ≡ variables
+  pub scope : OwnsEnv (arena_of e.session) e.scope
+  pub nodes : OwnsNodes (arena_of e.session) e.nodes
+  pub grows : Grows a (arena_of e.session)
+
+-- ---- a file
+
+abbrev pub globals_of : View → List NamedValue → Globals
+globals_of a vs = each (λ v. (v.name, value_of a v.value)) vs
+
+-- what a file gives, as plain data
+abbrev pub result_of : View → FileResult → PlainResult
+result_of a r = record { documents = built_in a.held r.documents; globals = globals_of a r.globals }
+
+-- what a file gives is owned by this arena, which has grown from that one
+pub record Owned (a b : View) (r : FileResult) : Type 0 where
+  pub documents : OwnsBuilt b r.documents
+  pub globals : OwnsFields b r.globals
+  pub grows : Grows a b
+
+-- A file ends in this scope, with these children: it gives this, and all that it made is frozen.
+pub record EndsFile (made_before : ℕ) (env : Env) (children : Children) (after before : Session) (r : FileResult) : Type 0 where
+  pub meaning : ended made_before env children (state_of before) ≡ done (result_of (arena_of after) r) (state_of after)
+  pub owned : Owned (arena_of before) (arena_of after) r
+
+-- what a file gives whose block ended with this flow or this fault; a fault leaves the session as the block did
+abbrev pub Leaves : (made_before : ℕ) → Finished → Result held.Flow Fault → Result FileResult Stop → (after : Session) → Type 0
+Leaves n e (Ok w) (Ok r) after = EndsFile n (env_in (arena_of e.session).held e.scope) (bottom_children (nodes_of (arena_of e.session) e.nodes)) after e.session r
+Leaves n e (Ok w) (Err (stop.Fault f)) after = ⊥
+Leaves n e (Err f) (Ok r) after = ⊥
+Leaves n e (Err f) (Err (stop.Fault g)) after = (g ≡ f) × (state_of after ≡ state_of e.session)
+Leaves n e _ (Err stop.Memory) after = Unit {0}
