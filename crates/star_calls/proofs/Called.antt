@@ -10,7 +10,8 @@ use Rattle.value_spec.specs.Store.{change, changed, object, with_contents, with_
 use Rattle.value_spec.specs.Values as plain
 use Rattle.value_spec.specs.Values.{Arguments, Env, Store, of_box}
 use Rattle.value_spec.proofs.Computations.{then_assoc, then_ext}
-use Rattle.star_spec.specs.Binding.{bound_values, boxes_for, scope_of_call}
+use Rattle.value_spec.specs.Binding.{bound_values}
+use Rattle.star_spec.specs.Binding.{boxes_for, scope_of_call}
 use Rattle.star_spec.specs.Names.{with_boxes}
 use Rattle.star_spec.proofs.BoundNames.{bound_count}
 use Rattle.star_resolve.specs.Frames.{added, boxed, unset_boxes, with_unset}

@@ -7,7 +7,7 @@ use Rattle.code_spec.specs.Options.{further}
 use Rattle.value_spec.specs.Keys.{place_of_key, same_key}
 use Rattle.value_spec.specs.Store.{put_pair, with_pair}
 use Rattle.value_spec.specs.Values.{Value, Fields, no_fields, a_field, text_value}
-use Rattle.star_spec.specs.Binding.{has_field, has_twice, text_pairs}
+use Rattle.value_spec.specs.Binding.{has_field, has_twice, text_pairs}
 use Rattle.star_calls.proofs.Named.{neither}
 
 abbrev pub Pairs : Type 0

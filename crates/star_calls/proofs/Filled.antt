@@ -9,7 +9,7 @@ use Rattle.value_spec.specs.Values.{Fields, no_fields, a_field, dict_value, no_v
 use Rattle.value_spec.specs.Store.{with_object}
 use Rattle.value_spec.specs.Outcomes.{Computation, State, bad, done, give, or_fail, then_do, ◌>>=◌}
 use Rattle.value_spec.proofs.Computations.{then_assoc, then_ext}
-use Rattle.star_spec.specs.Binding.{Given, given, bound, field_of, in_front, or_default, rest_in_front, text_pairs, values_given}
+use Rattle.value_spec.specs.Binding.{Given, given, bound, field_of, in_front, or_default, rest_in_front, text_pairs, values_given}
 use Rattle.star_calls.specs.Left.{Rest, completed, got_by, named_behind, need_nothing, positions_behind, rest_behind, taken}
 
 -- the values of these, behind those that were got

@@ -3,7 +3,7 @@ use Rattle.std.proofs.Common.{◌≡◌, List, [], ◌∷◌, reverse, refl, sym
 use Rattle.std.proofs.lemmas.List.{reverse-append}
 use Rattle.value_spec.specs.Values as plain
 use Rattle.value_spec.specs.Keys.{IsKey}
-use Rattle.star_spec.specs.Binding.{has_twice}
+use Rattle.value_spec.specs.Binding.{has_twice}
 use Rattle.star_values.specs.Objects.{env_in, pairs_in}
 use Rattle.star_values.specs.Owns.{Each, Grows, OwnsEnv, OwnsFields, OwnsPair}
 use Rattle.star_values.specs.View.{View, fields_in}

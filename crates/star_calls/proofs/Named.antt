@@ -4,7 +4,7 @@ use Rattle.std.specs.List.{remove}
 use Rattle.code_spec.specs.Code.{Name}
 use Rattle.value_spec.specs.Values as plain
 use Rattle.value_spec.specs.Values.{Fields, no_fields, a_field}
-use Rattle.star_spec.specs.Binding.{field_of, has_field, has_twice, without_field}
+use Rattle.value_spec.specs.Binding.{field_of, has_field, has_twice, without_field}
 use Rattle.star_values.specs.Owns.{Each}
 use Rattle.star_values.specs.View.{fields_in, value_in}
 use Rattle.star_values.specs.declared.value.NamedValue.{NamedValue}

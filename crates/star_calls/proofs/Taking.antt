@@ -5,7 +5,7 @@ use Rattle.std.specs.Prelude.{OnSome}
 use Rattle.code_spec.specs.Code.{Name}
 use Rattle.value_spec.specs.Values as plain
 use Rattle.value_spec.specs.Values.{Fields}
-use Rattle.star_spec.specs.Binding.{has_field, or_default, field_of, without_field}
+use Rattle.value_spec.specs.Binding.{has_field, or_default, field_of, without_field}
 use Rattle.star_values.specs.View.{View, value_of, values_of}
 use Rattle.star_values.specs.declared.value.Value.{Value}
 use Rattle.star_calls.specs.Left.{Rest, got_by, named_behind, positions_behind, rest_behind}

@@ -10,7 +10,7 @@ use Rattle.value_spec.specs.Values as plain
 use Rattle.value_spec.specs.Values.{Fields, no_fields, arguments, values_from}
 use Rattle.value_spec.specs.Outcomes.{Ending, State, bad, done, give, or_fail, then_do, ◌>>=◌}
 use Rattle.value_spec.proofs.Computations.{then_ext}
-use Rattle.star_spec.specs.Binding.{bound, bound_values, has_twice, values_given}
+use Rattle.value_spec.specs.Binding.{bound, bound_values, has_twice, values_given}
 use Rattle.star_steps.specs.Meets.{state_in}
 use Rattle.star_values.specs.Owns.{Grows}
 use Rattle.star_values.specs.View.{View, fields_in}

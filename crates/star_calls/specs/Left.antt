@@ -10,7 +10,7 @@ use Rattle.value_spec.specs.Values as plain
 use Rattle.value_spec.specs.Values.{Fields, dict_value, no_fields, no_values, of_dict, values_from}
 use Rattle.value_spec.specs.Store.{with_object}
 use Rattle.value_spec.specs.Outcomes.{Computation, Ending, State, bad, give, or_fail, ◌>>=◌}
-use Rattle.star_spec.specs.Binding.{bound, field_of, has_twice, in_front, or_default, unless_named, values_given, without_field}
+use Rattle.value_spec.specs.Binding.{bound, field_of, has_twice, in_front, or_default, unless_named, values_given, without_field}
 use Rattle.star_values.specs.Owns.{Grows, Owns, OwnsAll, OwnsFields}
 use Rattle.star_values.specs.View.{View, fields_in, value_of, values_of}
 use Rattle.star_values.specs.declared.value.Value.{Value}

@@ -2,7 +2,7 @@
 ghost use Rattle.std.specs.Prelude.{◌≡◌, ℕ};
 ghost use Rattle.code_spec.specs.Code.{no_parameters};
 ghost use Rattle.object_arena.specs.Names.{OwnsAll, seen, values_of};
-ghost use Rattle.star_spec.specs.Binding.{bound_values};
+ghost use Rattle.value_spec.specs.Binding.{bound_values};
 ghost use Rattle.star_steps.specs.Meets.{state_in};
 ghost use Rattle.star_tree.specs.Whole.{parameters_of};
 ghost use Rattle.star_values.specs.Owns.{OwnsArguments};

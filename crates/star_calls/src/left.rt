@@ -1,6 +1,6 @@
 // What is left of the arguments, and what a parameter of a name gets.
 ghost use Rattle.std.specs.Prelude.{◌≡◌, ◌++◌, ◌∷◌, [], OnOk, OnSome};
-ghost use Rattle.star_spec.specs.Binding.{field_of, or_default, without_field};
+ghost use Rattle.value_spec.specs.Binding.{field_of, or_default, without_field};
 ghost use Rattle.star_values.specs.Owns.{OwnsFields, Owns, OwnsOption};
 ghost use Rattle.star_values.specs.View.{View, fields_in, option_in, value_of, values_of};
 ghost use Rattle.star_calls.specs.Left.{OwnsRest, got_by, rest_behind, rest_of};

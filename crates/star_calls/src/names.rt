@@ -1,6 +1,6 @@
 // Arguments by name.
 ghost use Rattle.std.specs.Prelude.{◌≡◌, MatchOption, length};
-ghost use Rattle.star_spec.specs.Binding.{field_of, has_field, has_twice, without_field};
+ghost use Rattle.value_spec.specs.Binding.{field_of, has_field, has_twice, without_field};
 ghost use Rattle.star_values.specs.Owns.{OwnsFields, OwnsOption};
 ghost use Rattle.star_values.specs.View.{View, fields_in, option_in};
 ghost use Rattle.star_calls.specs.Named.{NamedAt, OtherNames};

@@ -2,7 +2,7 @@
 ghost use Rattle.std.specs.Prelude.{◌≡◌, false};
 ghost use Rattle.object_arena.specs.Names.{OnOk, length, dict_value, of_dict, pairs_in, put_pair, seen, text_value, Each, Grows, Owns, OwnsFields, OwnsPair, fields_in, value_of, with_object};
 ghost use Rattle.object_arena.specs.Made.{MakesObject};
-ghost use Rattle.star_spec.specs.Binding.{has_twice, text_pairs};
+ghost use Rattle.value_spec.specs.Binding.{has_twice, text_pairs};
 ghost use Rattle.star_calls.specs.Left.{MakesDict};
 
 use indexmap::IndexMap;

@@ -1,5 +1,5 @@
 -- The run of a file that loads nothing: a box for each of its names, and then its blocks.
-use Rattle.std.proofs.Common.{◌≡◌, ℕ, List, [], ◌∷◌, length, option_map, Some, None, Result, Ok, Err, refl, sym, ap, ◌∙◌}
+use Rattle.std.proofs.Common.{◌≡◌, ℕ, List, [], ◌∷◌, length, option_map, Some, None, Result, Ok, Err, refl, sym, ap, subst, ◌∙◌}
 use Rattle.ytt_base.specs.declared.fault.Fault.{Fault}
 use Rattle.ytt_base.specs.declared.fault.FaultKind.TheVariants as kind
 use Rattle.ytt_base.specs.declared.fault.Stop.{Stop}
@@ -111,17 +111,15 @@ module _ (is : List Instruction) (depth made_before : ℕ) (before after : Sessi
   file_runs (Ok w) (Ok r) ran left = record {
     meaning = λ loads loader. file_ends loader depth is (state_of before) os g cut loads names (arena_of e.session) w nodes (state_of e.session) (result_of (arena_of after) r) (state_of after) ran
         ((λ i. ended (sym mark i) (sym scope i) (bottom_children nodes) (state_of e.session)) ∙ left.meaning);
-    owned = record {
-      documents = left.owned.documents;
-      globals = left.owned.globals;
-      grows = grows_then (arena_of before) (arena_of e.session) (arena_of after) grows left.owned.grows;
-    };
+    owned = left.owned;
+    grows = grows_then (arena_of before) (arena_of e.session) (arena_of after) grows left.grows;
   }
   file_runs (Ok w) (Err (stop.Fault f)) ran left = elim left [ ]
   file_runs (Err f) (Ok r) ran left = elim left [ ]
   file_runs (Err f) (Err (stop.Fault d)) ran left = record {
     meaning = λ loads loader. file_fails loader depth is (state_of before) os g cut loads names (arena_of e.session) f nodes (state_of e.session) ran ∙ (λ i. bad (sym left.0 i) (sym left.1 i));
     owned = tt;
+    grows = subst (Grows (arena_of before)) (sym left.2) grows;
   }
-  file_runs (Ok w) (Err stop.Memory) ran left = record { meaning = λ loads loader. tt; owned = tt }
-  file_runs (Err f) (Err stop.Memory) ran left = record { meaning = λ loads loader. tt; owned = tt }
+  file_runs (Ok w) (Err stop.Memory) ran left = record { meaning = λ loads loader. tt; owned = tt; grows = tt }
+  file_runs (Err f) (Err stop.Memory) ran left = record { meaning = λ loads loader. tt; owned = tt; grows = tt }

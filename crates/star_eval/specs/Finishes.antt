@@ -38,21 +38,27 @@ globals_of a vs = each (λ v. (v.name, value_of a v.value)) vs
 abbrev pub result_of : View → FileResult → PlainResult
 result_of a r = record { documents = built_in a.held r.documents; globals = globals_of a r.globals }
 
--- what a file gives is owned by this arena, which has grown from that one
-pub record Owned (a b : View) (r : FileResult) : Type 0 where
-  pub documents : OwnsBuilt b r.documents
-  pub globals : OwnsFields b r.globals
-  pub grows : Grows a b
+-- what a file gives is owned by this arena
+pub record Owned (a : View) (r : FileResult) : Type 0 where
+  pub documents : OwnsBuilt a r.documents
+  pub globals : OwnsFields a r.globals
+
+-- what holds of each result but want of memory
+abbrev pub UnlessMemory : {A : Type 0} → Result A Stop → Type 0 → Type 0
+UnlessMemory (Ok x) holds = holds
+UnlessMemory (Err (stop.Fault f)) holds = holds
+UnlessMemory (Err stop.Memory) holds = Unit {0}
 
 -- A file ends in this scope, with these children: it gives this, and all that it made is frozen.
 pub record EndsFile (made_before : ℕ) (env : Env) (children : Children) (after before : Session) (r : FileResult) : Type 0 where
   pub meaning : ended made_before env children (state_of before) ≡ done (result_of (arena_of after) r) (state_of after)
-  pub owned : Owned (arena_of before) (arena_of after) r
+  pub owned : Owned (arena_of after) r
+  pub grows : Grows (arena_of before) (arena_of after)
 
 -- what a file gives whose block ended with this flow or this fault; a fault leaves the session as the block did
 abbrev pub Leaves : (made_before : ℕ) → Finished → Result held.Flow Fault → Result FileResult Stop → (after : Session) → Type 0
 Leaves n e (Ok w) (Ok r) after = EndsFile n (env_in (arena_of e.session).held e.scope) (bottom_children (nodes_of (arena_of e.session) e.nodes)) after e.session r
 Leaves n e (Ok w) (Err (stop.Fault f)) after = ⊥
 Leaves n e (Err f) (Ok r) after = ⊥
-Leaves n e (Err f) (Err (stop.Fault g)) after = (g ≡ f) × (state_of after ≡ state_of e.session)
+Leaves n e (Err f) (Err (stop.Fault g)) after = (g ≡ f) × (state_of after ≡ state_of e.session) × (arena_of after ≡ arena_of e.session)
 Leaves n e _ (Err stop.Memory) after = Unit {0}

@@ -76,7 +76,8 @@ fn end(
 ) -> Result<FileResult, Memory>
     requires scope { OwnsEnv (arena_of session.old) scope.now }
     requires nodes { OwnsNodes (arena_of session.old) nodes }
-    ensures { IfOk result (EndsFile mark.at (env_in (arena_of session.old).held scope.now) (bottom_children (nodes_of (arena_of session.old) nodes)) session.new session.old) }
+    ensures ends { IfOk result (EndsFile mark.at (env_in (arena_of session.old).held scope.now) (bottom_children (nodes_of (arena_of session.old) nodes)) session.new session.old) }
+    ensures work { session.new.work ≡ session.old.work }
 {
     let globals = globals_of(alloc, &session.arena, scope)?;
     let documents = nodes.into_children();
@@ -86,8 +87,9 @@ fn end(
 
 /// Runs a program in a session, where it loads nothing and its scope has the names of its file, as `compile` of `template_program`
 /// gives it. The result is what the program means, from the objects and the steps that the session has: its documents and its
-/// globals, or the fault that it ends with, at its place; and the session is left with the objects and the steps that are left. All
-/// that the file made is frozen at its end, but not where it ends with a fault.
+/// globals, or the fault that it ends with, at its place; and the session is left with the objects and the steps that are left, and
+/// as deep as it was. What it held before stays what it was, after a fault too. All that the file made is frozen at its end, but not
+/// where it ends with a fault.
 ///
 /// A pair whose key stands already is `KeyTwice` with the key, a name that has no value yet `NameUnset` with the
 /// name, a value that an operator, a loop or a target isn't for `ValueKind`, an integer outside 128 bits
@@ -99,7 +101,8 @@ pub fn run_file(
     resolved: &Resolved,
     session: &mut Session,
 ) -> Result<FileResult, Stop>
-    ensures { resolved.now.globals ≡ each_once (program_names (program_of resolved.now.program)) → RunsAs (program_of resolved.now.program) session.old.work.depth result session.new session.old }
+    ensures runs { resolved.now.globals ≡ each_once (program_names (program_of resolved.now.program)) → RunsAs (program_of resolved.now.program) session.old.work.depth result session.new session.old }
+    ensures depth { session.new.work.depth ≡ session.old.work.depth }
 {
     let program = &resolved.program;
     let block = match nest(alloc, &program.code)? {
@@ -129,7 +132,8 @@ fn left(
 ) -> Result<FileResult, Stop>
     requires scope { OwnsEnv (arena_of finished.session) finished.scope }
     requires nodes { OwnsNodes (arena_of finished.session) finished.nodes }
-    ensures { Leaves mark.at finished finished.result result session.new }
+    ensures leaves { Leaves mark.at finished finished.result result session.new }
+    ensures depth { session.new.work.depth ≡ depth }
 {
     let Finished {
         session: after,

@@ -3,7 +3,8 @@ use Rattle.std.proofs.Common.{◌≡◌, ℕ, Bool, true, false, ◌||◌, List,
 use Rattle.std.proofs.lemmas.Slice.Eq.{bytes_eq-Decides}
 use Rattle.std.specs.Prelude.{bytes_eq}
 use Rattle.code_spec.specs.Allowed.{parameter_names}
-use Rattle.star_spec.specs.Binding.{bound_values, boxes_for}
+use Rattle.value_spec.specs.Binding.{bound_values}
+use Rattle.star_spec.specs.Binding.{boxes_for}
 use Rattle.code_spec.specs.Code.{Name}
 use Rattle.code_spec.specs.Options.{further, or_else}
 use Rattle.star_spec.specs.Names.{box_of, with_box, with_boxes}

@@ -4,7 +4,8 @@ use Rattle.std.specs.Prelude.{◌≡◌, ℕ, zero, suc, Bool, true, false, List
 use Rattle.std.specs.List.{list_any}
 use Rattle.ytt_base.specs.declared.fault.Place.{Place}
 use Rattle.code_spec.specs.Allowed.{are_distinct, parameter_names}
-use Rattle.star_spec.specs.Binding.{bound_values, boxes_for}
+use Rattle.value_spec.specs.Binding.{bound_values}
+use Rattle.star_spec.specs.Binding.{boxes_for}
 use Rattle.code_spec.specs.Code.{Name, Parameters}
 use Rattle.star_spec.specs.Names.{box_of, with_boxes}
 use Rattle.value_spec.specs.Outcomes.{State, done, on_store}

@@ -7,7 +7,8 @@ use Rattle.code_spec.specs.Code.{Name, Parameters, no_parameters, required, defa
 use Rattle.value_spec.specs.Outcomes.{State, Ending, done, bad, then_do, give, on_store, or_fail}
 use Rattle.value_spec.specs.Store.{with_object}
 use Rattle.value_spec.specs.Values.{Value, tuple_value, Values, no_values, a_value, Fields, no_fields, a_field, Arguments, arguments, Env, of_box}
-use Rattle.star_spec.specs.Binding.{Given, given, rest_given, all_bound, bound, bound_values, boxes_for, field_of, in_front, rest_in_front, has_twice, or_default, unless_named, value_given, values_given, without_field}
+use Rattle.value_spec.specs.Binding.{Given, given, rest_given, all_bound, bound, bound_values, field_of, in_front, rest_in_front, has_twice, or_default, unless_named, value_given, values_given, without_field}
+use Rattle.star_spec.specs.Binding.{boxes_for}
 
 abbrev pub given_names : List (Name × Given) → List Name
 given_names bs = each (λ (b : Name × Given). b.0) bs

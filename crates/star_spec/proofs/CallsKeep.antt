@@ -4,7 +4,8 @@ use Rattle.ytt_base.specs.declared.fault.Fault.{Fault}
 use Rattle.ytt_base.specs.declared.fault.FaultKind.TheVariants as kind
 use Rattle.ytt_base.specs.declared.fault.Place.{Place}
 use Rattle.code_spec.specs.Allowed.{parameter_names}
-use Rattle.star_spec.specs.Binding.{field_of, without_field, has_field, has_twice, or_default, Given, given, rest_given, in_front, rest_in_front, unless_named, bound, all_bound, text_pairs, value_given, values_given, bound_values, boxes_for, scope_of_call}
+use Rattle.value_spec.specs.Binding.{field_of, without_field, has_field, has_twice, or_default, Given, given, rest_given, in_front, rest_in_front, unless_named, bound, all_bound, text_pairs, value_given, values_given, bound_values}
+use Rattle.star_spec.specs.Binding.{boxes_for, scope_of_call}
 use Rattle.star_spec.specs.Calls.{Code, Table, parameters_of, names_of, Enter, enter_code, Reply, answer, call_then, Host, no_natives, resumed_with, after_reply, native_call, call_by_kind, no_keys, keys_by, with_keys, any_call, call_with_natives, function_of, function_call, too_deep, apply}
 use Rattle.code_spec.specs.Code.{Name, Expr, Exprs, BinaryOperator, Parameters, no_parameters, required, defaulted, bare_star, starred_parameter, double_starred_parameter, Statement, evaluate, assign, augment, load, return, break, continue, pass}
 use Rattle.star_spec.specs.Eval.{starlark}

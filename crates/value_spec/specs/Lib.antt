@@ -1,3 +1,4 @@
+pub mod Binding
 pub mod Built
 pub mod Keys
 pub mod Members

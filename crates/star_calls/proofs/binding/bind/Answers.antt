@@ -1,6 +1,6 @@
 use Rattle.std.proofs.Common.{◌≡◌, ap, subst, sym, ◌∙◌, false, true}
 use Rattle.object_arena.specs.Names.{OwnsAll, fields_in, seen, values_from, values_of}
-use Rattle.star_spec.specs.Binding.{has_twice}
+use Rattle.value_spec.specs.Binding.{has_twice}
 use Rattle.star_steps.specs.Meets.{state_in}
 use Rattle.star_tree.specs.Whole.{parameters_of}
 use Rattle.star_calls.specs.Left.{completed}

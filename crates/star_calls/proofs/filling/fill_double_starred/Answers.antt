@@ -1,6 +1,6 @@
 use Rattle.std.proofs.Common.{◌≡◌, ◌++◌, [], ◌∷◌, ap, subst, sym, ◌∙◌}
 use Rattle.object_arena.specs.Names.{OwnsFields, fields_in, of_dict, seen, with_object}
-use Rattle.star_spec.specs.Binding.{has_twice, text_pairs}
+use Rattle.value_spec.specs.Binding.{has_twice, text_pairs}
 use Rattle.star_steps.specs.Meets.{state_in}
 use Rattle.star_tree.specs.Whole.{parameters_of}
 use Rattle.star_values.proofs.Growing.{grows_same}

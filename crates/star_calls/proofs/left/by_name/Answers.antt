@@ -1,5 +1,5 @@
 use Rattle.std.proofs.Common.{ap}
-use Rattle.star_spec.specs.Binding.{or_default}
+use Rattle.value_spec.specs.Binding.{or_default}
 use Rattle.star_values.specs.View.{option_in}
 use Rattle.star_calls.proofs.left.by_name.Goals as goal
 

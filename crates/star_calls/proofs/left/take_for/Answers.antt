@@ -1,6 +1,6 @@
 use Rattle.std.proofs.Common.{ap, false, subst, sym, true, ◌∙◌}
 use Rattle.std.proofs.lemmas.List.{nil_from_length}
-use Rattle.star_spec.specs.Binding.{has_field, has_twice}
+use Rattle.value_spec.specs.Binding.{has_field, has_twice}
 use Rattle.star_values.specs.Owns.{OwnsAll}
 use Rattle.star_values.specs.View.{fields_in, option_in, values_of}
 use Rattle.star_calls.proofs.Named.{once_behind}

@@ -1,5 +1,5 @@
 use Rattle.std.proofs.Common.{◌≡◌, length}
-use Rattle.star_spec.specs.Binding.{has_field}
+use Rattle.value_spec.specs.Binding.{has_field}
 use Rattle.star_values.specs.View.{View, fields_in}
 use Rattle.star_calls.proofs.names.has_name.Given as goal
 

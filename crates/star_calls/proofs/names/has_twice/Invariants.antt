@@ -1,5 +1,5 @@
 use Rattle.std.proofs.Common.{◌≡◌, length}
-use Rattle.star_spec.specs.Binding.{has_twice}
+use Rattle.value_spec.specs.Binding.{has_twice}
 use Rattle.star_values.specs.View.{View, fields_in}
 use Rattle.star_calls.proofs.names.has_twice.Given as goal
 

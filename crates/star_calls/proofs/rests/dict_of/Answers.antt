@@ -1,7 +1,7 @@
 use Rattle.std.proofs.lemmas.List.{nil_from_length}
 use Rattle.std.proofs.Common.{◌≡◌, Err, [], ap, refl, rules, subst, sym, ◌∙◌}
 use Rattle.object_arena.specs.Names.{Each, OwnsFields, OwnsPair, fields_in, pairs_in, seen, value_of}
-use Rattle.star_spec.specs.Binding.{text_pairs}
+use Rattle.value_spec.specs.Binding.{text_pairs}
 use Rattle.star_values.proofs.Growing.{grows_same, grows_then}
 use Rattle.star_calls.proofs.Dicts.{Put, all_put, none_put, put_more}
 use Rattle.star_calls.proofs.Made.{made_all, made_none}

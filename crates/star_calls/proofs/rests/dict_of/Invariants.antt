@@ -1,6 +1,6 @@
 use Rattle.std.proofs.Common.{◌≡◌, length}
 use Rattle.object_arena.specs.Names.{Each, Grows, OwnsFields, OwnsPair, fields_in, pairs_in, seen}
-use Rattle.star_spec.specs.Binding.{text_pairs}
+use Rattle.value_spec.specs.Binding.{text_pairs}
 use Rattle.star_calls.proofs.Dicts.{Put}
 use Rattle.star_calls.proofs.rests.dict_of.Given as goal
 

@@ -7,8 +7,8 @@ use Rattle.star_eval.specs.declared.session.Session.{Session}
 use Rattle.star_eval.specs.Meets.{arena_of}
 use Rattle.star_eval.proofs.file.end.Goals as goal
 
-pub returns : goal.returns
-returns c =
+pub returns-clause-ends : goal.returns-clause-ends
+returns-clause-ends c =
     let before = c.args.session.now in
     let a = arena_of before in
     let s : Session = record { arena = c.freeze_since.new.self; work = before.work } in
@@ -23,6 +23,6 @@ returns c =
       owned = record {
         documents = (built_kept a b items frozen.grows (c.into_children-documents.ensures.owned a c.requires.nodes)).0;
         globals = (fields_kept a b gs frozen.grows c.in_ok-globals.ensures.owned).0;
-        grows = frozen.grows;
       };
+      grows = frozen.grows;
     }

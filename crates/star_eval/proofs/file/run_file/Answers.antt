@@ -11,15 +11,16 @@ use Rattle.star_spec.specs.Calls.{no_natives}
 use Rattle.star_spec.specs.Eval.{starlark}
 use Rattle.star_steps.specs.Meets.{Meets}
 use Rattle.star_tree.specs.Whole.{program_of}
-use Rattle.star_values.proofs.Growing.{grows_then}
+use Rattle.star_values.proofs.Growing.{grows_same, grows_then}
 use Rattle.star_values.specs.Objects.{env_in}
 use Rattle.star_values.specs.Owns.{Grows}
 use Rattle.template_meaning.specs.Calls.{bottom, ops_function, program_calls}
 use Rattle.template_meaning.specs.Meaning.{RunFile}
 use Rattle.template_meaning.specs.Run.{runs}
+use Rattle.star_eval.specs.declared.file.FileResult.{FileResult}
 use Rattle.star_eval.specs.declared.session.Session.{Session}
 use Rattle.star_eval.specs.Calling.{calls_at}
-use Rattle.star_eval.specs.Finishes.{result_of}
+use Rattle.star_eval.specs.Finishes.{UnlessMemory, result_of}
 use Rattle.star_eval.specs.Frames.{flow_ending_of}
 use Rattle.star_eval.specs.Meets.{arena_of, in_store, state_of}
 use Rattle.star_eval.proofs.FileRuns.{broken_run, file_runs, same_calls}
@@ -28,8 +29,8 @@ use Rattle.star_eval.proofs.file.run_file.Goals as goal
 pub run_block-requires-clause-nodes : goal.run_block-requires-clause-nodes
 run_block-requires-clause-nodes c = c.new-nodes.ensures.owned (arena_of c.replace-own.result)
 
-pub returns-in-None : goal.returns-in-None
-returns-in-None c = λ globals.
+pub returns-in-None-clause-runs : goal.returns-in-None-clause-runs
+returns-in-None-clause-runs c = λ globals.
     let p = c.args.resolved.now.program in
     let before = c.args.session.now in
     let none : blocks (program_of p) ≡ None = sym (c.in_ok-block.ensures p.file) ∙ ap (option_map (ops_of p.file)) c.in-None.is in
@@ -37,10 +38,11 @@ returns-in-None c = λ globals.
       meaning = λ loads loader. subst (λ (x : Stop). Meets (result_of (arena_of before)) (Err x) (state_of before) (RunFile starlark no_natives loader (λ f. program_of p) before.work.depth (program_of p) (state_of before)))
           (sym c.ill_formed.ensures) (broken_run loader before.work.depth (program_of p) (state_of before) none);
       owned = tt;
+      grows = subst (λ (x : Stop). UnlessMemory (Err {A = FileResult} x) (Grows (arena_of before) (arena_of before))) (sym c.ill_formed.ensures) (grows_same (arena_of before));
     }
 
-pub returns : goal.returns
-returns c = λ globals.
+pub returns-clause-runs : goal.returns-clause-runs
+returns-clause-runs c = λ globals.
     let p = c.args.resolved.now.program in
     let g = c.args.resolved.now.globals in
     let is = program_of p in
@@ -64,4 +66,4 @@ returns c = λ globals.
     ∙ (λ i. runs starlark (sym call i) os (opened.env i) (c.new-nodes.ensures.meaning (arena_of s) i) (in_store (opened.store i) before.work.steps)) in
     let variables = ended.env ∙ (λ i. env_in (arena_of (own i)).held scope) ∙ opened.env in
     let grows = grows_then (arena_of before) (arena_of s) a c.in_ok-scope.ensures.grows (subst (λ (x : Session). Grows (arena_of x) a) own ended.grows) in
-    file_runs is depth c.mark-mark.result.at before c.left.new.session os g e cut (globals ∙ ap (λ b. each_once (names_of_file b)) cut) c.mark-mark.ensures variables grows e.result c.left.result ran c.left.ensures
+    file_runs is depth c.mark-mark.result.at before c.left.new.session os g e cut (globals ∙ ap (λ b. each_once (names_of_file b)) cut) c.mark-mark.ensures variables grows e.result c.left.result ran c.left.ensures.leaves

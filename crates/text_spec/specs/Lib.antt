@@ -1,0 +1,9 @@
+pub mod Answers
+pub mod Classes
+pub mod Cutting
+pub mod Fields
+pub mod Methods
+pub mod Percent
+pub mod Places
+pub mod Shown
+pub mod Signatures
