@@ -10,3 +10,4 @@ pub mod Opened
 pub mod Behind
 pub mod Called
 pub mod Stars
+pub mod Signatures

@@ -63,7 +63,7 @@ fn fill_all(
 }
 
 /// The values that were got, where nothing is left.
-fn all_taken(arena: &Arena, left: Left<'_>, at: Place) -> Result<Values, Stop>
+pub(crate) fn all_taken(arena: &Arena, left: Left<'_>, at: Place) -> Result<Values, Stop>
     requires { OwnsRest (seen arena.now) left }
     ensures { (n : ℕ) → GivesAll (completed at no_parameters (rest_of (seen arena.now) left.entry) (state_in (seen arena.now) n)) result (seen arena.now) (seen arena.now) n }
 {

@@ -42,7 +42,7 @@ pub(crate) fn fill(
 }
 
 /// A parameter of a name, with this default if it has one.
-fn fill_named(
+pub(crate) fn fill_named(
     arena: &Arena,
     name: &str,
     default: Option<Value>,
@@ -64,7 +64,7 @@ fn fill_named(
 }
 
 /// A parameter of a name that has the first of the defaults that are left. Without one it is refused.
-fn fill_defaulted(arena: &Arena, name: &str, left: &mut Left<'_>, at: Place) -> Filled
+pub(crate) fn fill_defaulted(arena: &Arena, name: &str, left: &mut Left<'_>, at: Place) -> Filled
     requires { OwnsRest (seen arena.now) left.old }
     ensures fills { (n : ℕ) (qs : List Parameter) (e : Expr) → Fills result (completed at (parameters_from (default_part name.now e ∷ qs)) (rest_of (seen arena.now) left.old) (state_in (seen arena.now) n)) (completed at (parameters_from qs) (rest_of (seen arena.now) left.new) (state_in (seen arena.now) n)) (state_in (seen arena.now) n) }
     ensures owns { OnOk result (OwnsRest (seen arena.now) left.new) }

@@ -7,7 +7,8 @@
 //! `bind` gives the values that the parameters get, in their order: the arguments by position first, then those by name,
 //! then the defaults. A star takes the positions that are left, as a tuple, and two stars the names that are left, as a new
 //! dict. Where a parameter gets nothing, or an argument has no parameter, or a name is given twice, it refuses with `ArgBind`,
-//! and no dict is made.
+//! and no dict is made. `bind_named` does the same for the parameters of the language's own functions, which are None where they
+//! may be left out and aren't given.
 #![tactic(auto)]
 
 mod arguments;
@@ -19,9 +20,11 @@ mod names;
 mod own;
 mod rests;
 mod scopes;
+mod signature;
 mod spread;
 
 pub use arguments::{ArgumentForm, add_argument};
 pub use binding::bind;
 pub use call::call_scope;
 pub use scopes::open_scope;
+pub use signature::bind_named;

@@ -4,7 +4,7 @@ use Rattle.ytt_base.specs.declared.fault.FaultKind.TheVariants as kind
 use Rattle.ytt_base.specs.declared.fault.Place.{Place}
 use Rattle.code_spec.specs.Code.{Name}
 use Rattle.operator_spec.specs.Operators.{begins_with}
-use Rattle.value_spec.specs.Binding.{bound_values}
+use Rattle.value_spec.specs.Binding.{bound_values, none_for_each, parameters_named}
 use Rattle.value_spec.specs.Outcomes.{Computation, fail_with, or_fail, reads, ◌>>=◌}
 use Rattle.value_spec.specs.Values.{Value, text_value, Arguments}
 use Rattle.text_spec.specs.Answers.{Answer, one_text, one_test, one_number, some_texts, three_texts, nowhere, answered}
@@ -12,7 +12,7 @@ use Rattle.text_spec.specs.Classes.{capitalized, characters, is_all, is_cased, i
 use Rattle.text_spec.specs.Cutting.{joined_by, lines, pieces, pieces_back, pieces_between, strip_back, strip_front, white_space, without_prefix, without_suffix, words, words_back}
 use Rattle.text_spec.specs.Fields.{format}
 use Rattle.text_spec.specs.Places.{bounds, ends_with, first_of, first_place, last_of, last_place}
-use Rattle.text_spec.specs.Signatures.{Kind, text_kind, separator, optional_text, optional_separator, optional_integer, optional_bool, text_or_texts, text_members, Operand, absent, of_text, of_integer, of_bool, of_texts, none_for_each, parameters_named, read_all}
+use Rattle.text_spec.specs.Signatures.{Kind, text_kind, separator, optional_text, optional_separator, optional_integer, optional_bool, text_or_texts, text_members, Operand, absent, of_text, of_integer, of_bool, of_texts, read_all}
 
 -- ---- searches
 

@@ -1,31 +1,7 @@
--- What arguments a method takes, by place or by name, and as what each is read.
-use Rattle.std.specs.Prelude.{ℕ, ℤ, Bool, List, [], ◌∷◌, Option, Some, None, option_map, option_and_then, codes}
-use Rattle.ytt_base.specs.declared.fault.Place.{Place}
-use Rattle.code_spec.specs.Code.{Name, Expr, name, Parameters, no_parameters, required, defaulted}
-use Rattle.ytt_base.specs.Outcomes.{first_place}
+-- As what the arguments of a method are read.
+use Rattle.std.specs.Prelude.{ℕ, ℤ, Bool, List, [], ◌∷◌, Option, Some, None, option_map, option_and_then}
 use Rattle.value_spec.specs.Members.{as_text, members_in}
 use Rattle.value_spec.specs.Values.{Value, none_value, bool_value, int_value, text_value, tuple_value, values_in, Store}
-
--- ---- parameters
-
--- None, which an argument has that isn't given
-abbrev pub none_given : Expr
-none_given = name first_place (codes "None")
-
-abbrev pub optional_parameters : List Name → Parameters
-optional_parameters [] = no_parameters
-optional_parameters (x ∷ xs) = defaulted x none_given (optional_parameters xs)
-
--- as those of a function: these must be given, and those may be
-abbrev pub parameters_named : (needed optional : List Name) → Parameters
-parameters_named [] ys = optional_parameters ys
-parameters_named (x ∷ xs) ys = required x (parameters_named xs ys)
-
-abbrev pub none_for_each : List Name → List Value
-none_for_each [] = []
-none_for_each (x ∷ xs) = none_value ∷ none_for_each xs
-
--- ---- what an argument is read as
 
 -- a text; one that isn't empty; the same two, or None; an integer or a bool, or None; a text or a tuple of texts; and
 -- what has members, each of which is a text

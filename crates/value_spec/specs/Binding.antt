@@ -1,9 +1,10 @@
 -- How the arguments of a call are bound to parameters.
-use Rattle.std.specs.Prelude.{Bool, false, ◌||◌, List, [], ◌∷◌, Option, Some, None, if◌then◌else◌, bytes_eq}
+use Rattle.std.specs.Prelude.{Bool, false, ◌||◌, List, [], ◌∷◌, Option, Some, None, if◌then◌else◌, bytes_eq, codes}
 use Rattle.ytt_base.specs.declared.fault.FaultKind.TheVariants as kind
 use Rattle.ytt_base.specs.declared.fault.Place.{Place}
-use Rattle.code_spec.specs.Code.{Name, Parameters, no_parameters, required, defaulted, bare_star, starred_parameter, double_starred_parameter}
-use Rattle.value_spec.specs.Values.{Value, text_value, tuple_value, dict_value, Values, no_values, a_value, Fields, no_fields, a_field, Arguments, arguments, of_dict}
+use Rattle.ytt_base.specs.Outcomes.{first_place}
+use Rattle.code_spec.specs.Code.{Expr, name, Name, Parameters, no_parameters, required, defaulted, bare_star, starred_parameter, double_starred_parameter}
+use Rattle.value_spec.specs.Values.{Value, none_value, text_value, tuple_value, dict_value, Values, no_values, a_value, Fields, no_fields, a_field, Arguments, arguments, of_dict}
 use Rattle.value_spec.specs.Outcomes.{Computation, give, or_fail, new_object, ◌>>=◌}
 
 -- ---- arguments by name
@@ -91,3 +92,22 @@ values_given (b ∷ bs) = do
 -- the values that the parameters of a call get
 abbrev pub bound_values : {H : Type 0} → Place → Parameters → (defaults : List Value) → Arguments → Computation H (List Value)
 bound_values p ps ds vs = or_fail kind.ArgBind p (all_bound ps ds vs) >>= values_given
+
+-- ---- parameters of the language's own functions
+
+-- None, which an argument has that isn't given
+abbrev pub none_given : Expr
+none_given = name first_place (codes "None")
+
+abbrev pub optional_parameters : List Name → Parameters
+optional_parameters [] = no_parameters
+optional_parameters (x ∷ xs) = defaulted x none_given (optional_parameters xs)
+
+-- as those of a function: these must be given, and those may be
+abbrev pub parameters_named : (needed optional : List Name) → Parameters
+parameters_named [] ys = optional_parameters ys
+parameters_named (x ∷ xs) ys = required x (parameters_named xs ys)
+
+abbrev pub none_for_each : List Name → List Value
+none_for_each [] = []
+none_for_each (x ∷ xs) = none_value ∷ none_for_each xs
