@@ -3,10 +3,10 @@
 use Rattle.std.specs.Prelude.{ℕ, zero, ◌+◌, ◌/◌, ℤ, Bool, List, [], ◌∷◌, length}
 use Rattle.ytt_base.specs.declared.fault.FaultKind.TheVariants as kind
 use Rattle.ytt_base.specs.declared.fault.Place.{Place}
-use Rattle.operator_spec.specs.Operators.{tuple_of}
+use Rattle.operator_spec.specs.Operators.{int_of, tuple_of}
 use Rattle.value_spec.specs.Members.{count_in}
 use Rattle.value_spec.specs.Outcomes.{Computation, fail, give, new_list, paid_by, reads, ◌>>=◌}
-use Rattle.value_spec.specs.Values.{Value, bool_value, int_value, text_value, Store}
+use Rattle.value_spec.specs.Values.{Value, bool_value, text_value, Store}
 
 -- ---- the cost of an operation
 
@@ -31,13 +31,13 @@ paid_operation p vs bytes members m = reads (operation_cost vs bytes members) >>
 
 -- ---- answers
 
--- a text, a test, a number, a list of texts, a tuple of three texts; or nothing, since what was sought isn't there
+-- a text, a test, a number, a list or a tuple of texts; or nothing, since what was sought isn't there
 pub data Answer : Type 0 where
   one_text : List ℕ → Answer
   one_test : Bool → Answer
   one_number : ℤ → Answer
-  some_texts : List (List ℕ) → Answer
-  three_texts : (first second third : List ℕ) → Answer
+  text_list : List (List ℕ) → Answer
+  text_tuple : List (List ℕ) → Answer
   nowhere : Answer
 
 abbrev pub answer_bytes : Answer → ℕ
@@ -45,8 +45,8 @@ answer_bytes (one_text t) = length t
 answer_bytes _ = 0
 
 abbrev pub answer_members : Answer → ℕ
-answer_members (some_texts ts) = length ts
-answer_members (three_texts a b c) = 3
+answer_members (text_list ts) = length ts
+answer_members (text_tuple ts) = length ts
 answer_members _ = 0
 
 abbrev pub text_values : List (List ℕ) → List Value
@@ -56,10 +56,11 @@ text_values (t ∷ ts) = text_value t ∷ text_values ts
 abbrev pub give_answer : {H : Type 0} → Place → Answer → Computation H Value
 give_answer p (one_text t) = give (text_value t)
 give_answer p (one_test b) = give (bool_value b)
-give_answer p (one_number z) = give (int_value z)
-give_answer p (some_texts ts) = new_list (text_values ts)
-give_answer p (three_texts a b c) = give (tuple_of (text_values (a ∷ b ∷ c ∷ [])))
+give_answer p (one_number z) = int_of p z
+give_answer p (text_list ts) = new_list (text_values ts)
+give_answer p (text_tuple ts) = give (tuple_of (text_values ts))
 give_answer p nowhere = fail kind.KeyMissing p
 
-abbrev pub answered : {H : Type 0} → Place → List Value → Answer → Computation H Value
-answered p vs a = paid_operation p vs (answer_bytes a) (answer_members a) (give_answer p a)
+-- an answer, behind its cost
+abbrev pub paid_answer : {H : Type 0} → Place → (operands : List Value) → Answer → Computation H Answer
+paid_answer p vs a = paid_operation p vs (answer_bytes a) (answer_members a) (give a)

@@ -7,3 +7,4 @@ pub mod Percent
 pub mod Places
 pub mod Shown
 pub mod Signatures
+pub mod Texts

@@ -7,12 +7,12 @@ use Rattle.operator_spec.specs.Operators.{begins_with}
 use Rattle.value_spec.specs.Binding.{bound_values, none_for_each, parameters_named}
 use Rattle.value_spec.specs.Outcomes.{Computation, fail_with, or_fail, reads, ◌>>=◌}
 use Rattle.value_spec.specs.Values.{Value, text_value, Arguments}
-use Rattle.text_spec.specs.Answers.{Answer, one_text, one_test, one_number, some_texts, three_texts, nowhere, answered}
+use Rattle.text_spec.specs.Answers.{Answer, one_text, one_test, one_number, text_list, text_tuple, nowhere, give_answer, paid_answer}
 use Rattle.text_spec.specs.Classes.{capitalized, characters, is_all, is_cased, is_digit, is_letter, is_letter_or_digit, is_lower, is_space, is_upper, lowered, uppered}
 use Rattle.text_spec.specs.Cutting.{joined_by, lines, pieces, pieces_back, pieces_between, strip_back, strip_front, white_space, without_prefix, without_suffix, words, words_back}
 use Rattle.text_spec.specs.Fields.{format}
 use Rattle.text_spec.specs.Places.{bounds, ends_with, first_of, first_place, last_of, last_place}
-use Rattle.text_spec.specs.Signatures.{Kind, text_kind, separator, optional_text, optional_separator, optional_integer, optional_bool, text_or_texts, text_members, Operand, absent, of_text, of_integer, of_bool, of_texts, read_all}
+use Rattle.text_spec.specs.Signatures.{Kind, no_kind, text_kind, separator, optional_text, optional_separator, optional_integer, optional_bool, text_or_texts, text_members, Kinds, Operand, of_text, Operands, bool_in, integer_or, read_operands, text_in, texts_in}
 
 -- ---- searches
 
@@ -26,11 +26,6 @@ pub data Sought : Type 0 where
 abbrev pub place_of : (count : ℕ) → ℤ → ℕ
 place_of n (pos i) = min i n
 place_of n (negsuc i) = n - suc i
-
--- a bound that is given, or this one
-abbrev pub bound_or : ℤ → Operand → ℤ
-bound_or z (of_integer y) = y
-bound_or z _ = z
 
 -- the first place from one to another at which the text occurs, the last, and how many occurrences stand there apart
 abbrev pub first_between : (part text : List ℕ) → (from to : ℕ) → Option ℕ
@@ -70,73 +65,62 @@ sought_from w must_be x t a b =
 
 -- ---- what the rows answer
 
--- what never comes, since each argument is read by its kind
-abbrev pub no_answer : Answer
-no_answer = nowhere
-
-abbrev pub search_row : Sought → (must_be : Bool) → List ℕ → List Operand → Answer
-search_row w must_be t (of_text x ∷ a ∷ b ∷ []) = sought_from w must_be x t (bound_or (pos 0) a) (bound_or (pos (length t)) b)
-search_row w must_be t _ = no_answer
+abbrev pub search_row : Sought → (must_be : Bool) → List ℕ → Operands → Answer
+search_row w must_be t os = sought_from w must_be (text_in os.first) t (integer_or (pos 0) os.second) (integer_or (pos (length t)) os.third)
 
 abbrev pub some_of : (List ℕ → Bool) → List (List ℕ) → Bool
 some_of f [] = false
 some_of f (x ∷ xs) = f x || some_of f xs
 
-abbrev pub edge_row : (List ℕ → List ℕ → Bool) → List ℕ → List Operand → Answer
-edge_row f t (of_texts xs ∷ []) = one_test (some_of (λ x. f x t) xs)
-edge_row f t _ = no_answer
+abbrev pub edge_row : (List ℕ → List ℕ → Bool) → List ℕ → Operands → Answer
+edge_row f t os = one_test (some_of (λ x. f x t) (texts_in os.first))
 
-abbrev pub without_row : (List ℕ → List ℕ → List ℕ) → List ℕ → List Operand → Answer
-without_row f t (of_text x ∷ []) = one_text (f x t)
-without_row f t _ = no_answer
+abbrev pub without_row : (List ℕ → List ℕ → List ℕ) → List ℕ → Operands → Answer
+without_row f t os = one_text (f (text_in os.first) t)
 
 -- how many at most: as many as the text can have, where no number is given or a negative one
-abbrev pub limit_of : (most : ℕ) → Operand → ℕ
-limit_of n (of_integer (pos k)) = min k n
-limit_of n _ = n
+abbrev pub limit_of : (most : ℕ) → ℤ → ℕ
+limit_of n (pos k) = min k n
+limit_of n (negsuc k) = n
 
-abbrev pub replace_row : List ℕ → List Operand → Answer
-replace_row t (of_text x ∷ of_text y ∷ n ∷ []) = one_text (joined_by y (pieces_between x (limit_of (suc (length t)) n) t))
-replace_row t _ = no_answer
+abbrev pub limit_in : List ℕ → Operand → ℕ
+limit_in t o = limit_of (suc (length t)) (integer_or (negsuc 0) o)
 
-abbrev pub join_row : List ℕ → List Operand → Answer
-join_row t (of_texts xs ∷ []) = one_text (joined_by t xs)
-join_row t _ = no_answer
+abbrev pub replace_row : List ℕ → Operands → Answer
+replace_row t os = one_text (joined_by (text_in os.second) (pieces_between (text_in os.first) (limit_in t os.third) t))
+
+abbrev pub join_row : List ℕ → Operands → Answer
+join_row t os = one_text (joined_by t (texts_in os.first))
 
 -- the text around a place of another, or the whole of it on one side
 abbrev pub parts_at : (part text : List ℕ) → (otherwise : Answer) → Option ℕ → Answer
 parts_at x t otherwise None = otherwise
-parts_at x t otherwise (Some i) = three_texts (take i t) x (drop (i + length x) t)
+parts_at x t otherwise (Some i) = text_tuple (take i t ∷ x ∷ drop (i + length x) t ∷ [])
 
-abbrev pub partition_row : List ℕ → List Operand → Answer
-partition_row t (of_text x ∷ []) = parts_at x t (three_texts t [] []) (first_place x t)
-partition_row t _ = no_answer
+abbrev pub partition_row : List ℕ → Operands → Answer
+partition_row t os = parts_at (text_in os.first) t (text_tuple (t ∷ [] ∷ [] ∷ [])) (first_place (text_in os.first) t)
 
-abbrev pub partition_back_row : List ℕ → List Operand → Answer
-partition_back_row t (of_text x ∷ []) = parts_at x t (three_texts [] [] t) (last_place x t)
-partition_back_row t _ = no_answer
+abbrev pub partition_back_row : List ℕ → Operands → Answer
+partition_back_row t os = parts_at (text_in os.first) t (text_tuple ([] ∷ [] ∷ t ∷ [])) (last_place (text_in os.first) t)
 
-abbrev pub split_row : (words : ℕ → List ℕ → List (List ℕ)) → (cut : List ℕ → ℕ → List ℕ → List (List ℕ)) → List ℕ → List Operand → Answer
-split_row words cut t (absent ∷ n ∷ []) = some_texts (words (limit_of (suc (length t)) n) t)
-split_row words cut t (of_text x ∷ n ∷ []) = some_texts (cut x (limit_of (suc (length t)) n) t)
-split_row words cut t _ = no_answer
+abbrev pub split_by : List (List ℕ) → (List ℕ → List (List ℕ)) → (separator : List ℕ) → List (List ℕ)
+split_by words cut [] = words
+split_by words cut (b ∷ x) = cut (b ∷ x)
 
-abbrev pub is_kept : Operand → Bool
-is_kept (of_bool b) = b
-is_kept _ = false
+-- into words where no separator is given, which is never empty
+abbrev pub split_row : (words : ℕ → List ℕ → List (List ℕ)) → (cut : List ℕ → ℕ → List ℕ → List (List ℕ)) → List ℕ → Operands → Answer
+split_row words cut t os = text_list (split_by (words (limit_in t os.second) t) (λ x. cut x (limit_in t os.second) t) (text_in os.first))
 
-abbrev pub lines_row : List ℕ → List Operand → Answer
-lines_row t (keep ∷ []) = some_texts (lines (is_kept keep) (length t) t)
-lines_row t _ = no_answer
+abbrev pub lines_row : List ℕ → Operands → Answer
+lines_row t os = text_list (lines (bool_in os.first) (length t) t)
 
 -- the characters that are stripped: those of a text, or white space
 abbrev pub set_of : Operand → List (List ℕ)
 set_of (of_text x) = characters x
 set_of _ = white_space
 
-abbrev pub strip_row : (List (List ℕ) → List ℕ → List ℕ) → List ℕ → List Operand → Answer
-strip_row f t (set ∷ []) = one_text (f (set_of set) t)
-strip_row f t _ = no_answer
+abbrev pub strip_row : (List (List ℕ) → List ℕ → List ℕ) → List ℕ → Operands → Answer
+strip_row f t os = one_text (f (set_of os.first) t)
 
 abbrev pub stripped_front : List (List ℕ) → List ℕ → List ℕ
 stripped_front cs t = strip_front (length t) cs t
@@ -153,32 +137,44 @@ stripped cs t = stripped_back cs (stripped_front cs t)
 pub record Method : Type 0 where
   pub needed : List Name
   pub optional : List Name
-  pub kinds : List Kind
-  pub answer : List ℕ → List Operand → Answer
+  pub kinds : Kinds
+  pub answer : List ℕ → Operands → Answer
 
-abbrev pub method_with : (needed optional : List Name) → List Kind → (List ℕ → List Operand → Answer) → Method
+abbrev pub kinds_of : (first second third : Kind) → Kinds
+kinds_of a b c = record { first = a; second = b; third = c }
+
+abbrev pub method_with : (needed optional : List Name) → Kinds → (List ℕ → Operands → Answer) → Method
 method_with xs ys ks f = record { needed = xs; optional = ys; kinds = ks; answer = f }
 
 abbrev pub searching : Sought → (must_be : Bool) → Method
-searching w must_be = method_with (codes "sub" ∷ []) (codes "start" ∷ codes "end" ∷ []) (text_kind ∷ optional_integer ∷ optional_integer ∷ []) (search_row w must_be)
+searching w must_be = method_with (codes "sub" ∷ []) (codes "start" ∷ codes "end" ∷ []) (kinds_of text_kind optional_integer optional_integer) (search_row w must_be)
 
-abbrev pub of_one : Kind → (List ℕ → List Operand → Answer) → Method
-of_one k f = method_with (codes "x" ∷ []) [] (k ∷ []) f
+abbrev pub of_one : Kind → (List ℕ → Operands → Answer) → Method
+of_one k f = method_with (codes "x" ∷ []) [] (kinds_of k no_kind no_kind) f
 
-abbrev pub partitioning : (List ℕ → List Operand → Answer) → Method
-partitioning f = method_with (codes "sep" ∷ []) [] (separator ∷ []) f
+abbrev pub replacing : Method
+replacing = method_with (codes "a" ∷ codes "b" ∷ []) (codes "n" ∷ []) (kinds_of text_kind text_kind optional_integer) replace_row
+
+abbrev pub partitioning : (List ℕ → Operands → Answer) → Method
+partitioning f = method_with (codes "sep" ∷ []) [] (kinds_of separator no_kind no_kind) f
 
 abbrev pub splitting : (ℕ → List ℕ → List (List ℕ)) → (List ℕ → ℕ → List ℕ → List (List ℕ)) → Method
-splitting words cut = method_with [] (codes "sep" ∷ codes "n" ∷ []) (optional_separator ∷ optional_integer ∷ []) (split_row words cut)
+splitting words cut = method_with [] (codes "sep" ∷ codes "n" ∷ []) (kinds_of optional_separator optional_integer no_kind) (split_row words cut)
+
+abbrev pub by_lines : Method
+by_lines = method_with [] (codes "keep" ∷ []) (kinds_of optional_bool no_kind no_kind) lines_row
 
 abbrev pub stripping : (List (List ℕ) → List ℕ → List ℕ) → Method
-stripping f = method_with [] (codes "chars" ∷ []) (optional_text ∷ []) (strip_row f)
+stripping f = method_with [] (codes "chars" ∷ []) (kinds_of optional_text no_kind no_kind) (strip_row f)
+
+abbrev pub without_arguments : (List ℕ → Answer) → Method
+without_arguments f = method_with [] [] (kinds_of no_kind no_kind no_kind) (λ t os. f t)
 
 abbrev pub changing : (List ℕ → List ℕ) → Method
-changing f = method_with [] [] [] (λ t os. one_text (f t))
+changing f = without_arguments (λ t. one_text (f t))
 
 abbrev pub testing : (List ℕ → Bool) → Method
-testing f = method_with [] [] [] (λ t os. one_test (f t))
+testing f = without_arguments (λ t. one_test (f t))
 
 abbrev pub text_methods : List (Name × Method)
 text_methods =
@@ -186,11 +182,11 @@ text_methods =
     ∷ (codes "index", searching first true) ∷ (codes "rindex", searching last true)
     ∷ (codes "startswith", of_one text_or_texts (edge_row begins_with)) ∷ (codes "endswith", of_one text_or_texts (edge_row ends_with))
     ∷ (codes "removeprefix", of_one text_kind (without_row without_prefix)) ∷ (codes "removesuffix", of_one text_kind (without_row without_suffix))
-    ∷ (codes "replace", method_with (codes "a" ∷ codes "b" ∷ []) (codes "n" ∷ []) (text_kind ∷ text_kind ∷ optional_integer ∷ []) replace_row)
+    ∷ (codes "replace", replacing)
     ∷ (codes "join", of_one text_members join_row)
     ∷ (codes "partition", partitioning partition_row) ∷ (codes "rpartition", partitioning partition_back_row)
     ∷ (codes "split", splitting words pieces) ∷ (codes "rsplit", splitting words_back pieces_back)
-    ∷ (codes "splitlines", method_with [] (codes "keep" ∷ []) (optional_bool ∷ []) lines_row)
+    ∷ (codes "splitlines", by_lines)
     ∷ (codes "strip", stripping stripped) ∷ (codes "lstrip", stripping stripped_front) ∷ (codes "rstrip", stripping stripped_back)
     ∷ (codes "lower", changing lowered) ∷ (codes "upper", changing uppered) ∷ (codes "capitalize", changing capitalized)
     ∷ (codes "isalnum", testing (is_all is_letter_or_digit)) ∷ (codes "isalpha", testing (is_all is_letter))
@@ -204,12 +200,16 @@ method_in x (m ∷ ms) = if bytes_eq x m.0 then Some m.1 else method_in x ms
 
 -- ---- a call
 
--- the arguments are bound, and then each is read; the answer stands behind its cost
+-- each argument is read, and the answer stands behind its cost
+abbrev pub method_answer : {H : Type 0} → Place → Method → List ℕ → List Value → Computation H Answer
+method_answer p m t vs = reads (λ store. read_operands store m.kinds vs) >>= or_fail kind.ValueKind p >>= λ os. paid_answer p (text_value t ∷ vs) (m.answer t os)
+
+-- the arguments are bound before
 abbrev pub method_row : {H : Type 0} → Place → Method → List ℕ → Arguments → Computation H Value
 method_row p m t args = do
   vs ← bound_values p (parameters_named m.needed m.optional) (none_for_each m.optional) args
-  os ← reads (λ store. read_all store m.kinds vs) >>= or_fail kind.ValueKind p
-  answered p (text_value t ∷ vs) (m.answer t os)
+  a ← method_answer p m t vs
+  give_answer p a
 
 abbrev pub row_of : {H : Type 0} → Place → Name → Option Method → List ℕ → Arguments → Computation H Value
 row_of p x None t args = fail_with kind.KeyMissing p x

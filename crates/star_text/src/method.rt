@@ -1,0 +1,65 @@
+// A call of a method of a text.
+ghost use Rattle.std.specs.Prelude.{◌≡◌, ℕ, List};
+ghost use Rattle.star_steps.specs.Names.{Gives, Meets, Owns, OwnsAll, seen, state_in, text_value, value_of, values_of};
+ghost use Rattle.star_values.specs.Owns.{OwnsArguments};
+ghost use Rattle.star_values.specs.View.{arguments_in};
+ghost use Rattle.star_values.specs.declared.value.Value.TheVariants as value;
+ghost use Rattle.text_spec.specs.Methods.{method_answer, method_row, text_method};
+ghost use Rattle.star_text.specs.View.{made_of, method_of};
+
+use crate::answers::{Made, answer_bytes, answer_members, give, made};
+use crate::costs::pay_operation;
+use crate::kinds::read_operands;
+use crate::rows::answer;
+use crate::table::{TextMethod, method_named, signature_of};
+use object_arena::{Arena, CallArgs, Ref, Value, Work};
+use star_calls::bind_named;
+use star_steps::{Given, refusal};
+use ytt_base::fault::{Fault, FaultKind, Place, Stop};
+use ytt_base::text::Text;
+
+/// What a method of a text but `format` answers: the arguments are bound (`ArgBind`), each is read as its kind
+/// (`ValueKind`), the steps are taken (`Steps`), and what must be found and isn't there is `KeyMissing`, each at the place.
+fn call(
+    arena: &mut Arena,
+    place: Place,
+    method: TextMethod,
+    text: Ref,
+    args: CallArgs,
+    steps: &mut u64,
+) -> Given
+    requires text { Owns (seen arena.old) (value.Text text) }
+    requires args { OwnsArguments (seen arena.old) args }
+    ensures { (t : List ℕ) → value_of (seen arena.old) (value.Text text) ≡ text_value t → Gives (method_row place (method_of method) t (arguments_in (seen arena.old).held args) (state_in (seen arena.old) steps.old)) result (seen arena.old) (seen arena.new) steps.new }
+{
+    let signature = signature_of(method);
+    let values = bind_named(arena, signature.needed, signature.optional, args, place)?;
+    let made = answered(arena, place, method, text, values.as_slice(), steps)?;
+    give(arena, place, made)
+}
+
+/// The answer for these values of its parameters, behind its cost.
+fn answered(
+    arena: &Arena,
+    place: Place,
+    method: TextMethod,
+    text: Ref,
+    values: &[Value],
+    steps: &mut u64,
+) -> Result<Made, Stop>
+    requires text { Owns (seen arena.now) (value.Text text) }
+    requires values { OwnsAll (seen arena.now) values.now }
+    ensures { (t : List ℕ) → value_of (seen arena.now) (value.Text text) ≡ text_value t → Meets made_of result (state_in (seen arena.now) steps.new) (method_answer place (method_of method) t (values_of (seen arena.now) values.now) (state_in (seen arena.now) steps.old)) }
+{
+    let kinds = signature_of(method).kinds;
+    let operands = match read_operands(arena, kinds, values)? {
+        Some(operands) => operands,
+        None => return Err(refusal(arena, FaultKind::ValueKind, place)),
+    };
+    let receiver = arena.text(text).as_str();
+    let answer = answer(arena.alloc(), method, receiver, &operands)?;
+    let bytes = answer_bytes(&answer);
+    let members = Some(answer_members(&answer));
+    pay_operation(arena, place, Value::Text(text), values, bytes, members, steps)?;
+    Ok(made(arena.alloc(), answer)?)
+}

@@ -1,0 +1,165 @@
+// The table of the methods: which one a name is, what it takes, and as what.
+ghost use Rattle.std.specs.Prelude.{◌≡◌, map as each, option_map};
+ghost use Rattle.text_spec.specs.Methods.{method_in, text_methods};
+ghost use Rattle.star_text.specs.View.{kinds_of, method_of};
+
+use crate::kinds::{Kind, Kinds};
+
+/// What is sought: how often a text occurs, its first place or its last.
+#[derive(Clone, Copy)]
+pub(crate) enum Sought {
+    HowOften,
+    First,
+    Last,
+}
+
+/// One end of a text, or both.
+#[derive(Clone, Copy)]
+pub(crate) enum End {
+    Front,
+    Back,
+    Both,
+}
+
+/// What becomes of the letters.
+#[derive(Clone, Copy)]
+pub(crate) enum Letters {
+    Lower,
+    Upper,
+    Capital,
+}
+
+/// What is asked of each byte.
+#[derive(Clone, Copy)]
+pub(crate) enum Test {
+    LetterOrDigit,
+    Letter,
+    Digit,
+    Space,
+    Lower,
+    Upper,
+}
+
+/// A method of texts but `format`. A search may have to find something.
+#[derive(Clone, Copy)]
+pub(crate) enum TextMethod {
+    Search(Sought, bool),
+    AtFront,
+    AtBack,
+    WithoutPrefix,
+    WithoutSuffix,
+    Replace,
+    Join,
+    Partition,
+    PartitionBack,
+    Split,
+    SplitBack,
+    Lines,
+    Strip(End),
+    Change(Letters),
+    Ask(Test),
+}
+
+/// The method of a name.
+pub(crate) fn method_named(name: &str) -> Option<TextMethod>
+    ensures { option_map method_of result ≡ method_in name.now text_methods }
+{
+    match name {
+        "count" => Some(TextMethod::Search(Sought::HowOften, false)),
+        "find" => Some(TextMethod::Search(Sought::First, false)),
+        "rfind" => Some(TextMethod::Search(Sought::Last, false)),
+        "index" => Some(TextMethod::Search(Sought::First, true)),
+        "rindex" => Some(TextMethod::Search(Sought::Last, true)),
+        "startswith" => Some(TextMethod::AtFront),
+        "endswith" => Some(TextMethod::AtBack),
+        "removeprefix" => Some(TextMethod::WithoutPrefix),
+        "removesuffix" => Some(TextMethod::WithoutSuffix),
+        "replace" => Some(TextMethod::Replace),
+        "join" => Some(TextMethod::Join),
+        "partition" => Some(TextMethod::Partition),
+        "rpartition" => Some(TextMethod::PartitionBack),
+        "split" => Some(TextMethod::Split),
+        "rsplit" => Some(TextMethod::SplitBack),
+        "splitlines" => Some(TextMethod::Lines),
+        "strip" => Some(TextMethod::Strip(End::Both)),
+        "lstrip" => Some(TextMethod::Strip(End::Front)),
+        "rstrip" => Some(TextMethod::Strip(End::Back)),
+        "lower" => Some(TextMethod::Change(Letters::Lower)),
+        "upper" => Some(TextMethod::Change(Letters::Upper)),
+        "capitalize" => Some(TextMethod::Change(Letters::Capital)),
+        "isalnum" => Some(TextMethod::Ask(Test::LetterOrDigit)),
+        "isalpha" => Some(TextMethod::Ask(Test::Letter)),
+        "isdigit" => Some(TextMethod::Ask(Test::Digit)),
+        "isspace" => Some(TextMethod::Ask(Test::Space)),
+        "islower" => Some(TextMethod::Ask(Test::Lower)),
+        "isupper" => Some(TextMethod::Ask(Test::Upper)),
+        _ => None,
+    }
+}
+
+/// The parameters of a method: those that must be given, and those that may be; and as what each is read.
+#[derive(Clone, Copy)]
+pub(crate) struct Signature {
+    pub needed: &'static [&'static str],
+    pub optional: &'static [&'static str],
+    pub kinds: Kinds,
+}
+
+fn signature(
+    needed: &'static [&'static str],
+    optional: &'static [&'static str],
+    first: Kind,
+    second: Kind,
+    third: Kind,
+) -> Signature
+    ensures needed { result.needed.now ≡ needed.now }
+    ensures optional { result.optional.now ≡ optional.now }
+    ensures kinds { result.kinds ≡ record { first = first; second = second; third = third } }
+{
+    let kinds = Kinds {
+        first,
+        second,
+        third,
+    };
+    Signature {
+        needed,
+        optional,
+        kinds,
+    }
+}
+
+/// What a method takes.
+pub(crate) fn signature_of(method: TextMethod) -> Signature
+    ensures needed { each (λ w. w.now) result.needed.now ≡ (method_of method).needed }
+    ensures optional { each (λ w. w.now) result.optional.now ≡ (method_of method).optional }
+    ensures kinds { kinds_of result.kinds ≡ (method_of method).kinds }
+{
+    let none = Kind::Nothing;
+    match method {
+        TextMethod::Search(_, _) => {
+            let bound = Kind::OptionalInteger;
+            signature(&["sub"], &["start", "end"], Kind::Text, bound, bound)
+        }
+        TextMethod::AtFront | TextMethod::AtBack => {
+            signature(&["x"], &[], Kind::TextOrTexts, none, none)
+        }
+        TextMethod::WithoutPrefix | TextMethod::WithoutSuffix => {
+            signature(&["x"], &[], Kind::Text, none, none)
+        }
+        TextMethod::Replace => {
+            let text = Kind::Text;
+            signature(&["a", "b"], &["n"], text, text, Kind::OptionalInteger)
+        }
+        TextMethod::Join => signature(&["x"], &[], Kind::TextMembers, none, none),
+        TextMethod::Partition | TextMethod::PartitionBack => {
+            signature(&["sep"], &[], Kind::Separator, none, none)
+        }
+        TextMethod::Split | TextMethod::SplitBack => {
+            let separator = Kind::OptionalSeparator;
+            signature(&[], &["sep", "n"], separator, Kind::OptionalInteger, none)
+        }
+        TextMethod::Lines => signature(&[], &["keep"], Kind::OptionalBool, none, none),
+        TextMethod::Strip(_) => signature(&[], &["chars"], Kind::OptionalText, none, none),
+        TextMethod::Change(_) | TextMethod::Ask(_) => signature(&[], &[], none, none, none),
+    }
+}
