@@ -34,9 +34,10 @@ behind_utf8 x b u w =
 
 pub sides_utf8 : (a x b : List ℕ) → IsUtf8 x → 0 < length x → IsUtf8 (a ++ (x ++ b)) → IsUtf8 a × IsUtf8 b
 sides_utf8 a x b u n w =
-    let at = bound_before a x b u n in
-    (subst IsUtf8 (take-append_seam a (x ++ b)) (IsUtf8-take (a ++ (x ++ b)) (length a) w at),
-    behind_utf8 x b u (subst IsUtf8 (drop-append_seam a (x ++ b)) (IsUtf8-drop (a ++ (x ++ b)) (length a) w at)))
+    let at = bound_before a x b u n in (
+      subst IsUtf8 (take-append_seam a (x ++ b)) (IsUtf8-take (a ++ (x ++ b)) (length a) w at),
+      behind_utf8 x b u (subst IsUtf8 (drop-append_seam a (x ++ b)) (IsUtf8-drop (a ++ (x ++ b)) (length a) w at)),
+    )
 
 -- ---- the first place, and the last
 

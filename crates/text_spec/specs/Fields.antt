@@ -116,9 +116,9 @@ formatted p vs fs met k [] = give []
 formatted p vs fs met (suc k) (b ∷ t) = formatted p vs fs met k t
 formatted p vs fs met zero (b ∷ t) =
     if b == 123 || b == 125 then
-      (if begins b t then text_before (b ∷ []) (formatted p vs fs met 1 t)
-      else if b == 125 then fail kind.ValueKind p
-      else opened p vs fs met (cut_at 125 t) (λ m k. formatted p vs fs m k t))
+    (if begins b t then text_before (b ∷ []) (formatted p vs fs met 1 t)
+    else if b == 125 then fail kind.ValueKind p
+    else opened p vs fs met (cut_at 125 t) (λ m k. formatted p vs fs m k t))
     else text_before (b ∷ []) (formatted p vs fs met 0 t)
 
 abbrev pub values_of_fields : Fields → List Value
