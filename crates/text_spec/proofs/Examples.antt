@@ -177,7 +177,7 @@ too_few = refl
 left_over : refuses (percent_row first_place (codes "%s") (tuple_of (int 1 ∷ int 2 ∷ []))) kind.ValueKind
 left_over = refl
 
-in_bases : gives 3 (percent_row first_place (codes "%x %X %o%%") (tuple_of (int 255 ∷ int 255 ∷ int_value (negsuc 7) ∷ []))) (word (codes "ff FF -10%"))
+in_bases : gives 4 (percent_row first_place (codes "%x %X %o%%") (tuple_of (int 255 ∷ int 255 ∷ int_value (negsuc 7) ∷ []))) (word (codes "ff FF -10%"))
 unfolding digits
 in_bases = refl
 
@@ -185,7 +185,7 @@ formatted : gives 0 (call (codes "{}/{}") (codes "format") (int 1 ∷ int 2 ∷ 
 unfolding digits
 formatted = refl
 
-by_names : gives 0 (call_with (codes "{{{a}}}{b!r}") (codes "format") [] (a_field (codes "b") (word (codes "x")) (a_field (codes "a") (int 1) no_fields))) (word (codes "{1}\"x\""))
+by_names : gives 1 (call_with (codes "{{{a}}}{b!r}") (codes "format") [] (a_field (codes "b") (word (codes "x")) (a_field (codes "a") (int 1) no_fields))) (word (codes "{1}\"x\""))
 unfolding digits
 by_names = refl
 
