@@ -1,9 +1,12 @@
 // What each method answers.
-ghost use Rattle.std.specs.Prelude.{◌≡◌, IfOk, length};
-ghost use Rattle.text_spec.specs.Methods.{join_row, lines_row, partition_back_row, partition_row, replace_row, set_of, some_of, split_row, strip_row};
+ghost use Rattle.std.specs.Prelude.{◌≡◌, IfOk, [], ◌∷◌};
+ghost use Rattle.text_spec.specs.Answers.{text_tuple};
+ghost use Rattle.text_spec.specs.Methods.{join_row, lines_row, parts_at, replace_row, some_of, split_row, strip_row};
 ghost use Rattle.text_spec.specs.Cutting.{pieces, pieces_back, words, words_back};
+ghost use Rattle.text_spec.specs.Places.{first_place, last_place};
+ghost use Rattle.text_spec.specs.Signatures as read;
 ghost use Rattle.text_spec.specs.Texts.{texts_of};
-ghost use Rattle.star_text.specs.View.{answer_of, at_end, changed_by, method_of, operand_of, operands_of, passes, stripped_at};
+ghost use Rattle.star_text.specs.View.{answer_of, at_end, changed_by, method_of, operand_of, operands_of, passes, set_in, stripped_at};
 
 use crate::answers::Answer;
 use crate::kinds::{Operand, Operands, bool_in, text_in, texts_in};
@@ -154,7 +157,7 @@ fn strip<'a>(alloc: Global, end: End, text: &'a str, set: &Operand<'a>) -> Answe
 }
 
 fn stripped<'a>(end: End, set: Option<&[&str]>, text: &'a str) -> &'a str
-    ensures { result.now ≡ stripped_at end (set_of set) text.now }
+    ensures { result.now ≡ stripped_at end (set_in set) text.now }
 {
     match end {
         End::Front => stripped_front(set, text),
