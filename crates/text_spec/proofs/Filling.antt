@@ -1,6 +1,7 @@
 -- How `%` and `format` go on behind a run of bytes that stand for themselves, and behind what was filled.
-use Rattle.std.proofs.Common.{◌≡◌, ℕ, zero, suc, ◌+◌, ◌<◌, ◌==◌, ◌||◌, Bool, true, false, cond, not, if◌then◌else◌, List, [], ◌∷◌, ◌++◌, length, take, drop, Option, Some, None, refl, sym, ap, arith, rules, append_assoc, ◌∙◌}
+use Rattle.std.proofs.Common.{◌≡◌, ℕ, zero, suc, ◌+◌, ◌/◌, ◌%◌, ◌<◌, ◌==◌, ◌||◌, Bool, true, false, cond, not, if◌then◌else◌, List, [], ◌∷◌, ◌++◌, length, take, drop, Option, Some, None, refl, sym, ap, arith, rules, append_assoc, ◌∙◌}
 use Rattle.std.proofs.lemmas.List.{append-nil}
+use Rattle.std.specs.Fmt.{digit_glyph, digits, digits_onto}
 use Rattle.std.specs.List.{after_first, before_first, position_or_len}
 use Rattle.ytt_base.specs.declared.fault.FaultKind.TheVariants as kind
 use Rattle.ytt_base.specs.declared.fault.Place.{Place}
@@ -102,3 +103,21 @@ module _ {H : Type 0} (p : Place) (vs : Values) (fs : Fields) where
       ∙ onto_before made (b ∷ []) (formatted p vs fs met 0 (a ++ t)) s
       ∙ run_formatted met a t (made ++ b ∷ []) s h.1
       ∙ ap (λ m. onto m (formatted p vs fs met 0 t) s) (append_assoc made (b ∷ []) a)
+
+-- ---- digits
+
+-- the digits of a number stand before what follows them
+pub digits_before : (k base : ℕ) (capitals : Bool) (n : ℕ) (more : List ℕ) → digits_onto k base capitals n more ≡ digits_onto k base capitals n [] ++ more
+digits_before zero base capitals n more = refl
+digits_before (suc k) base capitals n more = by (n / base == 0) (digits_before k base capitals (n / base)) where
+  glyph : ℕ
+  glyph = digit_glyph capitals (n % base)
+
+  by : (h : Bool) → ((more : List ℕ) → digits_onto k base capitals (n / base) more ≡ digits_onto k base capitals (n / base) [] ++ more) →
+      (if h then glyph ∷ more else digits_onto k base capitals (n / base) (glyph ∷ more)) ≡ (if h then glyph ∷ [] else digits_onto k base capitals (n / base) (glyph ∷ [])) ++ more
+  by true before = refl
+  by false before = before (glyph ∷ more) ∙ sym (append_assoc (digits_onto k base capitals (n / base) []) (glyph ∷ []) more) ∙ ap (λ x. x ++ more) (sym (before (glyph ∷ [])))
+
+pub digits_are : (base : ℕ) (capitals : Bool) (n : ℕ) → digits base capitals n ≡ digits_onto 64 base capitals n []
+unfolding digits
+digits_are base capitals n = refl
