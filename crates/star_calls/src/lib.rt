@@ -8,7 +8,7 @@
 //! then the defaults. A star takes the positions that are left, as a tuple, and two stars the names that are left, as a new
 //! dict. Where a parameter gets nothing, or an argument has no parameter, or a name is given twice, it refuses with `ArgBind`,
 //! and no dict is made. `bind_named` does the same for the parameters of the language's own functions, which are None where they
-//! may be left out and aren't given.
+//! may be left out and aren't given; `has_twice` tells whether two arguments have one name.
 #![tactic(auto)]
 
 mod arguments;
@@ -26,5 +26,6 @@ mod spread;
 pub use arguments::{ArgumentForm, add_argument};
 pub use binding::bind;
 pub use call::call_scope;
+pub use names::has_twice;
 pub use scopes::open_scope;
 pub use signature::bind_named;

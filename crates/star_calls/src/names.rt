@@ -22,7 +22,7 @@ pub(crate) fn has_name(named: &[NamedValue], name: &str) -> bool
 }
 
 /// Whether two arguments have one name.
-pub(crate) fn has_twice(named: &[NamedValue]) -> bool
+pub fn has_twice(named: &[NamedValue]) -> bool
     ensures { (a : View) → result ≡ has_twice (fields_in a.held named.now) }
 {
     let mut rest = named;

@@ -9,7 +9,7 @@ use object_arena::{Arena, Value};
 use ytt_base::text::{Memory, Text};
 
 /// A text was shown, if there was room.
-type Shown = Result<(), Memory>;
+pub type Shown = Result<(), Memory>;
 
 /// How many tuples of a key may stand in one another.
 const MAX_DEPTH: u32 = 100;
@@ -92,15 +92,16 @@ fn push_more(arena: &Arena, levels: u32, members: &[Value], shown: &mut String) 
     Ok(())
 }
 
-fn push_integer(number: i128, shown: &mut String) -> Shown
+/// Puts an integer in decimal digits behind a text.
+pub fn push_integer(number: i128, shown: &mut String) -> Shown
     ensures { OnOk result (string_bytes shown.new ≡ string_bytes shown.old ++ integer_text number) }
 {
     let mut buffer = Buffer::new();
     append(shown, buffer.format(number))
 }
 
-/// A text in double quotes.
-fn push_quoted(text: &str, shown: &mut String) -> Shown
+/// Puts a text in double quotes behind another.
+pub fn push_quoted(text: &str, shown: &mut String) -> Shown
     ensures { OnOk result (string_bytes shown.new ≡ string_bytes shown.old ++ quoted text.now) }
 {
     append(shown, "\"")?;
