@@ -48,10 +48,8 @@ fn none_for_each(arena: &Arena, names: &[&str]) -> Result<Values, Memory>
     ensures { IfOk result (λ vs. (a : View) → (values_of a vs ≡ none_for_each (each (λ w. w.now) names.now)) × OwnsAll a vs) }
 {
     let mut nones = Items::new(arena.alloc());
-    let mut rest = names;
-    while let Some((_name, more)) = rest.split_first() {
+    for _name in names {
         nones.push(Value::None)?;
-        rest = more;
     }
     Ok(nones)
 }
@@ -67,10 +65,8 @@ fn fill_needed(
     requires { OwnsRest (seen arena.now) left }
     ensures { (n : ℕ) → GivesAll (completed at (parameters_named (each (λ w. w.now) needed.now) (each (λ w. w.now) optional.now)) (rest_of (seen arena.now) left.entry) (state_in (seen arena.now) n)) result (seen arena.now) (seen arena.now) n }
 {
-    let mut rest = needed;
-    while let Some((name, more)) = rest.split_first() {
+    for name in needed {
         fill_named(arena, *name, None, &mut left, at)?;
-        rest = more;
     }
     fill_optional(arena, optional, left, at)
 }
@@ -85,10 +81,8 @@ fn fill_optional(
     requires { OwnsRest (seen arena.now) left }
     ensures { (n : ℕ) → GivesAll (completed at (optional_parameters (each (λ w. w.now) optional.now)) (rest_of (seen arena.now) left.entry) (state_in (seen arena.now) n)) result (seen arena.now) (seen arena.now) n }
 {
-    let mut rest = optional;
-    while let Some((name, more)) = rest.split_first() {
+    for name in optional {
         fill_defaulted(arena, *name, &mut left, at)?;
-        rest = more;
     }
     all_taken(arena, left, at)
 }

@@ -105,11 +105,11 @@ pub(crate) fn give(arena: &mut Arena, place: Place, made: Made) -> Given
         Made::Test(told) => Ok(Value::Bool(told)),
         Made::Number(number) => Ok(Value::Int(number)),
         Made::List(texts) => {
-            let values = text_values(arena, texts)?;
+            let values = text_values(arena, texts.as_slice())?;
             Ok(arena.new_list(values.as_slice())?)
         }
         Made::Tuple(texts) => {
-            let values = text_values(arena, texts)?;
+            let values = text_values(arena, texts.as_slice())?;
             Ok(arena.new_tuple(values.as_slice())?)
         }
         Made::Nowhere => Err(refusal(arena, FaultKind::KeyMissing, place)),
@@ -117,16 +117,18 @@ pub(crate) fn give(arena: &mut Arena, place: Place, made: Made) -> Given
 }
 
 /// Texts as values.
-fn text_values(arena: &mut Arena, texts: Texts) -> Result<Values, Memory>
-    ensures values { IfOk result (λ vs. values_of (seen arena.new) vs ≡ text_values texts.entry) }
+fn text_values(arena: &mut Arena, texts: &[Text]) -> Result<Values, Memory>
+    ensures values { IfOk result (λ vs. values_of (seen arena.new) vs ≡ text_values texts.now) }
     ensures owns { IfOk result (OwnsAll (seen arena.new)) }
     ensures store { (seen arena.new).store ≡ (seen arena.old).store }
     ensures grows { Grows (seen arena.old) (seen arena.new) }
 {
     let mut values = Items::new(arena.alloc());
-    for text in texts {
-        let value = arena.new_text(text)?;
+    let mut rest = texts;
+    while let Some((first, more)) = rest.split_first() {
+        let value = arena.new_text(first.copy()?)?;
         values.push(value)?;
+        rest = more;
     }
     Ok(values)
 }

@@ -1,5 +1,6 @@
-use Rattle.std.proofs.Common.{None, ap, map as each, refl, rules, sym, ◌∙◌}
-use Rattle.std.proofs.lemmas.List.{nil_from_length}
+use Rattle.std.proofs.Common.{◌+◌, drop, None, ap, map as each, refl, rules, sym, ◌∙◌}
+use Rattle.std.proofs.lemmas.List.{drop_all}
+use Rattle.ytt_laws.proofs.Lists.{dropped}
 use Rattle.object_arena.specs.Names.{seen}
 use Rattle.star_steps.specs.Meets.{state_in}
 use Rattle.star_values.proofs.Growing.{grows_same}
@@ -17,13 +18,13 @@ pub loop-name-preserved : goal.loop-name-preserved
 loop-name-preserved c =
     let a = seen c.args.arena.now in
     let ys = each (λ w. w.now) c.args.optional.now in
-    let x = c.in-Some.name.now.now in
-    let xs = each (λ w. w.now) c.in-Some.more.now in
+    let x = c.name-item.result.now in
+    let xs = each (λ w. w.now) (drop (c.loop-name.name-index + 1) c.args.needed.now) in
     let before = rest_of a c.loop-name.left in
     let after = rest_of a c.fill_named.new.left in
     record {
       same = λ n. c.loop-name.invariant.same n
-          ∙ ap (λ ws. completed c.args.at (parameters_named (each (λ w. w.now) ws) ys) before (state_in a n)) c.in-Some.ensures.cases.0
+          ∙ ap (λ ws. completed c.args.at (parameters_named (each (λ w. w.now) ws) ys) before (state_in a n)) (dropped c.args.needed.now c.loop-name.name-index c.name-item.result c.loop-name-test.true c.name-item.is)
           ∙ required_taken c.args.at x (parameters_named xs ys) before (state_in a n)
           ∙ ap (λ ps. taken c.args.at x None ps before (state_in a n)) (named_from xs ys)
           ∙ c.in_ok-fill_named.ensures.fills n (named_parts xs ys)
@@ -35,7 +36,7 @@ pub returns : goal.returns
 returns c = λ n.
     let a = seen c.args.arena.now in
     let ys = each (λ w. w.now) c.args.optional.now in
-    let none = nil_from_length c.loop-name.rest.now c.in_default.ensures.cases in
+    let none = drop_all c.loop-name.name-index c.args.needed.now c.loop-name-test.false in
     gives_same _ _ c.fill_optional.result a a n
     (c.loop-name.invariant.same n ∙ ap (λ ws. completed c.args.at (parameters_named (each (λ w. w.now) ws) ys) (rest_of a c.loop-name.left) (state_in a n)) none)
     (c.fill_optional.ensures n)
@@ -44,12 +45,12 @@ pub returns-in_err-fill_named : goal.returns-in_err-fill_named
 returns-in_err-fill_named c = λ n.
     let a = seen c.args.arena.now in
     let ys = each (λ w. w.now) c.args.optional.now in
-    let x = c.in-Some.name.now.now in
-    let xs = each (λ w. w.now) c.in-Some.more.now in
+    let x = c.name-item.result.now in
+    let xs = each (λ w. w.now) (drop (c.loop-name.name-index + 1) c.args.needed.now) in
     let before = rest_of a c.loop-name.left in
     gives_stopped c.from_residual.result c.in_err-fill_named.field-0.0 a a n _ _ _ (search rules)
     (c.loop-name.invariant.same n
-    ∙ ap (λ ws. completed c.args.at (parameters_named (each (λ w. w.now) ws) ys) before (state_in a n)) c.in-Some.ensures.cases.0
+    ∙ ap (λ ws. completed c.args.at (parameters_named (each (λ w. w.now) ws) ys) before (state_in a n)) (dropped c.args.needed.now c.loop-name.name-index c.name-item.result c.loop-name-test.true c.name-item.is)
     ∙ required_taken c.args.at x (parameters_named xs ys) before (state_in a n)
     ∙ ap (λ ps. taken c.args.at x None ps before (state_in a n)) (named_from xs ys))
     (c.in_err-fill_named.ensures.fills n (named_parts xs ys))

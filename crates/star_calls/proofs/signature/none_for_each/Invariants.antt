@@ -1,11 +1,8 @@
-use Rattle.std.proofs.Common.{◌≡◌, ◌++◌, length, map as each}
+use Rattle.std.proofs.Common.{◌≡◌, ◌++◌, drop, map as each}
 use Rattle.object_arena.specs.Names.{OwnsAll, values_of}
 use Rattle.star_values.specs.View.{View}
 use Rattle.value_spec.specs.Binding.{none_for_each}
 use Rattle.star_calls.proofs.signature.none_for_each.Given as goal
 
 abbrev pub invariant-loop-_name : goal.invariant-loop-_name
-invariant-loop-_name l = (a : View) → (values_of a l.nones ++ none_for_each (each (λ w. w.now) l.rest) ≡ none_for_each (each (λ w. w.now) l.names)) × OwnsAll a l.nones
-
-abbrev pub decreases-loop-_name : goal.decreases-loop-_name
-decreases-loop-_name l = length l.rest
+invariant-loop-_name l = (a : View) → (values_of a l.nones ++ none_for_each (each (λ w. w.now) (drop l._name-index l.names)) ≡ none_for_each (each (λ w. w.now) l.names)) × OwnsAll a l.nones
