@@ -131,15 +131,70 @@ parted place otherwise is k t os u h =
     parts_utf8 x t (otherwise t) (place x t) v (k t u) (λ i e. around_utf8 x t i v h.first u (is x t i e))
 
 pub methods_utf8 : AllAnswerUtf8 text_methods
-methods_utf8 =
-    (sought how_often false, (sought first false, (sought last false, (sought first true, (sought last true,
-    (λ t os u h. tt, (λ t os u h. tt,
-    (λ t os u h. without_prefix_utf8 (text_in os.first) t (text_utf8 os.first h.utf8.first) u, (λ t os u h. without_suffix_utf8 (text_in os.first) t (text_utf8 os.first h.utf8.first) u,
-    (λ t os u h. joined_by_utf8 (text_in os.second) _ (text_utf8 os.second h.utf8.second) (pieces_between_utf8 (text_in os.first) (limit_in t os.third) t (text_utf8 os.first h.utf8.first) u),
-    (λ t os u h. joined_by_utf8 t (texts_in os.first) u (texts_utf8 os.first h.utf8.first),
-    (parted first_place (λ t. text_tuple (t ∷ [] ∷ [] ∷ [])) first_is (λ t u. (u, (IsUtf8-nil, (IsUtf8-nil, tt)))), (parted last_place (λ t. text_tuple ([] ∷ [] ∷ t ∷ [])) last_is (λ t u. (IsUtf8-nil, (IsUtf8-nil, (u, tt)))),
-    (words_or_pieces words pieces words_utf8 pieces_utf8, (words_or_pieces words_back pieces_back words_back_utf8 pieces_back_utf8,
-    (λ t os u h. lines_utf8 (bool_in os.first) (length t) t u,
-    (stripped_utf8 stripped (λ cs t u w. strip_back_utf8 _ cs _ u (strip_front_utf8 (length t) cs t u w)), (stripped_utf8 stripped_front (λ cs t u w. strip_front_utf8 (length t) cs t u w), (stripped_utf8 stripped_back (λ cs t u w. strip_back_utf8 (length t) cs t u w),
-    (λ t os u h. lowered_utf8 t u, (λ t os u h. uppered_utf8 t u, (λ t os u h. capitalized_utf8 t u,
-    (λ t os u h. tt, (λ t os u h. tt, (λ t os u h. tt, (λ t os u h. tt, (λ t os u h. tt, (λ t os u h. tt, tt))))))))))))))))))))))))))))
+methods_utf8 = (
+  sought how_often false,
+  (
+    sought first false,
+    (
+      sought last false,
+      (
+        sought first true,
+        (
+          sought last true,
+          (
+            λ t os u h. tt,
+            (
+              λ t os u h. tt,
+              (
+                λ t os u h. without_prefix_utf8 (text_in os.first) t (text_utf8 os.first h.utf8.first) u,
+                (
+                  λ t os u h. without_suffix_utf8 (text_in os.first) t (text_utf8 os.first h.utf8.first) u,
+                  (
+                    λ t os u h. joined_by_utf8 (text_in os.second) _ (text_utf8 os.second h.utf8.second) (pieces_between_utf8 (text_in os.first) (limit_in t os.third) t (text_utf8 os.first h.utf8.first) u),
+                    (
+                      λ t os u h. joined_by_utf8 t (texts_in os.first) u (texts_utf8 os.first h.utf8.first),
+                      (
+                        parted first_place (λ t. text_tuple (t ∷ [] ∷ [] ∷ [])) first_is (λ t u. (u, (IsUtf8-nil, (IsUtf8-nil, tt)))),
+                        (
+                          parted last_place (λ t. text_tuple ([] ∷ [] ∷ t ∷ [])) last_is (λ t u. (IsUtf8-nil, (IsUtf8-nil, (u, tt)))),
+                          (
+                            words_or_pieces words pieces words_utf8 pieces_utf8,
+                            (
+                              words_or_pieces words_back pieces_back words_back_utf8 pieces_back_utf8,
+                              (
+                                λ t os u h. lines_utf8 (bool_in os.first) (length t) t u,
+                                (
+                                  stripped_utf8 stripped (λ cs t u w. strip_back_utf8 _ cs _ u (strip_front_utf8 (length t) cs t u w)),
+                                  (
+                                    stripped_utf8 stripped_front (λ cs t u w. strip_front_utf8 (length t) cs t u w),
+                                    (
+                                      stripped_utf8 stripped_back (λ cs t u w. strip_back_utf8 (length t) cs t u w),
+                                      (
+                                        λ t os u h. lowered_utf8 t u,
+                                        (
+                                          λ t os u h. uppered_utf8 t u,
+                                          (
+                                            λ t os u h. capitalized_utf8 t u,
+                                            (λ t os u h. tt, (λ t os u h. tt, (λ t os u h. tt, (λ t os u h. tt, (λ t os u h. tt, (λ t os u h. tt, tt)))))),
+                                          ),
+                                        ),
+                                      ),
+                                    ),
+                                  ),
+                                ),
+                              ),
+                            ),
+                          ),
+                        ),
+                      ),
+                    ),
+                  ),
+                ),
+              ),
+            ),
+          ),
+        ),
+      ),
+    ),
+  ),
+)

@@ -131,13 +131,13 @@ after_low_utf8 a (c ∷ b) low w =
     let parts : reverse (c ∷ b) ++ a ≡ reverse b ++ c ∷ a = ap (λ x. x ++ a) (reverse-append (c ∷ []) b) ∙ append_assoc (reverse b) (c ∷ []) a in
     let v = subst IsUtf8 parts w in
     let here = subst (λ k. k < 128) (sym (get_or-append_seam (reverse b) c a 0)) low in
-    let at = IsCharBoundary-after_ascii (reverse b ++ c ∷ a) (length (reverse b)) v (grind (arith, length-append (reverse b) (c ∷ a))) here in
-    (subst IsUtf8 (take-append-add (reverse b) (c ∷ a) 1 ∙ sym (reverse-append (c ∷ []) b)) (IsUtf8-take (reverse b ++ c ∷ a) (length (reverse b) + 1) v at),
-    subst IsUtf8 (drop-append-add (reverse b) (c ∷ a) 1) (IsUtf8-drop (reverse b ++ c ∷ a) (length (reverse b) + 1) v at))
+    let at = IsCharBoundary-after_ascii (reverse b ++ c ∷ a) (length (reverse b)) v (grind (arith, length-append (reverse b) (c ∷ a))) here in (
+      subst IsUtf8 (take-append-add (reverse b) (c ∷ a) 1 ∙ sym (reverse-append (c ∷ []) b)) (IsUtf8-take (reverse b ++ c ∷ a) (length (reverse b) + 1) v at),
+      subst IsUtf8 (drop-append-add (reverse b) (c ∷ a) 1) (IsUtf8-drop (reverse b ++ c ∷ a) (length (reverse b) + 1) v at),
+    )
 
 around_low_back_utf8 : (f : ℕ → Bool) → ((b : ℕ) → f b ≡ false → b < 128) → (t : List ℕ) → IsUtf8 (reverse t) → IsUtf8 (reverse (behind f t)) × IsUtf8 (reverse (front f t))
 around_low_back_utf8 f a t w = after_low_utf8 (reverse (front f t)) (behind f t) (behind_low f a t) (subst IsUtf8 (reversed_parts f t) w)
-
 
 words_at_back_utf8 : (n : ℕ) (t : List ℕ) → IsUtf8 (reverse t) → AreUtf8 (each_reversed (words_at n t))
 words_at_back_utf8 n [] w = tt

@@ -1,0 +1,5 @@
+pub mod Bytes
+pub mod Cuts
+pub mod LineSteps
+pub mod Stripping
+pub mod WordSteps

@@ -1,0 +1,3 @@
+pub mod Ends
+pub mod Strips
+pub mod Tests
