@@ -250,7 +250,7 @@ fn name_found(
 }
 
 /// The name by which a module, or what can be called, is known.
-fn name_of(arena: &Arena, r: Ref) -> &str
+pub fn name_of(arena: &Arena, r: Ref) -> &str
     requires { IsTrue (is_named r.sort) × (held_at (seen arena.now) r.at ≡ Some r.sort) }
     ensures module { r.sort ≡ sort.Module → result.now ≡ known_name (value_of (seen arena.now) (value.Module r)) }
     ensures native { r.sort ≡ sort.Native → result.now ≡ known_name (value_of (seen arena.now) (value.Native r)) }
@@ -295,7 +295,7 @@ fn numbers_equal(arena: &Arena, place: Place, left: Bounds, right: Bounds, steps
 }
 
 /// The fields of a struct.
-fn fields(arena: &Arena, r: Ref) -> &[NamedValue]
+pub fn fields(arena: &Arena, r: Ref) -> &[NamedValue]
     requires { Owns (seen arena.now) (value.Struct r) }
     ensures fields { struct_in (get_or (seen arena.now).held r.at none_value) ≡ fields_in (seen arena.now).held result.now }
     ensures owns { OwnsFields (seen arena.now) result.now }

@@ -54,7 +54,7 @@ fn push_tuple(arena: &Arena, levels: u32, members: &[Value], shown: &mut String)
 }
 
 /// What ends a tuple: one of one member has a comma.
-fn closed(members: &[Value]) -> &'static str
+pub fn closed(members: &[Value]) -> &'static str
     ensures { (a : View) → result.now ≡ closed (values_from (values_of a members.now)) }
 {
     if members.len() == 1 { ",)" } else { ")" }

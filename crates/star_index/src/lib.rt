@@ -17,6 +17,6 @@ mod texts;
 
 pub use changes::set_index;
 pub use indexes::index;
-pub use key_text::{push_integer, push_quoted};
+pub use key_text::{Shown, closed, push_integer, push_quoted};
 pub use slices::slice;
 pub use texts::append;
