@@ -1,13 +1,11 @@
 -- From the code's types to the definitions': kinds, operands, methods, answers.
-use Rattle.std.specs.Borrow.{Bor}
-use Rattle.std.specs.Prelude.{◌≡◌, ◌≤◌, ◌^◌, ℕ, Bool, true, false, List, MatchOption, Option, Some, None}
+use Rattle.std.specs.Prelude.{◌≡◌, ◌<◌, ◌≤◌, length, ◌^◌, ℕ, Bool, true, false, List, MatchOption, Option}
 use Rattle.operator_spec.specs.Operators.{begins_with}
 use Rattle.text_spec.specs.Answers as plain
 use Rattle.text_spec.specs.Classes.{capitalized, is_all, is_cased, is_digit, is_letter, is_letter_or_digit, is_lower, is_space, is_upper, lowered, uppered}
-use Rattle.text_spec.specs.Cutting.{joined_by, pieces, pieces_back, white_space, without_prefix, without_suffix, words, words_back}
+use Rattle.text_spec.specs.Cutting.{joined_by, pieces, pieces_back, without_prefix, without_suffix, words, words_back}
 use Rattle.text_spec.specs.Methods as plain_method
 use Rattle.text_spec.specs.Methods.{Method, by_lines, changing, edge_row, join_row, of_one, partition_back_row, partition_row, partitioning, replacing, searching, splitting, stripped, stripped_back, stripped_front, stripping, testing, without_row}
-use Rattle.text_spec.specs.Percent as percent
 use Rattle.text_spec.specs.Places.{ends_with}
 use Rattle.text_spec.specs.Signatures as read
 use Rattle.text_spec.specs.Texts.{texts_of}
@@ -21,8 +19,6 @@ use Rattle.star_text.specs.declared.kinds.Kinds.{Kinds}
 use Rattle.star_text.specs.declared.kinds.Operand.{Operand}
 use Rattle.star_text.specs.declared.kinds.Operand.TheVariants as operand
 use Rattle.star_text.specs.declared.kinds.Operands.{Operands}
-use Rattle.star_text.specs.declared.percent.Conversion.{Conversion}
-use Rattle.star_text.specs.declared.percent.Conversion.TheVariants as conversion
 use Rattle.star_text.specs.declared.table.End.{End}
 use Rattle.star_text.specs.declared.table.End.TheVariants as end
 use Rattle.star_text.specs.declared.table.Letters.{Letters}
@@ -108,20 +104,11 @@ method_of (text_method.Strip e) = stripping (stripped_at e)
 method_of (text_method.Change l) = changing (changed_by l)
 method_of (text_method.Ask t) = testing (passes t)
 
--- the characters of a set, or white space
-abbrev pub set_in : Option (Bor (List (Bor (List ℕ)))) → List (List ℕ)
-set_in None = white_space
-set_in (Some cs) = texts_of cs.now
-
-abbrev pub conversion_in : Conversion → percent.Conversion
-conversion_in conversion.Str = percent.by_str
-conversion_in conversion.Repr = percent.by_repr
-conversion_in conversion.Decimal = percent.by_decimal
-conversion_in conversion.Hexadecimal = percent.by_base 16 false
-conversion_in conversion.Capitals = percent.by_base 16 true
-conversion_in conversion.Octal = percent.by_base 8 false
-conversion_in conversion.Percent = percent.percent_sign
-conversion_in conversion.Float = percent.of_float
+-- where a method cuts at its first argument that isn't empty
+abbrev pub IsSeparated : TextMethod → read.Operands → Type 0
+IsSeparated text_method.Partition os = 0 < length (read.text_in os.first)
+IsSeparated text_method.PartitionBack os = 0 < length (read.text_in os.first)
+IsSeparated _ os = Unit {0}
 
 -- ---- counts
 

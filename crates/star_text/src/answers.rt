@@ -3,7 +3,7 @@ ghost use Rattle.std.specs.Prelude.{◌≡◌, ℕ, IfOk};
 ghost use Rattle.star_steps.specs.Names.{Gives, Grows, OwnsAll, seen, state_in, values_of};
 ghost use Rattle.text_spec.specs.Answers.{answer_bytes, answer_members, give_answer, text_values};
 ghost use Rattle.text_spec.specs.Texts.{texts_of};
-ghost use Rattle.star_text.specs.View.{IsCount, answer_of, made_of};
+ghost use Rattle.star_text.specs.View.{answer_of, made_of};
 
 use object_arena::{Arena, Value, Values};
 use sqlite_items::Items;
@@ -40,15 +40,15 @@ pub(crate) enum Made {
 
 // ---- the cost
 
-/// The bytes of the text that an answer is. `None` where they are past every count of 128 bits.
-pub(crate) fn answer_bytes(answer: &Answer<'_>) -> Option<u128>
-    ensures { IsCount result (answer_bytes (answer_of answer.now)) }
+/// The bytes of the text that an answer is.
+pub(crate) fn answer_bytes(answer: &Answer<'_>) -> u128
+    ensures { result ≡ answer_bytes (answer_of answer.now) }
 {
     match answer {
-        Answer::Part(text) => Some(text.len() as u128),
-        Answer::Whole(text) => Some(text.as_str().len() as u128),
+        Answer::Part(text) => text.len() as u128,
+        Answer::Whole(text) => text.as_str().len() as u128,
         Answer::Joined(between, parts) => joined_length(*between, parts.as_slice()),
-        _ => Some(0),
+        _ => 0,
     }
 }
 
@@ -66,7 +66,7 @@ pub(crate) fn answer_members(answer: &Answer<'_>) -> u128
 // ---- the value
 
 /// The answer with texts of its own.
-pub(crate) fn made(alloc: Global, answer: Answer<'_>) -> Result<Made, Memory>
+pub(crate) fn owned(alloc: Global, answer: Answer<'_>) -> Result<Made, Memory>
     ensures { IfOk result (λ m. made_of m ≡ answer_of answer.entry) }
 {
     match answer {
@@ -88,17 +88,15 @@ fn copies(alloc: Global, texts: &[&str]) -> Result<Texts, Memory>
     ensures { IfOk result (λ ts. ts ≡ texts_of texts.now) }
 {
     let mut all = Items::new(alloc);
-    let mut rest = texts;
-    while let Some((first, more)) = rest.split_first() {
-        all.push(Text::of(alloc, *first)?)?;
-        rest = more;
+    for text in texts {
+        all.push(Text::of(alloc, *text)?)?;
     }
     Ok(all)
 }
 
 /// The value that an answer is, or `KeyMissing` where what was sought isn't there.
 pub(crate) fn give(arena: &mut Arena, place: Place, made: Made) -> Given
-    ensures { (n : ℕ) → Gives (give_answer place (made_of made.entry) (state_in (seen arena.old) n)) result (seen arena.old) (seen arena.new) n }
+    ensures { (n : ℕ) → Gives (give_answer place (made_of made) (state_in (seen arena.old) n)) result (seen arena.old) (seen arena.new) n }
 {
     match made {
         Made::Text(text) => Ok(arena.new_text(text)?),

@@ -26,7 +26,7 @@ pub fn pay_operation(
 ) -> Paid
     requires value { Owns (seen arena.now) value }
     requires others { OwnsAll (seen arena.now) others.now }
-    ensures { (b m : ℕ) → IsCount bytes.entry b → IsCount members.entry m → Meets as_is result (state_in (seen arena.now) steps.new) (paid_operation place (value_of (seen arena.now) value ∷ values_of (seen arena.now) others.now) b m (give tt) (state_in (seen arena.now) steps.old)) }
+    ensures { (b m : ℕ) → IsCount bytes b → IsCount members m → Meets as_is result (state_in (seen arena.now) steps.new) (paid_operation place (value_of (seen arena.now) value ∷ values_of (seen arena.now) others.now) b m (give tt) (state_in (seen arena.now) steps.old)) }
 {
     let mut all_bytes = and(bytes, byte_count(arena, value));
     let mut all_members = and(members, member_count(arena, value));

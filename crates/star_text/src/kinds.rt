@@ -1,14 +1,15 @@
 // As what the arguments of a method are read.
-ghost use Rattle.std.specs.Prelude.{◌≡◌, IfOk, option_map};
+ghost use Rattle.std.specs.Prelude.{◌≡◌, IfOk, option_and_then, option_map};
 ghost use Rattle.star_steps.specs.Names.{members_in, Owns, OwnsAll, seen, value_of, values_of};
-ghost use Rattle.text_spec.specs.Signatures.{bool_in, integer_or, read_as, read_operands, read_members, read_separator, read_text, read_texts, text_in, texts_in, value_at};
+ghost use Rattle.text_spec.specs.Signatures.{bool_in, integer_or, read_as, read_operands, read_separator, read_text, read_texts, text_in, texts_in, value_at};
 ghost use Rattle.text_spec.specs.Texts.{texts_of};
 ghost use Rattle.star_text.specs.View.{kind_of, kinds_of, operand_of, operands_of};
 
-use object_arena::{Arena, Value, value_at};
+use object_arena::{Arena, Value};
 use sqlite_items::Items;
 use star_ops::{member_count, members_of};
 use star_steps::tuple_members;
+use star_values::value_at;
 use ytt_base::text::Memory;
 
 /// As what an argument is read: a text, one that isn't empty, the same two or None, an integer or a bool or None, a text or a tuple of
@@ -155,7 +156,7 @@ fn read_texts<'a>(arena: &'a Arena, values: &[Value]) -> Result<Option<Operand<'
 /// The members of a value, if it is of a kind that has some, and each is a text. The numbers of a range are never made.
 fn read_members(arena: &Arena, value: Value) -> Result<Option<Operand<'_>>, Memory>
     requires { Owns (seen arena.now) value }
-    ensures { IfOk result (λ o. option_map operand_of o ≡ read_members (members_in (seen arena.now).store (value_of (seen arena.now) value))) }
+    ensures { IfOk result (λ o. option_map operand_of o ≡ option_and_then read_texts (members_in (seen arena.now).store (value_of (seen arena.now) value))) }
 {
     match value {
         Value::Tuple(_) | Value::List(_) | Value::Dict(_) => {

@@ -8,15 +8,12 @@
 
 mod answers;
 mod costs;
-mod fields;
 mod kinds;
 mod method;
-mod percent;
 mod rows;
 mod searches;
 mod table;
 
 pub use costs::pay_operation;
-pub use method::text_method;
-pub use percent::text_percent;
-pub use star_shown::{repr_of, str_of};
+pub use method::call;
+pub use table::TextMethod;

@@ -7,9 +7,8 @@ ghost use Rattle.star_values.specs.declared.value.Value.TheVariants as value;
 ghost use Rattle.text_spec.specs.Methods.{method_answer, method_row, text_method};
 ghost use Rattle.star_text.specs.View.{made_of, method_of};
 
-use crate::answers::{Made, answer_bytes, answer_members, give, made};
+use crate::answers::{Made, answer_bytes, answer_members, give, owned};
 use crate::costs::pay_operation;
-use crate::fields::format;
 use crate::kinds::read_operands;
 use crate::rows::answer;
 use crate::table::{TextMethod, method_named, signature_of};
@@ -21,7 +20,7 @@ use ytt_base::text::Text;
 
 /// What a method of a text but `format` answers: the arguments are bound (`ArgBind`), each is read as its kind
 /// (`ValueKind`), the steps are taken (`Steps`), and what must be found and isn't there is `KeyMissing`, each at the place.
-fn call(
+pub fn call(
     arena: &mut Arena,
     place: Place,
     method: TextMethod,
@@ -35,8 +34,8 @@ fn call(
 {
     let signature = signature_of(method);
     let values = bind_named(arena, signature.needed, signature.optional, args, place)?;
-    let made = answered(arena, place, method, text, values.as_slice(), steps)?;
-    give(arena, place, made)
+    let answer = answered(arena, place, method, text, values.as_slice(), steps)?;
+    give(arena, place, answer)
 }
 
 /// The answer for these values of its parameters, behind its cost.
@@ -59,58 +58,8 @@ fn answered(
     };
     let receiver = arena.text(text).as_str();
     let answer = answer(arena.alloc(), method, receiver, &operands)?;
-    let bytes = answer_bytes(&answer);
+    let bytes = Some(answer_bytes(&answer));
     let members = Some(answer_members(&answer));
     pay_operation(arena, place, Value::Text(text), values, bytes, members, steps)?;
-    Ok(made(arena.alloc(), answer)?)
-}
-
-/// What a method of a text answers: the arguments are bound (`ArgBind`), each is read as its kind (`ValueKind`), the steps
-/// are taken (`Steps`), and what must be found and isn't there is `KeyMissing`; a method that there isn't is `KeyMissing` with its
-/// name; `format` refuses as it says. Each stands at the place. Any other value has no such methods: `ValueKind`.
-pub fn text_method(
-    arena: &mut Arena,
-    work: &mut Work,
-    on: Value,
-    name: &Text,
-    args: CallArgs,
-    at: Place,
-) -> Given
-    requires on { Owns (seen arena.old) on }
-    requires args { OwnsArguments (seen arena.old) args }
-    ensures row { (t : List ℕ) → value_of (seen arena.old) on ≡ text_value t → Gives (text_method at name.now t (arguments_in (seen arena.old).held args) (state_in (seen arena.old) work.old.steps)) result (seen arena.old) (seen arena.new) work.new.steps }
-    ensures depth { work.new.depth ≡ work.old.depth }
-{
-    match on {
-        Value::Text(text) => by_name(arena, at, name, text, args, &mut work.steps),
-        _ => Err(refusal(arena, FaultKind::ValueKind, at)),
-    }
-}
-
-fn by_name(
-    arena: &mut Arena,
-    place: Place,
-    name: &Text,
-    text: Ref,
-    args: CallArgs,
-    steps: &mut u64,
-) -> Given
-    requires text { Owns (seen arena.old) (value.Text text) }
-    requires args { OwnsArguments (seen arena.old) args }
-    ensures { (t : List ℕ) → value_of (seen arena.old) (value.Text text) ≡ text_value t → Gives (text_method place name.now t (arguments_in (seen arena.old).held args) (state_in (seen arena.old) steps.old)) result (seen arena.old) (seen arena.new) steps.new }
-{
-    if name.as_str() == "format" {
-        return format(arena, place, text, args, steps);
-    }
-    match method_named(name.as_str()) {
-        Some(method) => call(arena, place, method, text, args, steps),
-        None => {
-            let detail = name.copy()?;
-            Err(Stop::Fault(Fault {
-                kind: FaultKind::KeyMissing,
-                place: Some(place),
-                detail,
-            }))
-        }
-    }
+    Ok(owned(arena.alloc(), answer)?)
 }

@@ -1,12 +1,14 @@
 // What each method answers.
-ghost use Rattle.std.specs.Prelude.{◌≡◌, IfOk, [], ◌∷◌};
+ghost use Rattle.std.specs.Prelude.{◌≡◌, ◌<◌, ℕ, IfOk, IfSome, List, [], ◌∷◌, length};
 ghost use Rattle.text_spec.specs.Answers.{text_tuple};
 ghost use Rattle.text_spec.specs.Methods.{join_row, lines_row, parts_at, replace_row, some_of, split_row, strip_row};
+ghost use Rattle.text_spec.specs.Classes.{characters};
 ghost use Rattle.text_spec.specs.Cutting.{pieces, pieces_back, words, words_back};
 ghost use Rattle.text_spec.specs.Places.{first_place, last_place};
 ghost use Rattle.text_spec.specs.Signatures as read;
 ghost use Rattle.text_spec.specs.Texts.{texts_of};
-ghost use Rattle.star_text.specs.View.{answer_of, at_end, changed_by, method_of, operand_of, operands_of, passes, set_in, stripped_at};
+ghost use Rattle.text_words.specs.Strips.{set_of};
+ghost use Rattle.star_text.specs.View.{IsSeparated, answer_of, at_end, changed_by, method_of, operand_of, operands_of, passes, stripped_at};
 
 use crate::answers::Answer;
 use crate::kinds::{Operand, Operands, bool_in, text_in, texts_in};
@@ -28,6 +30,7 @@ pub(crate) fn answer<'a>(
     text: &'a str,
     operands: &Operands<'a>,
 ) -> Answered<'a>
+    requires { IsSeparated method (operands_of operands.now) }
     ensures { IfOk result (λ a. answer_of a ≡ (method_of method).answer text.now (operands_of operands.now)) }
 {
     let first = &operands.first;
@@ -38,13 +41,13 @@ pub(crate) fn answer<'a>(
         TextMethod::WithoutPrefix => Ok(Answer::Part(without_prefix(text_in(first), text))),
         TextMethod::WithoutSuffix => Ok(Answer::Part(without_suffix(text_in(first), text))),
         TextMethod::Replace => replace(alloc, text, operands),
-        TextMethod::Join => join(alloc, text, first),
+        TextMethod::Join => join(alloc, text, operands),
         TextMethod::Partition => partition(alloc, text, text_in(first)),
         TextMethod::PartitionBack => partition_back(alloc, text, text_in(first)),
         TextMethod::Split => split(alloc, text, operands),
         TextMethod::SplitBack => split_back(alloc, text, operands),
         TextMethod::Lines => Ok(Answer::List(lines(alloc, bool_in(first), text)?)),
-        TextMethod::Strip(end) => strip(alloc, end, text, first),
+        TextMethod::Strip(end) => strip(alloc, end, text, operands),
         TextMethod::Change(letters) => Ok(Answer::Whole(changed(alloc, letters, text)?)),
         TextMethod::Ask(test) => Ok(Answer::Test(passes(test, text))),
     }
@@ -54,12 +57,10 @@ pub(crate) fn answer<'a>(
 fn some_of(end: End, text: &str, parts: &[&str]) -> bool
     ensures { result ≡ some_of (λ x. at_end end x text.now) (texts_of parts.now) }
 {
-    let mut rest = parts;
-    while let Some((first, more)) = rest.split_first() {
-        if is_at(end, *first, text) {
+    for part in parts {
+        if is_at(end, *part, text) {
             return true;
         }
-        rest = more;
     }
     false
 }
@@ -81,15 +82,16 @@ fn replace<'a>(alloc: Global, text: &'a str, operands: &Operands<'a>) -> Answere
     Ok(Answer::Joined(text_in(&operands.second), parts))
 }
 
-fn join<'a>(alloc: Global, text: &'a str, operand: &Operand<'a>) -> Answered<'a>
-    ensures { IfOk result (λ a. (os : read.Operands) → os.first ≡ operand_of operand.now → answer_of a ≡ join_row text.now os) }
+fn join<'a>(alloc: Global, text: &'a str, operands: &Operands<'a>) -> Answered<'a>
+    ensures { IfOk result (λ a. answer_of a ≡ join_row text.now (operands_of operands.now)) }
 {
-    let texts = Items::from_slice(alloc, texts_in(operand))?;
+    let texts = Items::from_slice(alloc, texts_in(&operands.first))?;
     Ok(Answer::Joined(text, texts))
 }
 
 /// The text around the first place of another.
 fn partition<'a>(alloc: Global, text: &'a str, part: &'a str) -> Answered<'a>
+    requires { 0 < length part.now }
     ensures { IfOk result (λ a. answer_of a ≡ parts_at part.now text.now (text_tuple (text.now ∷ [] ∷ [] ∷ [])) (first_place part.now text.now)) }
 {
     match cut_first(part, text) {
@@ -100,6 +102,7 @@ fn partition<'a>(alloc: Global, text: &'a str, part: &'a str) -> Answered<'a>
 
 /// The text around the last place of another.
 fn partition_back<'a>(alloc: Global, text: &'a str, part: &'a str) -> Answered<'a>
+    requires { 0 < length part.now }
     ensures { IfOk result (λ a. answer_of a ≡ parts_at part.now text.now (text_tuple ([] ∷ [] ∷ text.now ∷ [])) (last_place part.now text.now)) }
 {
     match cut_last(part, text) {
@@ -144,10 +147,10 @@ fn split_back<'a>(alloc: Global, text: &'a str, operands: &Operands<'a>) -> Answ
 }
 
 /// The text without characters of a set at an end, or at both; white space where no set is given.
-fn strip<'a>(alloc: Global, end: End, text: &'a str, set: &Operand<'a>) -> Answered<'a>
-    ensures { IfOk result (λ a. (os : read.Operands) → os.first ≡ operand_of set.now → answer_of a ≡ strip_row (stripped_at end) text.now os) }
+fn strip<'a>(alloc: Global, end: End, text: &'a str, operands: &Operands<'a>) -> Answered<'a>
+    ensures { IfOk result (λ a. answer_of a ≡ strip_row (stripped_at end) text.now (operands_of operands.now)) }
 {
-    match set {
+    match &operands.first {
         Operand::Text(set) => {
             let set = characters(alloc, *set)?;
             Ok(Answer::Part(stripped(end, Some(set.as_slice()), text)))
@@ -157,7 +160,8 @@ fn strip<'a>(alloc: Global, end: End, text: &'a str, set: &Operand<'a>) -> Answe
 }
 
 fn stripped<'a>(end: End, set: Option<&[&str]>, text: &'a str) -> &'a str
-    ensures { result.now ≡ stripped_at end (set_in set) text.now }
+    requires { IfSome set (λ cs. (t : List ℕ) × (texts_of cs.now ≡ characters t)) }
+    ensures { result.now ≡ stripped_at end (set_of set.entry) text.now }
 {
     match end {
         End::Front => stripped_front(set, text),

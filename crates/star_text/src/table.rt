@@ -7,7 +7,7 @@ use crate::kinds::{Kind, Kinds};
 
 /// What is sought: how often a text occurs, its first place or its last.
 #[derive(Clone, Copy)]
-pub(crate) enum Sought {
+pub enum Sought {
     HowOften,
     First,
     Last,
@@ -15,7 +15,7 @@ pub(crate) enum Sought {
 
 /// One end of a text, or both.
 #[derive(Clone, Copy)]
-pub(crate) enum End {
+pub enum End {
     Front,
     Back,
     Both,
@@ -23,7 +23,7 @@ pub(crate) enum End {
 
 /// What becomes of the letters.
 #[derive(Clone, Copy)]
-pub(crate) enum Letters {
+pub enum Letters {
     Lower,
     Upper,
     Capital,
@@ -31,7 +31,7 @@ pub(crate) enum Letters {
 
 /// What is asked of each byte.
 #[derive(Clone, Copy)]
-pub(crate) enum Test {
+pub enum Test {
     LetterOrDigit,
     Letter,
     Digit,
@@ -42,7 +42,7 @@ pub(crate) enum Test {
 
 /// A method of texts but `format`. A search may have to find something.
 #[derive(Clone, Copy)]
-pub(crate) enum TextMethod {
+pub enum TextMethod {
     Search(Sought, bool),
     AtFront,
     AtBack,
@@ -105,7 +105,7 @@ pub(crate) struct Signature {
     pub kinds: Kinds,
 }
 
-fn signature(
+fn taking(
     needed: &'static [&'static str],
     optional: &'static [&'static str],
     first: Kind,
@@ -138,28 +138,28 @@ pub(crate) fn signature_of(method: TextMethod) -> Signature
     match method {
         TextMethod::Search(_, _) => {
             let bound = Kind::OptionalInteger;
-            signature(&["sub"], &["start", "end"], Kind::Text, bound, bound)
+            taking(&["sub"], &["start", "end"], Kind::Text, bound, bound)
         }
         TextMethod::AtFront | TextMethod::AtBack => {
-            signature(&["x"], &[], Kind::TextOrTexts, none, none)
+            taking(&["x"], &[], Kind::TextOrTexts, none, none)
         }
         TextMethod::WithoutPrefix | TextMethod::WithoutSuffix => {
-            signature(&["x"], &[], Kind::Text, none, none)
+            taking(&["x"], &[], Kind::Text, none, none)
         }
         TextMethod::Replace => {
             let text = Kind::Text;
-            signature(&["a", "b"], &["n"], text, text, Kind::OptionalInteger)
+            taking(&["a", "b"], &["n"], text, text, Kind::OptionalInteger)
         }
-        TextMethod::Join => signature(&["x"], &[], Kind::TextMembers, none, none),
+        TextMethod::Join => taking(&["x"], &[], Kind::TextMembers, none, none),
         TextMethod::Partition | TextMethod::PartitionBack => {
-            signature(&["sep"], &[], Kind::Separator, none, none)
+            taking(&["sep"], &[], Kind::Separator, none, none)
         }
         TextMethod::Split | TextMethod::SplitBack => {
             let separator = Kind::OptionalSeparator;
-            signature(&[], &["sep", "n"], separator, Kind::OptionalInteger, none)
+            taking(&[], &["sep", "n"], separator, Kind::OptionalInteger, none)
         }
-        TextMethod::Lines => signature(&[], &["keep"], Kind::OptionalBool, none, none),
-        TextMethod::Strip(_) => signature(&[], &["chars"], Kind::OptionalText, none, none),
-        TextMethod::Change(_) | TextMethod::Ask(_) => signature(&[], &[], none, none, none),
+        TextMethod::Lines => taking(&[], &["keep"], Kind::OptionalBool, none, none),
+        TextMethod::Strip(_) => taking(&[], &["chars"], Kind::OptionalText, none, none),
+        TextMethod::Change(_) | TextMethod::Ask(_) => taking(&[], &[], none, none, none),
     }
 }

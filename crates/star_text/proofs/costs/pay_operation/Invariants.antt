@@ -8,8 +8,8 @@ use Rattle.star_text.proofs.costs.pay_operation.Given as goal
 -- what is counted so far, and what the rest has
 abbrev pub invariant-loop-first : goal.invariant-loop-first
 invariant-loop-first l = record {
-  bytes : (b : ℕ) → IsCount l.fn.bytes b → (n : ℕ) × IsCount l.all_bytes n × (n + all_bytes (values_of (seen l.arena) l.rest) ≡ all_bytes (value_of (seen l.arena) l.value ∷ values_of (seen l.arena) l.others) + b);
-  members : (m : ℕ) → IsCount l.fn.members m → (n : ℕ) × IsCount l.all_members n × (n + all_members (seen l.arena).store (values_of (seen l.arena) l.rest) ≡ all_members (seen l.arena).store (value_of (seen l.arena) l.value ∷ values_of (seen l.arena) l.others) + m);
+  bytes : (b : ℕ) → IsCount l.fn.bytes b → (n : ℕ) × IsCount l.all_bytes n × (n + all_bytes (values_of (seen l.arena) l.rest) ≡ all_bytes (value_of (seen l.arena) l.fn.value ∷ values_of (seen l.arena) l.others) + b);
+  members : (m : ℕ) → IsCount l.fn.members m → (n : ℕ) × IsCount l.all_members n × (n + all_members (seen l.arena).store (values_of (seen l.arena) l.rest) ≡ all_members (seen l.arena).store (value_of (seen l.arena) l.fn.value ∷ values_of (seen l.arena) l.others) + m);
   owns : OwnsAll (seen l.arena) l.rest;
 }
 

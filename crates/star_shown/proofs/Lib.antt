@@ -1,0 +1,3 @@
+pub mod Collections
+pub mod Pushing
+pub mod Whole
