@@ -1,5 +1,5 @@
 -- An answer behind its cost, and a call of a method from the values of its parameters.
-use Rattle.std.proofs.Common.{◌≡◌, ℕ, ◌+◌, nat_le, Bool, true, false, List, [], ◌∷◌, ◌++◌, Option, Some, None, Result, Ok, Err, refl, subst, sym, ap, arith, ◌∙◌}
+use Rattle.std.proofs.Common.{◌≡◌, ℕ, ◌+◌, nat_le, Bool, true, false, List, ◌∷◌, Some, Result, Err, refl, subst, sym, ap, arith, ◌∙◌}
 use Rattle.ytt_base.specs.declared.fault.FaultKind.TheVariants as kind
 use Rattle.ytt_base.specs.declared.fault.Place.{Place}
 use Rattle.ytt_base.specs.declared.fault.Stop.{Stop}
@@ -12,7 +12,7 @@ use Rattle.star_values.specs.declared.value.Value.{Value as Held}
 use Rattle.text_spec.specs.Answers.{Answer, answer_bytes, answer_members, give_answer, operation_cost, paid_answer, paid_operation}
 use Rattle.text_spec.specs.Methods.{Method, method_answer, method_row}
 use Rattle.text_spec.specs.Signatures.{Operands, read_operands}
-use Rattle.value_spec.specs.Outcomes.{Computation, Ending, State, bad, done, give, or_fail, take_if, then_do, ◌>>=◌}
+use Rattle.value_spec.specs.Outcomes.{Computation, Ending, State, done, give, or_fail, take_if, then_do, ◌>>=◌}
 use Rattle.value_spec.specs.Binding.{bound_values, none_for_each, parameters_named}
 use Rattle.value_spec.specs.Values.{Arguments, Value, text_value}
 

@@ -1,11 +1,10 @@
 -- The arguments of a method by their places, and what is read of them.
-use Rattle.std.proofs.Common.{◌≡◌, ◌<◌, ℕ, zero, suc, List, [], ◌∷◌, length, get_or, slice_get, Option, Some, None, ap, sym, subst, refl, arith, rules, ◌∙◌}
+use Rattle.std.proofs.Common.{◌≡◌, ◌<◌, ℕ, zero, suc, List, [], ◌∷◌, length, slice_get, Option, Some, None, ap, sym, subst, refl, arith, rules, ◌∙◌}
 use Rattle.std.specs.Prelude.{unwrap_or}
 use Rattle.star_values.specs.Owns.{Owns, OwnsAll}
 use Rattle.star_values.specs.View.{View, value_of, values_of}
 use Rattle.star_values.specs.declared.value.Value.{Value}
 use Rattle.star_values.specs.declared.value.Value.TheVariants as value
-use Rattle.text_spec.specs.Methods.{Method}
 use Rattle.text_spec.specs.Signatures.{Operand, of_text, Operands, read_as, read_operands, separator, text_in, three_read, value_at}
 use Rattle.value_spec.specs.Values as plain
 use Rattle.value_spec.specs.Values.{Store, none_value}

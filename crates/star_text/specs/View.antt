@@ -1,5 +1,5 @@
 -- From the code's types to the definitions': kinds, operands, methods, answers.
-use Rattle.std.specs.Prelude.{◌≡◌, ◌<◌, ◌≤◌, length, ◌^◌, ℕ, Bool, true, false, List, MatchOption, Option}
+use Rattle.std.specs.Prelude.{◌≡◌, ◌<◌, ◌≤◌, length, ◌^◌, ℕ, Bool, List, MatchOption, Option}
 use Rattle.operator_spec.specs.Operators.{begins_with}
 use Rattle.text_spec.specs.Answers as plain
 use Rattle.text_spec.specs.Classes.{capitalized, is_all, is_cased, is_digit, is_letter, is_letter_or_digit, is_lower, is_space, is_upper, lowered, uppered}

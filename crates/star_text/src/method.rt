@@ -4,7 +4,7 @@ ghost use Rattle.star_steps.specs.Names.{Gives, Meets, Owns, OwnsAll, seen, stat
 ghost use Rattle.star_values.specs.Owns.{OwnsArguments};
 ghost use Rattle.star_values.specs.View.{arguments_in};
 ghost use Rattle.star_values.specs.declared.value.Value.TheVariants as value;
-ghost use Rattle.text_spec.specs.Methods.{method_answer, method_row, text_method};
+ghost use Rattle.text_spec.specs.Methods.{method_answer, method_in, method_row, row_of, text_methods};
 ghost use Rattle.star_text.specs.View.{made_of, method_of};
 
 use crate::answers::{Made, answer_bytes, answer_members, give, owned};
@@ -18,9 +18,9 @@ use star_steps::{Given, refusal};
 use ytt_base::fault::{Fault, FaultKind, Place, Stop};
 use ytt_base::text::Text;
 
-/// What a method of a text but `format` answers: the arguments are bound (`ArgBind`), each is read as its kind
+/// What a method of a text answers: the arguments are bound (`ArgBind`), each is read as its kind
 /// (`ValueKind`), the steps are taken (`Steps`), and what must be found and isn't there is `KeyMissing`, each at the place.
-pub fn call(
+fn call(
     arena: &mut Arena,
     place: Place,
     method: TextMethod,
@@ -60,6 +60,61 @@ fn answered(
     let answer = answer(arena.alloc(), method, receiver, &operands)?;
     let bytes = Some(answer_bytes(&answer));
     let members = Some(answer_members(&answer));
-    pay_operation(arena, place, Value::Text(text), values, bytes, members, steps)?;
+    pay_operation(
+        arena,
+        place,
+        Value::Text(text),
+        values,
+        bytes,
+        members,
+        steps,
+    )?;
     Ok(owned(arena.alloc(), answer)?)
+}
+
+/// What a method of a text but `format` answers, by its name: the arguments are bound (`ArgBind`), each is read as its kind
+/// (`ValueKind`), the steps are taken (`Steps`), and what must be found and isn't there is `KeyMissing`; so is a name that no method
+/// has, with the name. Each stands at the place. Another value has no such methods: `ValueKind`.
+pub fn method_by_name(
+    arena: &mut Arena,
+    work: &mut Work,
+    on: Value,
+    name: &Text,
+    args: CallArgs,
+    at: Place,
+) -> Given
+    requires on { Owns (seen arena.old) on }
+    requires args { OwnsArguments (seen arena.old) args }
+    ensures row { (t : List ℕ) → value_of (seen arena.old) on ≡ text_value t → Gives (row_of at name.now (method_in name.now text_methods) t (arguments_in (seen arena.old).held args) (state_in (seen arena.old) work.old.steps)) result (seen arena.old) (seen arena.new) work.new.steps }
+    ensures depth { work.new.depth ≡ work.old.depth }
+{
+    match on {
+        Value::Text(text) => by_name(arena, at, name, text, args, &mut work.steps),
+        _ => Err(refusal(arena, FaultKind::ValueKind, at)),
+    }
+}
+
+fn by_name(
+    arena: &mut Arena,
+    place: Place,
+    name: &Text,
+    text: Ref,
+    args: CallArgs,
+    steps: &mut u64,
+) -> Given
+    requires text { Owns (seen arena.old) (value.Text text) }
+    requires args { OwnsArguments (seen arena.old) args }
+    ensures { (t : List ℕ) → value_of (seen arena.old) (value.Text text) ≡ text_value t → Gives (row_of place name.now (method_in name.now text_methods) t (arguments_in (seen arena.old).held args) (state_in (seen arena.old) steps.old)) result (seen arena.old) (seen arena.new) steps.new }
+{
+    match method_named(name.as_str()) {
+        Some(method) => call(arena, place, method, text, args, steps),
+        None => {
+            let detail = name.copy()?;
+            Err(Stop::Fault(Fault {
+                kind: FaultKind::KeyMissing,
+                place: Some(place),
+                detail,
+            }))
+        }
+    }
 }

@@ -16,8 +16,14 @@ use crate::searches::{limit_in, search};
 use crate::table::{End, Letters, Test, TextMethod};
 use sqlite_items::Items;
 use std::alloc::Global;
-use text_pieces::{begins_with, characters, cut_first, cut_last, ends_with, pieces, pieces_back, pieces_between, without_prefix, without_suffix};
-use text_words::{Class, capitalized, is_all, is_lower, is_upper, lines, lowered, stripped_back, stripped_front, uppered, words, words_back};
+use text_pieces::{
+    begins_with, characters, cut_first, cut_last, ends_with, pieces, pieces_back, pieces_between,
+    without_prefix, without_suffix,
+};
+use text_words::{
+    Class, capitalized, is_all, is_lower, is_upper, lines, lowered, stripped_back, stripped_front,
+    uppered, words, words_back,
+};
 use ytt_base::text::{Memory, Text};
 
 /// An answer, if there is room.
@@ -114,10 +120,7 @@ fn partition_back<'a>(alloc: Global, text: &'a str, part: &'a str) -> Answered<'
 fn three<'a>(alloc: Global, first: &'a str, second: &'a str, third: &'a str) -> Answered<'a>
     ensures { IfOk result (λ a. answer_of a ≡ text_tuple (first.now ∷ second.now ∷ third.now ∷ [])) }
 {
-    Ok(Answer::Tuple(Items::from_slice(
-        alloc,
-        &[first, second, third],
-    )?))
+    Ok(Answer::Tuple(Items::from_slice(alloc, &[first, second, third])?))
 }
 
 fn split<'a>(alloc: Global, text: &'a str, operands: &Operands<'a>) -> Answered<'a>

@@ -7,7 +7,7 @@ use crate::kinds::{Kind, Kinds};
 
 /// What is sought: how often a text occurs, its first place or its last.
 #[derive(Clone, Copy)]
-pub enum Sought {
+pub(crate) enum Sought {
     HowOften,
     First,
     Last,
@@ -15,7 +15,7 @@ pub enum Sought {
 
 /// One end of a text, or both.
 #[derive(Clone, Copy)]
-pub enum End {
+pub(crate) enum End {
     Front,
     Back,
     Both,
@@ -23,7 +23,7 @@ pub enum End {
 
 /// What becomes of the letters.
 #[derive(Clone, Copy)]
-pub enum Letters {
+pub(crate) enum Letters {
     Lower,
     Upper,
     Capital,
@@ -31,7 +31,7 @@ pub enum Letters {
 
 /// What is asked of each byte.
 #[derive(Clone, Copy)]
-pub enum Test {
+pub(crate) enum Test {
     LetterOrDigit,
     Letter,
     Digit,
@@ -42,7 +42,7 @@ pub enum Test {
 
 /// A method of texts but `format`. A search may have to find something.
 #[derive(Clone, Copy)]
-pub enum TextMethod {
+pub(crate) enum TextMethod {
     Search(Sought, bool),
     AtFront,
     AtBack,

@@ -1,12 +1,11 @@
 -- What each method answers is in UTF-8 where the text and its arguments are.
-use Rattle.std.proofs.Common.{◌≡◌, ℕ, zero, suc, ◌+◌, ◌<◌, ℤ, pos, Bool, true, false, if◌then◌else◌, List, [], ◌∷◌, ◌++◌, length, take, drop, Option, Some, None, IsUtf8, refl, arith, rules}
+use Rattle.std.proofs.Common.{◌≡◌, ℕ, ◌+◌, ◌<◌, ℤ, pos, Bool, true, false, if◌then◌else◌, List, [], ◌∷◌, ◌++◌, length, take, drop, Option, Some, None, IsUtf8, refl, arith, rules}
 use Rattle.std.proofs.lemmas.Str.{IsUtf8-nil}
 use lib.Utf8.{encode, scalar}
 use Rattle.code_spec.specs.Code.{Name}
-use Rattle.text_spec.specs.Answers.{Answer, one_text, one_test, one_number, text_list, text_tuple, nowhere}
-use Rattle.text_spec.specs.Classes.{characters}
-use Rattle.text_spec.specs.Cutting.{pieces, pieces_back, strip_back, strip_front, white_space, without_prefix, without_suffix, words, words_back}
-use Rattle.text_spec.specs.Methods.{Method, Sought, begins_behind, first_between, join_row, last_between, place_of, limit_in, lines_row, partition_back_row, partition_row, parts_at, place_answer, replace_row, search_row, set_of, sought_from, sought_in, sought_nowhere, split_by, split_row, strip_row, stripped, stripped_back, stripped_front, partitioning, searching, splitting, stripping, text_methods, without_row}
+use Rattle.text_spec.specs.Answers.{Answer, one_text, text_list, text_tuple}
+use Rattle.text_spec.specs.Cutting.{pieces, pieces_back, white_space, words, words_back}
+use Rattle.text_spec.specs.Methods.{Method, Sought, begins_behind, first_between, last_between, place_of, limit_in, parts_at, place_answer, set_of, sought_from, sought_in, sought_nowhere, split_by, stripped, stripped_back, stripped_front, partitioning, searching, splitting, stripping, text_methods}
 use Rattle.text_spec.specs.Methods.{how_often, first, last}
 use Rattle.text_spec.specs.Places.{first_place, last_place}
 use Rattle.text_spec.specs.Signatures.{Kind, Kinds, separator, optional_separator, integer_or, Operand, absent, of_text, of_integer, of_bool, of_texts, Operands, bool_in, text_in, texts_in}

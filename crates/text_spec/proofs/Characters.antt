@@ -1,13 +1,13 @@
 -- Going through a text in UTF-8 character by character, and what goes through it byte by byte.
-use Rattle.std.proofs.Common.{◌≡◌, ℕ, zero, suc, ◌+◌, ◌-◌, ◌<◌, ◌≤◌, true, false, Bool, cond, not, ◌&&◌, ◌==◌, if◌then◌else◌, List, [], ◌∷◌, ◌++◌, length, IsUtf8, refl, sym, ap, subst, arith, rules, ◌∙◌}
-use Rattle.std.specs.Prelude.{nat_lt, nat_le}
+use Rattle.std.proofs.Common.{◌≡◌, ℕ, zero, suc, ◌<◌, ◌≤◌, true, false, Bool, cond, if◌then◌else◌, List, [], ◌∷◌, ◌++◌, IsUtf8, refl, sym, ap, subst, arith, rules, ◌∙◌}
+use Rattle.std.specs.Prelude.{nat_lt}
 use Rattle.std.proofs.lemmas.Bool.{and_parts, lt-ltb, le-ltb, ltb-false, ltb-true}
 use Rattle.std.proofs.lemmas.Bool.Decides.{nat_tests}
 use Rattle.std.proofs.lemmas.Str.{IsUtf8-append, IsUtf8-encode, IsUtf8-from_ascii, IsUtf8-nil}
 use Rattle.std.proofs.lemmas.Str.Ascii.{IsAscii-cons, IsAscii-nil}
 use lib.Utf8.{encode, encodes, scalars, scalar}
 use Rattle.index_spec.specs.Index.{is_inner}
-use Rattle.text_spec.specs.Classes.{capitalized, characters, is_lower, is_upper, lower_byte, lowered, to_front, upper_byte, uppered}
+use Rattle.text_spec.specs.Classes.{capitalized, characters, lower_byte, lowered, to_front, upper_byte, uppered}
 use Rattle.text_spec.specs.Cutting.{cut_at_bounds, cut_behind, joined, pieces_between}
 use Rattle.text_spec.proofs.Cuts.{behind_utf8}
 use Rattle.text_spec.proofs.Utf8.{AreUtf8, pieces_utf8}

@@ -1,5 +1,5 @@
 -- Methods, `%`, `format` and `repr` whose answers and steps are computed.
-use Rattle.std.proofs.Common.{◌≡◌, ℕ, ℤ, pos, negsuc, true, false, List, [], ◌∷◌, refl, codes}
+use Rattle.std.proofs.Common.{◌≡◌, ℕ, pos, negsuc, true, false, List, [], ◌∷◌, refl, codes}
 use Rattle.std.specs.Fmt.{digits}
 use Rattle.ytt_base.specs.declared.fault.FaultKind.{FaultKind}
 use Rattle.ytt_base.specs.declared.fault.FaultKind.TheVariants as kind
@@ -8,7 +8,7 @@ use Rattle.code_spec.specs.Code.{Name}
 use Rattle.operator_spec.specs.Operators.{tuple_of}
 use Rattle.value_spec.specs.Outcomes.{State, done, bad, Computation, fail_with}
 use Rattle.value_spec.specs.Store.{with_object}
-use Rattle.value_spec.specs.Values.{Value, none_value, bool_value, int_value, text_value, range_value, list_value, dict_value, values_from, Fields, no_fields, a_field, Arguments, arguments, Store, of_list, of_dict}
+use Rattle.value_spec.specs.Values.{Value, none_value, bool_value, int_value, text_value, range_value, list_value, dict_value, values_from, Fields, no_fields, a_field, arguments, Store, of_list, of_dict}
 use Rattle.text_spec.specs.Methods.{text_method}
 use Rattle.text_spec.specs.Percent.{percent_row}
 use Rattle.text_spec.specs.Shown.{repr_of, str_of}

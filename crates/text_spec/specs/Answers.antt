@@ -1,6 +1,6 @@
 -- What a method answers, and what it costs: a sixteenth of the bytes of the texts among its operands and of a text that it gives, and
 -- the members of the collections among its operands and of one that it gives.
-use Rattle.std.specs.Prelude.{ℕ, zero, ◌+◌, ◌/◌, ℤ, Bool, List, [], ◌∷◌, length}
+use Rattle.std.specs.Prelude.{ℕ, ◌+◌, ◌/◌, ℤ, Bool, List, [], ◌∷◌, length}
 use Rattle.ytt_base.specs.declared.fault.FaultKind.TheVariants as kind
 use Rattle.ytt_base.specs.declared.fault.Place.{Place}
 use Rattle.operator_spec.specs.Operators.{int_of, tuple_of}

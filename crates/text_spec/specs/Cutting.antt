@@ -1,5 +1,5 @@
 -- What a text is cut into: at another text, at the bounds of its characters, into words, into lines; what is cut off its ends.
-use Rattle.std.specs.Prelude.{ℕ, zero, suc, ◌+◌, ◌-◌, ◌==◌, Bool, true, false, not, ◌&&◌, ◌||◌, List, [], ◌∷◌, ◌++◌, length, take, drop, reverse, Option, Some, None, if◌then◌else◌}
+use Rattle.std.specs.Prelude.{ℕ, zero, suc, ◌+◌, ◌-◌, ◌==◌, Bool, not, ◌&&◌, ◌||◌, List, [], ◌∷◌, ◌++◌, length, take, drop, reverse, Option, Some, None, if◌then◌else◌}
 use Rattle.operator_spec.specs.Operators.{begins_with}
 use Rattle.text_spec.specs.Classes.{behind, characters, front, is_space}
 use Rattle.text_spec.specs.Places.{ends_with, first_place, last_place}

@@ -1,5 +1,5 @@
 -- Where a text occurs in another: at each place whose bytes are its own. An empty text occurs at every bound of a character.
-use Rattle.std.specs.Prelude.{ℕ, zero, suc, ◌+◌, ◌-◌, nat_lt, min, ℤ, pos, negsuc, Bool, true, false, not, List, [], ◌∷◌, length, take, drop, reverse, Option, Some, None, option_map, if◌then◌else◌}
+use Rattle.std.specs.Prelude.{ℕ, zero, suc, Bool, List, [], ◌∷◌, reverse, Option, Some, None, if◌then◌else◌}
 use Rattle.code_spec.specs.Options.{further, or_else}
 use Rattle.index_spec.specs.Index.{begins_inner}
 use Rattle.operator_spec.specs.Operators.{begins_with}

@@ -5,7 +5,6 @@ use Rattle.ytt_base.specs.declared.fault.FaultKind.TheVariants as kind
 use Rattle.ytt_base.specs.declared.fault.Place.{Place}
 use Rattle.ytt_base.specs.Trees.{max_depth, same_integer}
 use Rattle.code_spec.specs.Code.{Name}
-use Rattle.code_spec.specs.Program.{ItemKind}
 use Rattle.index_spec.specs.KeyTexts.{bool_text, integer_text, quoted}
 use Rattle.operator_spec.specs.Equality.{native_name}
 use Rattle.value_spec.specs.Built.{body_paid, fragment_body}
@@ -13,7 +12,7 @@ use Rattle.value_spec.specs.Keys.{text_cost}
 use Rattle.value_spec.specs.Numbers.{range_count}
 use Rattle.value_spec.specs.Outcomes.{Computation, fail, give, paid, paid_by, reads, ◌>>=◌}
 use Rattle.value_spec.specs.Store.{function_at, list_at, pairs_at}
-use Rattle.value_spec.specs.Values.{Value, none_value, bool_value, int_value, text_value, tuple_value, range_value, struct_value, fragment_value, list_value, dict_value, function_value, module_value, native_value, values_in, Fields, fields_in, Children, Function}
+use Rattle.value_spec.specs.Values.{Value, none_value, bool_value, int_value, text_value, tuple_value, range_value, struct_value, fragment_value, list_value, dict_value, function_value, module_value, native_value, values_in, fields_in, Function}
 
 -- ---- members
 

@@ -1,7 +1,6 @@
 use Rattle.std.proofs.Common.{◌≡◌, ◌+◌, ℕ, length}
 use Rattle.star_steps.proofs.Names.{OwnsAll, seen, value_of, values_of, ◌∷◌}
-use Rattle.text_spec.specs.Answers.{all_bytes, all_members, bytes_in}
-use Rattle.value_spec.specs.Members.{count_in}
+use Rattle.text_spec.specs.Answers.{all_bytes, all_members}
 use Rattle.star_text.specs.View.{IsCount}
 use Rattle.star_text.proofs.costs.pay_operation.Given as goal
 

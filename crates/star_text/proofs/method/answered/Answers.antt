@@ -1,4 +1,4 @@
-use Rattle.std.proofs.Common.{◌≡◌, Err, Some, ap, rules, subst, sym, ◌∙◌}
+use Rattle.std.proofs.Common.{◌≡◌, Err, ap, rules, subst, sym, ◌∙◌}
 use Rattle.std.specs.Option.{option_map}
 use Rattle.star_steps.proofs.Names.{done, seen, state_in, value_of, values_of}
 use Rattle.star_steps.specs.Meets.{Meets}

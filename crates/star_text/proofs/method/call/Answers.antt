@@ -2,7 +2,7 @@ use Rattle.std.proofs.Common.{◌≡◌, Err, ap, map as each, rules, subst, sym
 use Rattle.star_steps.proofs.Names.{OwnsAll, done, seen, state_in, values_of}
 use Rattle.star_steps.specs.Meets.{Gives}
 use Rattle.star_values.specs.View.{arguments_in}
-use Rattle.text_spec.specs.Methods.{method_answer, method_row}
+use Rattle.text_spec.specs.Methods.{method_row}
 use Rattle.star_text.specs.View.{made_of, method_of}
 use Rattle.star_text.proofs.Paying.{answered, unanswered, unbound}
 use Rattle.star_text.proofs.method.call.Goals as goal
