@@ -27,7 +27,7 @@ use Rattle.template_meaning.specs.Calls.{bottom, bottom_children, bottom_flow, e
 use Rattle.template_meaning.specs.Files.{FileResult, File, Loader, ended}
 use Rattle.template_meaning.specs.Meaning.{RunFile, loads_in, names_in, run_blocks}
 use Rattle.template_meaning.specs.Run.{runs}
-use Rattle.star_values.proofs.Growing.{grows_then}
+use Rattle.star_values.proofs.Growing.{grows_same, grows_then}
 use Rattle.star_values.specs.Objects.{env_in}
 use Rattle.star_values.specs.Owns.{Grows}
 use Rattle.star_values.specs.View.{View}
@@ -123,3 +123,7 @@ module _ (is : List Instruction) (depth made_before : ℕ) (before after : Sessi
   }
   file_runs (Ok w) (Err stop.Memory) ran left = record { meaning = λ loads loader. tt; owned = tt; grows = tt }
   file_runs (Err f) (Err stop.Memory) ran left = record { meaning = λ loads loader. tt; owned = tt; grows = tt }
+
+-- and so the call on it
+pub broken_runs : (is : List Instruction) (depth : ℕ) (s : Session) (x : Stop) → x ≡ stop.Fault (fault_of kind.CodeForm) → blocks is ≡ None → RunsAs is depth (Err x) s s
+broken_runs is depth s x e none = subst (λ (x : Stop). RunsAs is depth (Err x) s s) (sym e) (record { meaning = λ loads loader. broken_run loader depth is (state_of s) none; owned = tt; grows = grows_same (arena_of s) })

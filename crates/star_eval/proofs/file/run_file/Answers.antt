@@ -1,6 +1,5 @@
 use Rattle.std.proofs.Common.{◌≡◌, [], ◌∷◌, length, Some, None, Err, sym, ap, subst, ◌∙◌}
 use Rattle.std.specs.Option.{option_map}
-use Rattle.ytt_base.specs.declared.fault.Stop.{Stop}
 use Rattle.code_spec.specs.Blocks.{blocks}
 use Rattle.code_spec.specs.Scopes.{names_of_file}
 use Rattle.node_build.specs.View.{nodes_of}
@@ -9,21 +8,17 @@ use Rattle.star_resolve.specs.Frames.{boxed, with_unset}
 use Rattle.star_resolve.specs.Variables.{each_once}
 use Rattle.star_spec.specs.Calls.{no_natives}
 use Rattle.star_spec.specs.Eval.{starlark}
-use Rattle.star_steps.specs.Meets.{Meets}
 use Rattle.star_tree.specs.Whole.{program_of}
-use Rattle.star_values.proofs.Growing.{grows_same, grows_then}
+use Rattle.star_values.proofs.Growing.{grows_then}
 use Rattle.star_values.specs.Objects.{env_in}
 use Rattle.star_values.specs.Owns.{Grows}
 use Rattle.template_meaning.specs.Calls.{bottom, ops_function, program_calls}
-use Rattle.template_meaning.specs.Meaning.{RunFile}
 use Rattle.template_meaning.specs.Run.{runs}
-use Rattle.star_eval.specs.declared.file.FileResult.{FileResult}
 use Rattle.star_eval.specs.declared.session.Session.{Session}
 use Rattle.star_eval.specs.Calling.{calls_at}
-use Rattle.star_eval.specs.Finishes.{UnlessMemory, result_of}
 use Rattle.star_eval.specs.Frames.{flow_ending_of}
 use Rattle.star_eval.specs.Meets.{arena_of, in_store, state_of}
-use Rattle.star_eval.proofs.FileRuns.{broken_run, file_runs, same_calls}
+use Rattle.star_eval.proofs.FileRuns.{broken_runs, file_runs, same_calls}
 use Rattle.star_eval.proofs.file.run_file.Goals as goal
 
 pub run_block-requires-clause-nodes : goal.run_block-requires-clause-nodes
@@ -34,12 +29,7 @@ returns-in-None-clause-runs c = λ globals.
     let p = c.args.resolved.now.program in
     let before = c.args.session.now in
     let none : blocks (program_of p) ≡ None = sym (c.in_ok-block.ensures p.file) ∙ ap (option_map (ops_of p.file)) c.in-None.is in
-    record {
-      meaning = λ loads loader. subst (λ (x : Stop). Meets (result_of (arena_of before)) (Err x) (state_of before) (RunFile starlark no_natives loader (λ f. program_of p) before.work.depth (program_of p) (state_of before)))
-          (sym c.ill_formed.ensures) (broken_run loader before.work.depth (program_of p) (state_of before) none);
-      owned = tt;
-      grows = subst (λ (x : Stop). UnlessMemory (Err {A = FileResult} x) (Grows (arena_of before) (arena_of before))) (sym c.ill_formed.ensures) (grows_same (arena_of before));
-    }
+    broken_runs (program_of p) before.work.depth before c.ill_formed.result c.ill_formed.ensures none
 
 pub returns-clause-runs : goal.returns-clause-runs
 returns-clause-runs c = λ globals.
