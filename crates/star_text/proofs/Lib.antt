@@ -1,2 +1,4 @@
+pub mod Conversions
+pub mod Converting
 pub mod Paying
 pub mod Reading

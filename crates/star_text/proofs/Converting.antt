@@ -1,0 +1,163 @@
+-- How the text of `%` goes on behind a conversion.
+use Rattle.std.proofs.Common.{◌≡◌, ◌++◌, ◌∙◌, ◌+◌, ◌<◌, ◌==◌, ℕ, suc, Bool, true, false, cond, not, List, [], ◌∷◌, length, take, drop, Result, Ok, Err, ap, rules, append-nil, refl, sym, subst, arith}
+use Rattle.std.proofs.lemmas.Bool.{eqb-true}
+use Rattle.std.specs.List.{after_first, before_first, position_or_len}
+use Rattle.ytt_base.specs.Outcomes.{fault_at}
+use Rattle.ytt_base.specs.declared.fault.FaultKind.TheVariants as kind
+use Rattle.ytt_base.specs.declared.fault.Place.{Place}
+use Rattle.ytt_base.specs.declared.fault.Stop.{Stop}
+use Rattle.ytt_base.specs.declared.fault.Stop.TheVariants as stop
+use Rattle.star_shown.specs.Pushes.{behind}
+use Rattle.star_steps.specs.Meets.{Gives, Meets, as_is, state_in}
+use Rattle.text_spec.specs.Percent.{by_conversion, by_next, filled, percent_row, text_before, values_for}
+use Rattle.text_spec.proofs.Filling.{AllPass, is_it, is_plain, onto_before, run_filled}
+use Rattle.value_spec.specs.Outcomes.{Computation, Ending, State, bad, done, give, then_do}
+use Rattle.value_spec.specs.Values.{Value, text_value}
+use Rattle.object_arena.specs.Made.{Makes}
+use Rattle.star_values.proofs.Growing.{grows_same}
+use Rattle.star_values.specs.View.{View, value_of, values_of}
+use Rattle.text_spec.specs.Answers.{paid_operation}
+use Rattle.star_text.proofs.Paying.{after_cost}
+use Rattle.star_values.specs.declared.value.Value.{Value as Held}
+use Rattle.star_text.specs.Filling.{GoesOn, IsConversion, conversion_in, is_of_float, takes_value}
+use Rattle.star_text.specs.declared.percent.Conversion.{Conversion as Kind}
+use Rattle.star_text.specs.declared.percent.Conversion.TheVariants as conversion
+
+abbrev Here : Type 0
+Here = State (Unit {0})
+
+abbrev Texts : Type 0
+Texts = Computation (Unit {0}) (List ℕ)
+
+-- ---- what stands behind a sign
+
+taken : (p : Place) (c : Kind) (vs : List Value) (k : List Value → Texts) → takes_value c ≡ true → by_conversion p (conversion_in c) vs k ≡ by_next p (conversion_in c) vs k
+taken p conversion.Str vs k e = refl
+taken p conversion.Repr vs k e = refl
+taken p conversion.Decimal vs k e = refl
+taken p conversion.Hexadecimal vs k e = refl
+taken p conversion.Capitals vs k e = refl
+taken p conversion.Octal vs k e = refl
+taken p conversion.Percent vs k e = cc
+taken p conversion.Float vs k e = cc
+
+is_sign : (p : Place) (c : Kind) (vs : List Value) (k : List Value → Texts) → takes_value c ≡ false → is_of_float c ≡ false → by_conversion p (conversion_in c) vs k ≡ text_before (37 ∷ []) (k vs)
+is_sign p conversion.Str vs k e f = cc
+is_sign p conversion.Repr vs k e f = cc
+is_sign p conversion.Decimal vs k e f = cc
+is_sign p conversion.Hexadecimal vs k e f = cc
+is_sign p conversion.Capitals vs k e f = cc
+is_sign p conversion.Octal vs k e f = cc
+is_sign p conversion.Percent vs k e f = refl
+is_sign p conversion.Float vs k e f = cc
+
+by_its_conversion : (p : Place) (text more : List ℕ) (c : Kind) (vs : List Value) → IsConversion text c more → filled {H = Unit {0}} p (37 ∷ text) vs ≡ by_conversion p (conversion_in c) vs (filled p more)
+by_its_conversion p text more c vs h = ap (λ t. filled p (37 ∷ t) vs) h.1 ∙ ap (λ k. by_conversion p k vs (filled p more)) h.2
+
+pub by_value : (p : Place) (text more : List ℕ) (c : Kind) (vs : List Value) (made : List ℕ) (s : Here) → IsConversion text c more → takes_value c ≡ true → behind made (filled p (37 ∷ text) vs) s ≡ behind made (by_next p (conversion_in c) vs (filled p more)) s
+by_value p text more c vs made s h e = ap (λ m. behind made m s) (by_its_conversion p text more c vs h ∙ taken p c vs (filled p more) e)
+
+pub by_sign : (p : Place) (text more : List ℕ) (c : Kind) (vs : List Value) (made new : List ℕ) (s : Here) → IsConversion text c more → takes_value c ≡ false → is_of_float c ≡ false → new ≡ made ++ 37 ∷ [] → behind made (filled p (37 ∷ text) vs) s ≡ behind new (filled p more vs) s
+by_sign p text more c vs made new s h e f put =
+    ap (λ m. behind made m s) (by_its_conversion p text more c vs h ∙ is_sign p c vs (filled p more) e f)
+    ∙ onto_before made (37 ∷ []) (filled p more vs) s
+    ∙ ap (λ l. behind l (filled p more vs) s) (sym put)
+
+-- ---- up to a sign
+
+one_more : (n : ℕ) → suc n ≡ 1 + n
+one_more n = omega arith
+
+two_more : (n : ℕ) → suc (n + 1) ≡ 1 + n + 1
+two_more n = omega arith
+
+abbrev IsSplit : List ℕ → ℕ → ℕ → Type 0
+IsSplit t m n = AllPass is_plain (take m t) × (t ≡ take m t ++ 37 ∷ drop n t)
+
+split_at_sign : (t : List ℕ) → position_or_len (is_it 37) t < length t → IsSplit t (position_or_len (is_it 37) t) (position_or_len (is_it 37) t + 1)
+split_at_sign [] l = absurd (omega (arith, l))
+split_at_sign (b ∷ t) l = by (b == 37) refl (split_at_sign t) l where
+  n : ℕ
+  n = position_or_len (is_it 37) t
+
+  by : (h : Bool) → b == 37 ≡ h → (n < length t → IsSplit t n (n + 1)) → cond (not h) (1 + n) 0 < suc (length t) → IsSplit (b ∷ t) (cond (not h) (1 + n) 0) (cond (not h) (1 + n) 0 + 1)
+  by true e further l = (tt, ap (λ x. x ∷ t) (eqb-true b 37 e))
+  by false e further l =
+      let rest = further (omega (arith, l)) in
+      subst (λ k. IsSplit (b ∷ t) (1 + n) k) (two_more n) (subst (λ k. IsSplit (b ∷ t) k (suc (n + 1))) (one_more n) ((ap not e, rest.0), ap (λ r. b ∷ r) rest.1))
+
+without_sign : (t : List ℕ) → position_or_len (is_it 37) t ≡ length t → AllPass is_plain t
+without_sign [] e = tt
+without_sign (b ∷ t) e = by (b == 37) refl (without_sign t) e where
+  n : ℕ
+  n = position_or_len (is_it 37) t
+
+  by : (h : Bool) → b == 37 ≡ h → (n ≡ length t → AllPass is_plain t) → cond (not h) (1 + n) 0 ≡ suc (length t) → AllPass is_plain (b ∷ t)
+  by true e further l = absurd (omega (arith, l))
+  by false e further l = (ap not e, further (omega (arith, l)))
+
+pub at_sign : (p : Place) (t before after made new : List ℕ) (vs : List Value) (s : Here) → position_or_len (is_it 37) t < length t → before ≡ before_first (is_it 37) t → after ≡ after_first (is_it 37) t → new ≡ made ++ before →
+    behind made (filled p t vs) s ≡ behind new (filled p (37 ∷ after) vs) s
+at_sign p t before after made new vs s l front rest put =
+    let split = split_at_sign t l in
+    ap (λ x. behind made (filled p x vs) s) (split.1)
+    ∙ run_filled p (before_first (is_it 37) t) (37 ∷ after_first (is_it 37) t) vs made s split.0
+    ∙ ap (λ x. behind (made ++ x) (filled p (37 ∷ after_first (is_it 37) t) vs) s) (sym front)
+    ∙ ap (λ x. behind (made ++ before) (filled p (37 ∷ x) vs) s) (sym rest)
+    ∙ ap (λ x. behind x (filled p (37 ∷ after) vs) s) (sym put)
+
+behind_last : (p : Place) (t made : List ℕ) (vs : List Value) (s : Here) → position_or_len (is_it 37) t ≡ length t → behind made (filled p t vs) s ≡ behind (made ++ t) (filled p [] vs) s
+behind_last p t made vs s e = ap (λ x. behind made (filled p x vs) s) (sym (append-nil t)) ∙ run_filled p t [] vs made s (without_sign t e)
+
+pub at_the_end : (p : Place) (t made new : List ℕ) (s : Here) → position_or_len (is_it 37) t ≡ length t → new ≡ made ++ t → behind made (filled p t []) s ≡ done new s
+at_the_end p t made new s e put = behind_last p t made [] s e ∙ ap (λ x. done x s) (append-nil (made ++ t) ∙ sym put)
+
+pub none_left : (p : Place) (a : View) (t made new : List ℕ) (vs : List Held) (s : Here) → (length vs == 0) ≡ true → position_or_len (is_it 37) t ≡ length t → new ≡ made ++ t → behind made (filled p t (values_of a vs)) s ≡ done new s
+none_left p a t made new [] s h e put = behind_last p t made [] s e ∙ ap (λ x. done x s) (append-nil (made ++ t) ∙ sym put)
+none_left p a t made new (v ∷ vs) s h e put = absurd (search (rules, h))
+
+pub some_left : (p : Place) (a : View) (t made : List ℕ) (vs : List Held) (s : Here) → (length vs == 0) ≡ false → position_or_len (is_it 37) t ≡ length t → behind made (filled p t (values_of a vs)) s ≡ bad (fault_at kind.ValueKind p) s
+some_left p a t made [] s h e = absurd (search (rules, h))
+some_left p a t made (v ∷ vs) s h e = behind_last p t made (values_of a (v ∷ vs)) s e
+
+-- ---- refusals
+
+-- it ended as what it goes on with
+pub goes_stopped : {A B : Type 0} (x : Stop) (r : Result B Stop) (whole next : Ending (Unit {0}) (List ℕ)) (f : A → Ending (Unit {0}) (List ℕ)) (g : B → Ending (Unit {0}) (List ℕ)) (s : Here) → r ≡ Err x → whole ≡ next → GoesOn (Err x) next f s → GoesOn r whole g s
+goes_stopped (stop.Fault d) r whole next f g s e same h = subst (λ r. GoesOn r whole g s) (sym e) (same ∙ h)
+goes_stopped stop.Memory r whole next f g s e same h = subst (λ r. GoesOn r whole g s) (sym e) tt
+
+pub meets_stopped : {A B : Type 0} (x : Stop) (r : Result B Stop) (whole next : Ending (Unit {0}) (List ℕ)) (f : A → Ending (Unit {0}) (List ℕ)) (view : B → List ℕ) (s : Here) → r ≡ Err x → whole ≡ next → GoesOn (Err x) next f s → Meets view r s whole
+meets_stopped (stop.Fault d) r whole next f view s e same h = subst (λ r. Meets view r s whole) (sym e) (same ∙ h)
+meets_stopped stop.Memory r whole next f view s e same h = subst (λ r. Meets view r s whole) (sym e) tt
+
+-- ---- the whole
+
+pub nothing_before : (e : Ending (Unit {0}) (List ℕ)) (r : List ℕ) (after : Here) → then_do e (λ t. give ([] ++ t)) ≡ done r after → e ≡ done r after
+nothing_before (done t s) r after h = h
+nothing_before (bad f s) r after h = cc
+
+pub nothing_refused : (e : Ending (Unit {0}) (List ℕ)) (f : _) (after : Here) → then_do e (λ t. give ([] ++ t)) ≡ bad f after → e ≡ bad f after
+nothing_refused (done t s) f after h = cc
+nothing_refused (bad g s) f after h = h
+
+pub nothing_met : {A B : Type 0} (x : Stop) (r : Result B Stop) (f : A → List ℕ) (g : B → List ℕ) (e : Ending (Unit {0}) (List ℕ)) (after : Here) → r ≡ Err x → Meets f (Err x) after (then_do e (λ t. give ([] ++ t))) → Meets g r after e
+nothing_met (stop.Fault d) r f g e after same h = subst (λ r. Meets g r after e) (sym same) (nothing_refused e d after h)
+nothing_met stop.Memory r f g e after same h = subst (λ r. Meets g r after e) (sym same) tt
+
+module _ (p : Place) (t : List ℕ) (v : Value) (made : List ℕ) (s mid : Here) (is : filled p t (values_for v) s ≡ done made mid) where
+  paid_row : percent_row p t v s ≡ then_do (paid_operation p (text_value t ∷ v ∷ []) (length made) 0 (give (tt {0})) mid) (λ (u : Unit {0}). give (text_value made))
+  paid_row = ap (λ o. then_do o (λ r. paid_operation p (text_value t ∷ v ∷ []) (length r) 0 (give (text_value r)))) is ∙ after_cost p (text_value t ∷ v ∷ []) (length made) 0 (give (text_value made)) mid
+
+  pub percent_unpaid : (a : View) (n : ℕ) (x : Stop) (r : Result Held Stop) → r ≡ Err x → Meets as_is (Err x) (state_in a n) (paid_operation p (text_value t ∷ v ∷ []) (length made) 0 (give (tt {0})) mid) → Gives (percent_row p t v s) r a a n
+  percent_unpaid a n x r e h = subst (λ r. Gives (percent_row p t v s) r a a n) (sym e) (record { meaning = unpaid x h; owns = tt; grows = grows_same a }) where
+    unpaid : (x : Stop) → Meets as_is (Err x) (state_in a n) (paid_operation p (text_value t ∷ v ∷ []) (length made) 0 (give (tt {0})) mid) → Meets (value_of a) (Err x) (state_in a n) (percent_row p t v s)
+    unpaid (stop.Fault d) h = paid_row ∙ ap (λ o. then_do o (λ (u : Unit {0}). give (text_value made))) h
+    unpaid stop.Memory h = tt
+
+  pub percent_made : (a b : View) (n : ℕ) (w : Held) → paid_operation p (text_value t ∷ v ∷ []) (length made) 0 (give (tt {0})) mid ≡ done (tt {0}) (state_in a n) → Makes (text_value made) (Ok w) a b → Gives (percent_row p t v s) (Ok w) a b n
+  percent_made a b n w paid makes = record {
+    meaning = paid_row ∙ ap (λ o. then_do o (λ (u : Unit {0}). give (text_value made))) paid ∙ (λ i. done (sym makes.value i) (record { store = sym makes.store i; steps = n; host = tt {0} }));
+    owns = makes.owns;
+    grows = makes.grows;
+  }
