@@ -9,7 +9,7 @@ use Rattle.ytt_base.specs.declared.fault.Stop.{Stop}
 use Rattle.ytt_base.specs.declared.fault.Stop.TheVariants as stop
 use Rattle.star_shown.specs.Pushes.{behind}
 use Rattle.star_steps.specs.Meets.{Gives, Meets, as_is, state_in}
-use Rattle.text_spec.specs.Percent.{by_conversion, by_next, filled, percent_row, text_before, values_for}
+use Rattle.text_spec.specs.Percent.{by_conversion, by_next, filled, text_before}
 use Rattle.text_spec.proofs.Filling.{AllPass, is_it, is_plain, onto_before, run_filled}
 use Rattle.value_spec.specs.Outcomes.{Computation, Ending, State, bad, done, give, then_do}
 use Rattle.value_spec.specs.Values.{Value, text_value}
@@ -17,7 +17,6 @@ use Rattle.object_arena.specs.Made.{Makes}
 use Rattle.star_values.proofs.Growing.{grows_same}
 use Rattle.star_values.specs.View.{View, value_of, values_of}
 use Rattle.text_spec.specs.Answers.{paid_operation}
-use Rattle.star_text.proofs.Paying.{after_cost}
 use Rattle.star_values.specs.declared.value.Value.{Value as Held}
 use Rattle.star_text.specs.Filling.{GoesOn, IsConversion, conversion_in, is_of_float, takes_value}
 use Rattle.star_text.specs.declared.percent.Conversion.{Conversion as Kind}
@@ -71,20 +70,23 @@ one_more n = omega arith
 two_more : (n : ℕ) → suc (n + 1) ≡ 1 + n + 1
 two_more n = omega arith
 
-abbrev IsSplit : List ℕ → ℕ → ℕ → Type 0
-IsSplit t m n = AllPass is_plain (take m t) × (t ≡ take m t ++ 37 ∷ drop n t)
+abbrev is_not : ℕ → ℕ → Bool
+is_not x b = not (b == x)
 
-split_at_sign : (t : List ℕ) → position_or_len (is_it 37) t < length t → IsSplit t (position_or_len (is_it 37) t) (position_or_len (is_it 37) t + 1)
-split_at_sign [] l = absurd (omega (arith, l))
-split_at_sign (b ∷ t) l = by (b == 37) refl (split_at_sign t) l where
+abbrev IsSplit : ℕ → List ℕ → ℕ → ℕ → Type 0
+IsSplit x t m n = AllPass (is_not x) (take m t) × (t ≡ take m t ++ x ∷ drop n t)
+
+pub split_at_first : (x : ℕ) (t : List ℕ) → position_or_len (is_it x) t < length t → IsSplit x t (position_or_len (is_it x) t) (position_or_len (is_it x) t + 1)
+split_at_first x [] l = absurd (omega (arith, l))
+split_at_first x (b ∷ t) l = by (b == x) refl (split_at_first x t) l where
   n : ℕ
-  n = position_or_len (is_it 37) t
+  n = position_or_len (is_it x) t
 
-  by : (h : Bool) → b == 37 ≡ h → (n < length t → IsSplit t n (n + 1)) → cond (not h) (1 + n) 0 < suc (length t) → IsSplit (b ∷ t) (cond (not h) (1 + n) 0) (cond (not h) (1 + n) 0 + 1)
-  by true e further l = (tt, ap (λ x. x ∷ t) (eqb-true b 37 e))
+  by : (h : Bool) → b == x ≡ h → (n < length t → IsSplit x t n (n + 1)) → cond (not h) (1 + n) 0 < suc (length t) → IsSplit x (b ∷ t) (cond (not h) (1 + n) 0) (cond (not h) (1 + n) 0 + 1)
+  by true e further l = (tt, ap (λ y. y ∷ t) (eqb-true b x e))
   by false e further l =
       let rest = further (omega (arith, l)) in
-      subst (λ k. IsSplit (b ∷ t) (1 + n) k) (two_more n) (subst (λ k. IsSplit (b ∷ t) k (suc (n + 1))) (one_more n) ((ap not e, rest.0), ap (λ r. b ∷ r) rest.1))
+      subst (λ k. IsSplit x (b ∷ t) (1 + n) k) (two_more n) (subst (λ k. IsSplit x (b ∷ t) k (suc (n + 1))) (one_more n) ((ap not e, rest.0), ap (λ r. b ∷ r) rest.1))
 
 without_sign : (t : List ℕ) → position_or_len (is_it 37) t ≡ length t → AllPass is_plain t
 without_sign [] e = tt
@@ -99,7 +101,7 @@ without_sign (b ∷ t) e = by (b == 37) refl (without_sign t) e where
 pub at_sign : (p : Place) (t before after made new : List ℕ) (vs : List Value) (s : Here) → position_or_len (is_it 37) t < length t → before ≡ before_first (is_it 37) t → after ≡ after_first (is_it 37) t → new ≡ made ++ before →
     behind made (filled p t vs) s ≡ behind new (filled p (37 ∷ after) vs) s
 at_sign p t before after made new vs s l front rest put =
-    let split = split_at_sign t l in
+    let split = split_at_first 37 t l in
     ap (λ x. behind made (filled p x vs) s) (split.1)
     ∙ run_filled p (before_first (is_it 37) t) (37 ∷ after_first (is_it 37) t) vs made s split.0
     ∙ ap (λ x. behind (made ++ x) (filled p (37 ∷ after_first (is_it 37) t) vs) s) (sym front)
@@ -133,31 +135,17 @@ meets_stopped stop.Memory r whole next f view s e same h = subst (λ r. Meets vi
 
 -- ---- the whole
 
-pub nothing_before : (e : Ending (Unit {0}) (List ℕ)) (r : List ℕ) (after : Here) → then_do e (λ t. give ([] ++ t)) ≡ done r after → e ≡ done r after
-nothing_before (done t s) r after h = h
-nothing_before (bad f s) r after h = cc
-
-pub nothing_refused : (e : Ending (Unit {0}) (List ℕ)) (f : _) (after : Here) → then_do e (λ t. give ([] ++ t)) ≡ bad f after → e ≡ bad f after
-nothing_refused (done t s) f after h = cc
-nothing_refused (bad g s) f after h = h
-
-pub nothing_met : {A B : Type 0} (x : Stop) (r : Result B Stop) (f : A → List ℕ) (g : B → List ℕ) (e : Ending (Unit {0}) (List ℕ)) (after : Here) → r ≡ Err x → Meets f (Err x) after (then_do e (λ t. give ([] ++ t))) → Meets g r after e
-nothing_met (stop.Fault d) r f g e after same h = subst (λ r. Meets g r after e) (sym same) (nothing_refused e d after h)
-nothing_met stop.Memory r f g e after same h = subst (λ r. Meets g r after e) (sym same) tt
-
-module _ (p : Place) (t : List ℕ) (v : Value) (made : List ℕ) (s mid : Here) (is : filled p t (values_for v) s ≡ done made mid) where
-  paid_row : percent_row p t v s ≡ then_do (paid_operation p (text_value t ∷ v ∷ []) (length made) 0 (give (tt {0})) mid) (λ (u : Unit {0}). give (text_value made))
-  paid_row = ap (λ o. then_do o (λ r. paid_operation p (text_value t ∷ v ∷ []) (length r) 0 (give (text_value r)))) is ∙ after_cost p (text_value t ∷ v ∷ []) (length made) 0 (give (text_value made)) mid
-
-  pub percent_unpaid : (a : View) (n : ℕ) (x : Stop) (r : Result Held Stop) → r ≡ Err x → Meets as_is (Err x) (state_in a n) (paid_operation p (text_value t ∷ v ∷ []) (length made) 0 (give (tt {0})) mid) → Gives (percent_row p t v s) r a a n
-  percent_unpaid a n x r e h = subst (λ r. Gives (percent_row p t v s) r a a n) (sym e) (record { meaning = unpaid x h; owns = tt; grows = grows_same a }) where
-    unpaid : (x : Stop) → Meets as_is (Err x) (state_in a n) (paid_operation p (text_value t ∷ v ∷ []) (length made) 0 (give (tt {0})) mid) → Meets (value_of a) (Err x) (state_in a n) (percent_row p t v s)
-    unpaid (stop.Fault d) h = paid_row ∙ ap (λ o. then_do o (λ (u : Unit {0}). give (text_value made))) h
+-- what is filled is paid for, and becomes a value
+module _ (p : Place) (vs : List Value) (made : List ℕ) (mid : Here) (row : Ending (Unit {0}) Value) (goes : row ≡ then_do (paid_operation p vs (length made) 0 (give (tt {0})) mid) (λ (u : Unit {0}). give (text_value made))) where
+  pub text_unpaid : (a : View) (n : ℕ) (x : Stop) (r : Result Held Stop) → r ≡ Err x → Meets as_is (Err x) (state_in a n) (paid_operation p vs (length made) 0 (give (tt {0})) mid) → Gives row r a a n
+  text_unpaid a n x r e h = subst (λ r. Gives row r a a n) (sym e) (record { meaning = unpaid x h; owns = tt; grows = grows_same a }) where
+    unpaid : (x : Stop) → Meets as_is (Err x) (state_in a n) (paid_operation p vs (length made) 0 (give (tt {0})) mid) → Meets (value_of a) (Err x) (state_in a n) row
+    unpaid (stop.Fault d) h = goes ∙ ap (λ o. then_do o (λ (u : Unit {0}). give (text_value made))) h
     unpaid stop.Memory h = tt
 
-  pub percent_made : (a b : View) (n : ℕ) (w : Held) → paid_operation p (text_value t ∷ v ∷ []) (length made) 0 (give (tt {0})) mid ≡ done (tt {0}) (state_in a n) → Makes (text_value made) (Ok w) a b → Gives (percent_row p t v s) (Ok w) a b n
-  percent_made a b n w paid makes = record {
-    meaning = paid_row ∙ ap (λ o. then_do o (λ (u : Unit {0}). give (text_value made))) paid ∙ (λ i. done (sym makes.value i) (record { store = sym makes.store i; steps = n; host = tt {0} }));
+  pub text_made : (a b : View) (n : ℕ) (w : Held) → paid_operation p vs (length made) 0 (give (tt {0})) mid ≡ done (tt {0}) (state_in a n) → Makes (text_value made) (Ok w) a b → Gives row (Ok w) a b n
+  text_made a b n w paid makes = record {
+    meaning = goes ∙ ap (λ o. then_do o (λ (u : Unit {0}). give (text_value made))) paid ∙ (λ i. done (sym makes.value i) (record { store = sym makes.store i; steps = n; host = tt {0} }));
     owns = makes.owns;
     grows = makes.grows;
   }

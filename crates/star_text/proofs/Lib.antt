@@ -1,4 +1,5 @@
 pub mod Conversions
 pub mod Converting
+pub mod Formatting
 pub mod Paying
 pub mod Reading

@@ -4,11 +4,12 @@ ghost use Rattle.star_steps.specs.Names.{Gives, Meets, Owns, OwnsAll, seen, stat
 ghost use Rattle.star_values.specs.Owns.{OwnsArguments};
 ghost use Rattle.star_values.specs.View.{arguments_in};
 ghost use Rattle.star_values.specs.declared.value.Value.TheVariants as value;
-ghost use Rattle.text_spec.specs.Methods.{method_answer, method_in, method_row, row_of, text_methods};
+ghost use Rattle.text_spec.specs.Methods.{method_answer, method_in, method_row, row_of, text_method, text_methods};
 ghost use Rattle.star_text.specs.View.{made_of, method_of};
 
 use crate::answers::{Made, answer_bytes, answer_members, give, owned};
 use crate::costs::pay_operation;
+use crate::format::format;
 use crate::kinds::read_operands;
 use crate::rows::answer;
 use crate::table::{TextMethod, method_named, signature_of};
@@ -72,10 +73,11 @@ fn answered(
     Ok(owned(arena.alloc(), answer)?)
 }
 
-/// What a method of a text but `format` answers, by its name: the arguments are bound (`ArgBind`), each is read as its kind
-/// (`ValueKind`), the steps are taken (`Steps`), and what must be found and isn't there is `KeyMissing`; so is a name that no method
-/// has, with the name. Each stands at the place. Another value has no such methods: `ValueKind`.
-pub fn method_by_name(
+/// What a method of a text answers, by its name: the arguments are bound (`ArgBind`), each is read as its kind (`ValueKind`), the steps
+/// are taken (`Steps`), and what must be found and isn't there is `KeyMissing`; so is a name that no method has, with the name. Of
+/// `format` faults come in the text's order: `ValueKind` of a field in no proper form, `IndexRange` and `KeyMissing` of an argument that
+/// there isn't. Each stands at the place. Another value has no such methods: `ValueKind`.
+pub fn text_method(
     arena: &mut Arena,
     work: &mut Work,
     on: Value,
@@ -85,7 +87,7 @@ pub fn method_by_name(
 ) -> Given
     requires on { Owns (seen arena.old) on }
     requires args { OwnsArguments (seen arena.old) args }
-    ensures row { (t : List ℕ) → value_of (seen arena.old) on ≡ text_value t → Gives (row_of at name.now (method_in name.now text_methods) t (arguments_in (seen arena.old).held args) (state_in (seen arena.old) work.old.steps)) result (seen arena.old) (seen arena.new) work.new.steps }
+    ensures row { (t : List ℕ) → value_of (seen arena.old) on ≡ text_value t → Gives (text_method at name.now t (arguments_in (seen arena.old).held args) (state_in (seen arena.old) work.old.steps)) result (seen arena.old) (seen arena.new) work.new.steps }
     ensures depth { work.new.depth ≡ work.old.depth }
 {
     match on {
@@ -95,6 +97,26 @@ pub fn method_by_name(
 }
 
 fn by_name(
+    arena: &mut Arena,
+    place: Place,
+    name: &Text,
+    text: Ref,
+    args: CallArgs,
+    steps: &mut u64,
+) -> Given
+    requires text { Owns (seen arena.old) (value.Text text) }
+    requires args { OwnsArguments (seen arena.old) args }
+    ensures { (t : List ℕ) → value_of (seen arena.old) (value.Text text) ≡ text_value t → Gives (text_method place name.now t (arguments_in (seen arena.old).held args) (state_in (seen arena.old) steps.old)) result (seen arena.old) (seen arena.new) steps.new }
+{
+    if name.as_str() == "format" {
+        format(arena, place, text, args, steps)
+    } else {
+        by_table(arena, place, name, text, args, steps)
+    }
+}
+
+/// A call of a method of the table.
+fn by_table(
     arena: &mut Arena,
     place: Place,
     name: &Text,

@@ -206,7 +206,7 @@ fn conversion_at(text: &str) -> Option<(Conversion, &str)>
 }
 
 /// The first byte, if it is one of ASCII, and the text behind it.
-fn first_ascii(text: &str) -> Option<(u8, &str)>
+pub(crate) fn first_ascii(text: &str) -> Option<(u8, &str)>
     ensures { MatchOption result (BeginsHigh text.now) (λ first. text.now ≡ first.0 ∷ first.1.now) }
 {
     match text.as_bytes().first() {
