@@ -58,6 +58,7 @@ fn numbered_value(values: &[Value], at: Option<usize>) -> Option<Value>
     ensures owned { (a : View) → OwnsAll a values.now → OwnsOption a result }
     ensures below { MatchOption result (Unit {0}) (λ v. MatchOption at ⊥ (λ k. k + 1 < 2 ^ 64)) }
 {
+    // No slice has so many members that a place past every number is among them.
     let _count = values.len();
     match at {
         None => None,
