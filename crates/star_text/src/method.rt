@@ -1,10 +1,13 @@
 // A call of a method of a text.
-ghost use Rattle.std.specs.Prelude.{◌≡◌, ℕ, List};
+ghost use Rattle.std.specs.Prelude.{◌≡◌, ℕ, List, None};
 ghost use Rattle.star_steps.specs.Names.{Gives, Meets, Owns, OwnsAll, seen, state_in, text_value, value_of, values_of};
 ghost use Rattle.star_values.specs.Owns.{OwnsArguments};
 ghost use Rattle.star_values.specs.View.{arguments_in};
 ghost use Rattle.star_values.specs.declared.value.Value.TheVariants as value;
 ghost use Rattle.text_spec.specs.Methods.{method_answer, method_in, method_row, row_of, text_method, text_methods};
+ghost use Rattle.value_spec.specs.Members.{as_text};
+ghost use Rattle.value_spec.specs.Outcomes.{fail};
+ghost use Rattle.ytt_base.specs.declared.fault.FaultKind.TheVariants as kind;
 ghost use Rattle.star_text.specs.View.{made_of, method_of};
 
 use crate::answers::{Made, answer_bytes, answer_members, give, owned};
@@ -88,6 +91,7 @@ pub fn text_method(
     requires on { Owns (seen arena.old) on }
     requires args { OwnsArguments (seen arena.old) args }
     ensures row { (t : List ℕ) → value_of (seen arena.old) on ≡ text_value t → Gives (text_method at name.now t (arguments_in (seen arena.old).held args) (state_in (seen arena.old) work.old.steps)) result (seen arena.old) (seen arena.new) work.new.steps }
+    ensures other { as_text (value_of (seen arena.old) on) ≡ None → Gives (fail kind.ValueKind at (state_in (seen arena.old) work.old.steps)) result (seen arena.old) (seen arena.new) work.new.steps }
     ensures depth { work.new.depth ≡ work.old.depth }
 {
     match on {

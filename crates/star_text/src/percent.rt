@@ -1,11 +1,13 @@
 // `%` with a text at the left.
 ghost use Rattle.std.specs.Fmt.{digit_glyph, digits_onto};
-ghost use Rattle.std.specs.Prelude.{◌≡◌, ◌<◌, ◌≤◌, ◌++◌, ◌∷◌, [], ℕ, IfOk, List, MatchOption, OnOk, length, string_bytes};
+ghost use Rattle.std.specs.Prelude.{◌≡◌, ◌<◌, ◌≤◌, ◌++◌, ◌∷◌, [], ℕ, IfOk, List, MatchOption, None, OnOk, length, string_bytes};
 ghost use Rattle.star_steps.specs.Names.{Gives, Meets, Owns, OwnsAll, seen, state_in, text_value, value_of, values_of};
 ghost use Rattle.star_values.specs.declared.value.Value.TheVariants as value;
 ghost use Rattle.text_spec.specs.Percent.{by_next, conversion_of, converted, filled, in_base, no_conversion, percent_row, values_for};
 ghost use Rattle.star_text.specs.Filling.{BeginsHigh, GoesOn, IsConversion, NoConversion, conversion_in, is_of_float, takes_value};
-ghost use Rattle.value_spec.specs.Outcomes.{Computation};
+ghost use Rattle.value_spec.specs.Members.{as_text};
+ghost use Rattle.value_spec.specs.Outcomes.{Computation, fail};
+ghost use Rattle.ytt_base.specs.declared.fault.FaultKind.TheVariants as kind;
 ghost use Rattle.value_spec.specs.Values as plain;
 ghost use Rattle.star_shown.specs.Pushes.{behind};
 
@@ -46,6 +48,7 @@ pub fn text_percent(
     requires on { Owns (seen arena.old) on }
     requires operand { Owns (seen arena.old) operand }
     ensures row { (t : List ℕ) → value_of (seen arena.old) on ≡ text_value t → Gives (percent_row at t (value_of (seen arena.old) operand) (state_in (seen arena.old) work.old.steps)) result (seen arena.old) (seen arena.new) work.new.steps }
+    ensures other { as_text (value_of (seen arena.old) on) ≡ None → Gives (fail kind.ValueKind at (state_in (seen arena.old) work.old.steps)) result (seen arena.old) (seen arena.new) work.new.steps }
     ensures depth { work.new.depth ≡ work.old.depth }
 {
     match on {
