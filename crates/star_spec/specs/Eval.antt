@@ -1,4 +1,4 @@
--- The language: expressions, arguments, targets. What a row that isn't built yet would give is NotBuilt.
+-- The language: expressions, arguments, targets. What isn't built yet is NotBuilt.
 use Rattle.std.specs.Prelude.{ℕ, suc, Bool, ◌==◌, List, [], ◌∷◌, ◌++◌, length, Option, Some, None, is_some, unwrap_or, if◌then◌else◌, codes}
 use Rattle.ytt_base.specs.declared.fault.FaultKind.{FaultKind}
 use Rattle.ytt_base.specs.declared.fault.FaultKind.TheVariants as kind
@@ -12,14 +12,17 @@ use Rattle.value_spec.specs.Keys.{key_offence, place_of_key}
 use Rattle.value_spec.specs.Members.{members_in, truth_in}
 use Rattle.star_spec.specs.Names.{box_of, with_boxes, read_name, write_name}
 use Rattle.code_spec.specs.Names.{target_names, clauses_names}
-use Rattle.operator_spec.specs.Operators.{unary_row, binary_row, augment_row}
+use Rattle.operator_spec.specs.Operators.{unary_row}
 use Rattle.operator_spec.specs.Order.{key_sized}
+use Rattle.builtin_spec.specs.Attributes.{attribute_row}
+use Rattle.builtin_spec.specs.Calls.{own_row}
+use Rattle.builtin_spec.specs.Operators.{assignment_row, operator_row}
 use Rattle.index_spec.specs.Index.{index_row, set_index_row}
 use Rattle.index_spec.specs.Slices.{slice_row}
 use Rattle.value_spec.specs.Store.{pairs_at, put_pair}
 use Rattle.star_spec.specs.Binding.{scope_of_call}
 use Rattle.star_spec.specs.Flow.{Flow, on, out, Part, over_members}
-use Rattle.star_spec.specs.Language.{Call, Language}
+use Rattle.star_spec.specs.Language.{Call, Language, without_keys}
 
 abbrev pub truth_of : {H : Type 0} → Value → Computation H Bool
 truth_of v = reads (λ store. truth_in store v)
@@ -28,10 +31,7 @@ truth_of v = reads (λ store. truth_in store v)
 abbrev pub members_of : {H : Type 0} → Place → Value → Computation H (List Value)
 members_of p v = reads (λ store. members_in store v) >>= or_fail kind.ValueKind p
 
--- ---- rows that aren't built yet
-
-abbrev pub attribute_row : {H : Type 0} → Place → Value → Name → Computation H Value
-attribute_row p v x = not_built p
+-- ---- what isn't built yet
 
 -- the text that a value is in a text template
 abbrev pub shown_row : {H : Type 0} → Place → Value → Computation H (List ℕ)
@@ -106,7 +106,7 @@ abbrev mutual
   eval call (code.binary p o a b) env = paid p (do
     x ← eval call a env
     y ← eval call b env
-    binary_row p o x y)
+    operator_row p o x y)
   eval call (code.conjunction p a b) env = paid p (eval call a env >>= λ x. truth_of x >>= λ holds. if holds then eval call b env else give x)
   eval call (code.disjunction p a b) env = paid p (eval call a env >>= λ x. truth_of x >>= λ holds. if holds then give x else eval call b env)
   eval call (code.conditional p c a b) env = paid p (eval call c env >>= λ x. truth_of x >>= λ holds. if holds then eval call a env else eval call b env)
@@ -229,18 +229,18 @@ abbrev pub augment_to : {H : Type 0} → Call H → Place → BinaryOperator →
 augment_to call p o q (code.name r x) e env = do
   old ← read_name r x (box_of x env)
   v ← eval call e env
-  w ← augment_row q o old v
+  w ← assignment_row q o old v
   write_name r x w (box_of x env)
 augment_to call p o q (code.index r a i) e env = do
   x ← eval call a env
   y ← eval call i env
   old ← index_row r x y
   v ← eval call e env
-  w ← augment_row q o old v
+  w ← assignment_row q o old v
   set_index_row r x y w
 augment_to call p o q _ e env = ill_formed
 
--- so far none of the language's own functions is built
+-- so far none of the language's own functions asks for keys
 abbrev pub starlark : {H : Type 0} → Language H
 starlark = record {
   eval = eval;
@@ -252,6 +252,6 @@ starlark = record {
   members = members_of;
   defaults = default_values;
   bind = scope_of_call;
-  own_call = λ p f vs. not_built p;
+  own_call = λ p f vs. own_row p f vs >>= λ v. give (without_keys v);
   own_call_keyed = λ p f vs members keys. not_built p;
 }

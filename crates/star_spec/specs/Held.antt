@@ -1,5 +1,5 @@
--- The values that the program holds: integers of 128 bits, texts in UTF-8, names of fields that are distinct, and
--- children that are what the program holds, with distinct keys in a map and in a fragment of pairs; the code and the
+-- The values that the program holds: integers of 128 bits, texts in UTF-8, names of fields that are distinct, names of functions
+-- and modules in UTF-8, and children that are what the program holds, with distinct keys in a map and in a fragment of pairs; the code and the
 -- objects that hold such.
 use Rattle.std.specs.Prelude.{◌≡◌, ℤ, Bool, true, false, ◌&&◌, ◌||◌, not, List, [], ◌∷◌, Option, Some, None, IsTrue, IsUtf8, FitsSigned}
 use Rattle.std.specs.Int.{w128}
@@ -53,10 +53,10 @@ abbrev mutual
   HeldValue (list_value r) = Unit {0}
   HeldValue (dict_value r) = Unit {0}
   HeldValue (function_value r) = Unit {0}
-  HeldValue (module_value x fs) = HeldFields fs
-  HeldValue (native_value (builtin x)) = Unit {0}
-  HeldValue (native_value (method x v)) = HeldValue v
-  HeldValue (native_value (host_native x held)) = HeldValues held
+  HeldValue (module_value x fs) = IsUtf8 x × HeldFields fs
+  HeldValue (native_value (builtin x)) = IsUtf8 x
+  HeldValue (native_value (method x v)) = IsUtf8 x × HeldValue v
+  HeldValue (native_value (host_native x held)) = IsUtf8 x × HeldValues held
   HeldValue (native_value (replacement v)) = HeldValue v
 
   pub HeldValues : Values → Type 0
@@ -170,7 +170,7 @@ abbrev pub HeldContents : Contents → Type 0
 HeldContents (of_list vs) = HeldList vs
 HeldContents (of_dict ps) = HeldPairs ps
 HeldContents (of_box v) = HeldIfAny v
-HeldContents (of_function f) = HeldList f.defaults
+HeldContents (of_function f) = IsUtf8 f.name × HeldList f.defaults
 
 abbrev pub HeldStore : Store → Type 0
 HeldStore [] = Unit {0}

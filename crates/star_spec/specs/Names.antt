@@ -3,8 +3,8 @@ use Rattle.std.specs.Prelude.{ℕ, true, false, List, [], ◌∷◌, Option, Som
 use Rattle.ytt_base.specs.declared.fault.FaultKind.TheVariants as kind
 use Rattle.ytt_base.specs.declared.fault.Place.{Place}
 use Rattle.code_spec.specs.Code.{Name}
-use Rattle.value_spec.specs.Values.{Value, none_value, bool_value, Env, of_box}
-use Rattle.value_spec.specs.Outcomes.{done, Computation, give, fail_with, not_built, on_store, reads, new_object, ◌>>=◌}
+use Rattle.value_spec.specs.Values.{Value, none_value, bool_value, native_value, builtin, Env, of_box}
+use Rattle.value_spec.specs.Outcomes.{done, Computation, give, fail_with, on_store, reads, new_object, ◌>>=◌}
 use Rattle.value_spec.specs.Store.{box_at, change, with_contents}
 use Rattle.code_spec.specs.Names.{own_functions, is_among}
 
@@ -38,10 +38,10 @@ abbrev pub value_or_unset : {H : Type 0} → Place → Name → Option Value →
 value_or_unset p x None = fail_with kind.NameUnset p x
 value_or_unset p x (Some v) = give v
 
--- a name that has no box: so far the language's own functions are no values
+-- a name that has no box: a value of the language, or one of its own functions
 abbrev pub unbound : {H : Type 0} → Place → Name → Option Value → Computation H Value
 unbound p x (Some v) = give v
-unbound p x None = if is_among x own_functions then not_built p else fail_with kind.NameUnknown p x
+unbound p x None = if is_among x own_functions then give (native_value (builtin x)) else fail_with kind.NameUnknown p x
 
 -- the value of a name, by its box, or of one of the language's
 abbrev pub read_name : {H : Type 0} → Place → Name → Option ℕ → Computation H Value

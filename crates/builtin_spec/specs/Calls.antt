@@ -1,0 +1,19 @@
+-- Calls of the language's own functions and methods.
+use Rattle.ytt_base.specs.declared.fault.FaultKind.TheVariants as kind
+use Rattle.ytt_base.specs.declared.fault.Place.{Place}
+use Rattle.code_spec.specs.Code.{Name}
+use Rattle.builtin_spec.specs.Builtins.{own_function}
+use Rattle.text_spec.specs.Methods.{text_method}
+use Rattle.value_spec.specs.Outcomes.{Computation, fail, not_built}
+use Rattle.value_spec.specs.Values.{Value, text_value, list_value, dict_value, native_value, builtin, method, Arguments}
+
+-- a method, of what it holds; those of lists and dicts aren't built yet
+abbrev pub own_method : {H : Type 0} → Place → Name → (of : Value) → Arguments → Computation H Value
+own_method p x (text_value t) args = text_method p x t args
+own_method p x _ args = not_built p
+
+-- a function or a method of the language; nothing else is one
+abbrev pub own_row : {H : Type 0} → Place → (called : Value) → Arguments → Computation H Value
+own_row p (native_value (builtin x)) args = own_function p x args
+own_row p (native_value (method x v)) args = own_method p x v args
+own_row p _ args = fail kind.ValueKind p

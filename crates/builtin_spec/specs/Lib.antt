@@ -1,0 +1,4 @@
+pub mod Attributes
+pub mod Builtins
+pub mod Calls
+pub mod Operators
