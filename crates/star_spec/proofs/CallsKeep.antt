@@ -1,20 +1,21 @@
 -- Statements, bindings and calls keep what the program holds.
-use Rattle.std.proofs.Common.{◌≡◌, ℕ, zero, suc, Bool, true, false, ◌||◌, if◌then◌else◌, List, [], ◌∷◌, ◌++◌, Option, Some, None, Result, Ok, Err, refl, bytes_eq}
+use Rattle.std.proofs.Common.{◌≡◌, ℕ, zero, suc, List, [], ◌∷◌, ◌++◌, Option, Some, None, Result, Ok, Err, IsUtf8}
 use Rattle.ytt_base.specs.declared.fault.Fault.{Fault}
 use Rattle.ytt_base.specs.declared.fault.FaultKind.TheVariants as kind
 use Rattle.ytt_base.specs.declared.fault.Place.{Place}
 use Rattle.code_spec.specs.Allowed.{parameter_names}
-use Rattle.value_spec.specs.Binding.{field_of, without_field, has_field, has_twice, or_default, Given, given, rest_given, in_front, rest_in_front, unless_named, bound, all_bound, text_pairs, value_given, values_given, bound_values}
 use Rattle.star_spec.specs.Binding.{boxes_for, scope_of_call}
 use Rattle.star_spec.specs.Calls.{Code, Table, parameters_of, names_of, Enter, enter_code, Reply, answer, call_then, Host, no_natives, resumed_with, after_reply, native_call, call_by_kind, no_keys, keys_by, with_keys, any_call, call_with_natives, function_of, function_call, too_deep, apply}
-use Rattle.code_spec.specs.Code.{Name, Expr, Exprs, BinaryOperator, Parameters, no_parameters, required, defaulted, bare_star, starred_parameter, double_starred_parameter, Statement, evaluate, assign, augment, load, return, break, continue, pass}
+use Rattle.code_spec.specs.Code.{Name, Expr, Exprs, BinaryOperator, Parameters, Statement, evaluate, assign, augment, load, return, break, continue, pass}
 use Rattle.star_spec.specs.Eval.{starlark}
-use Rattle.star_spec.specs.Held.{HeldValue, HeldValues, HeldFields, HeldExpr, HeldExprs, HeldParameters, HeldStatement, HeldList, has_equal_key, HeldPairs, HeldArguments}
+use Rattle.star_spec.specs.Held.{HeldValue, HeldValues, HeldExpr, HeldExprs, HeldParameters, HeldStatement, HeldList, HeldArguments}
 use Rattle.star_spec.specs.Language.{Call, Keyed, without_keys, asks_keys, Language, Word, breaks, continues, returns, execute, define}
 use Rattle.star_spec.specs.Names.{box_of}
 use Rattle.value_spec.specs.Outcomes.{Ending, done, bad, then_do, Computation}
 use Rattle.value_spec.specs.Store.{object_at, function_at}
-use Rattle.value_spec.specs.Values.{Value, text_value, tuple_value, dict_value, function_value, native_value, builtin, method, host_native, Values, no_values, a_value, Fields, no_fields, a_field, Arguments, arguments, one_value, Env, Function, of_dict, of_box, of_function}
+use Rattle.value_spec.specs.Values.{Value, function_value, native_value, builtin, method, host_native, Values, Arguments, one_value, Env, Function, of_box, of_function}
+use Rattle.star_spec.proofs.BindingsKeep.{bound_keeps}
+use Rattle.star_spec.proofs.BuiltinsKeep.{own_keeps}
 use Rattle.star_spec.proofs.EvalKeeps.{CallKeeps, eval_keeps, arguments_keep, assign_keeps, augment_keeps, defaults_keep, truth_keeps, write_keeps, boxes_keep}
 use Rattle.star_spec.proofs.MembersHeld.{members_keep}
 use Rattle.star_spec.proofs.Keeping.{Kept, Keeps, Anything, keeps_then, keeps_give, keeps_fail, keeps_or_fail, keeps_ill_formed, keeps_or_ill_formed, keeps_paid, keeps_reads, keeps_new_object, object_held, HeldFunction, function_held}
@@ -56,135 +57,12 @@ module _ {H : Type 0} (language : Language H) (keeps : LanguageKeeps language) (
   execute_keeps (continue p) env h = keeps_paid 1 p (keeps_give (Some continues) tt)
   execute_keeps (pass p) env h = keeps_paid 1 p (keeps_give None tt)
 
-  pub define_keeps : (p : Place) (n : ℕ) (x : Name) (ps : Parameters) (env : Env) → HeldParameters ps → Keeps WordHeld (define language call p n x ps env)
-  define_keeps p n x ps env h =
-      keeps_paid 1 p (keeps_then (keeps_then (keeps.defaults call calls ps env h) (λ ds k. keeps_then (keeps_new_object (of_function _) k) (λ r u. keeps_give {P = HeldValue} (function_value r) tt)))
+  pub define_keeps : (p : Place) (n : ℕ) (x : Name) (ps : Parameters) (env : Env) → IsUtf8 x → HeldParameters ps → Keeps WordHeld (define language call p n x ps env)
+  define_keeps p n x ps env u h =
+      keeps_paid 1 p (keeps_then (keeps_then (keeps.defaults call calls ps env h) (λ ds k. keeps_then (keeps_new_object (of_function _) (u, k)) (λ r t. keeps_give {P = HeldValue} (function_value r) tt)))
       (λ f k. keeps_then (keeps.bind_name p x f env k) (λ u t. keeps_give None tt)))
 
--- ---- bindings
-
-abbrev HeldGiven : Given → Type 0
-HeldGiven (given v) = HeldValue v
-HeldGiven (rest_given fs) = HeldFields fs × (has_twice fs ≡ false)
-
-abbrev AllGiven : List (Name × Given) → Type 0
-AllGiven [] = Unit {0}
-AllGiven (b ∷ bs) = HeldGiven b.1 × AllGiven bs
-
-abbrev HeldBound : Option (List (Name × Given)) → Type 0
-HeldBound None = Unit {0}
-HeldBound (Some bs) = AllGiven bs
-
-abbrev HeldOne : Option Value → Type 0
-HeldOne None = Unit {0}
-HeldOne (Some v) = HeldValue v
-
-front_held : (x : Name) (o : Option Value) (b : Option (List (Name × Given))) → HeldOne o → HeldBound b → HeldBound (in_front x o b)
-front_held x None b h k = tt
-front_held x (Some v) None h k = tt
-front_held x (Some v) (Some bs) h k = (h, k)
-
-rest_held : (x : Name) (fs : Fields) (b : Option (List (Name × Given))) → HeldGiven (rest_given fs) → HeldBound b → HeldBound (rest_in_front x fs b)
-rest_held x fs None h k = tt
-rest_held x fs (Some bs) h k = (h, k)
-
-one_if : (b : Bool) (x y : Option Value) → HeldOne x → HeldOne y → HeldOne (if b then x else y)
-one_if true x y h k = h
-one_if false x y h k = k
-
-field_held : (x : Name) (fs : Fields) → HeldFields fs → HeldOne (field_of x fs)
-field_held x no_fields h = tt
-field_held x (a_field y v fs) h = one_if (bytes_eq x y) (Some v) (field_of x fs) h.1 (field_held x fs h.2)
-
-fields_if : (b : Bool) (f g : Fields) → HeldFields f → HeldFields g → HeldFields (if b then f else g)
-fields_if true f g h k = h
-fields_if false f g h k = k
-
-without_held : (x : Name) (fs : Fields) → HeldFields fs → HeldFields (without_field x fs)
-without_held x no_fields h = tt
-without_held x (a_field y v fs) h = fields_if (bytes_eq x y) fs (a_field y v (without_field x fs)) h.2 (h.0, h.1, without_held x fs h.2)
-
-unless_held : (x : Name) (v : Value) (fs : Fields) → HeldValue v → HeldOne (unless_named x v fs)
-unless_held x v fs h = one_if (has_field x fs) None (Some v) tt h
-
-default_held : (o d : Option Value) → HeldOne o → HeldOne d → HeldOne (or_default o d)
-default_held None d h k = k
-default_held (Some v) d h k = h
-
--- what isn't in two isn't in the second, nor in the first
-not_first : (a b : Bool) → (a || b) ≡ false → a ≡ false
-not_first true b e = cc
-not_first false b e = refl
-
-not_second : (a b : Bool) → (a || b) ≡ false → b ≡ false
-not_second true b e = cc
-not_second false b e = e
-
-neither : (a b : Bool) → a ≡ false → b ≡ false → (a || b) ≡ false
-neither true b e f = cc
-neither false b e f = f
-
-still_without : (y x : Name) (fs : Fields) → has_field y fs ≡ false → has_field y (without_field x fs) ≡ false
-still_without y x no_fields e = e
-still_without y x (a_field z v fs) e = by_test (bytes_eq x z) (still_without y x fs (not_second (bytes_eq y z) (has_field y fs) e))
-  where
-    by_test : (b : Bool) → has_field y (without_field x fs) ≡ false → has_field y (if b then fs else a_field z v (without_field x fs)) ≡ false
-    by_test true g = not_second (bytes_eq y z) (has_field y fs) e
-    by_test false g = neither (bytes_eq y z) (has_field y (without_field x fs)) (not_first (bytes_eq y z) (has_field y fs) e) g
-
-still_once : (x : Name) (fs : Fields) → has_twice fs ≡ false → has_twice (without_field x fs) ≡ false
-still_once x no_fields e = e
-still_once x (a_field z v fs) e = by_test (bytes_eq x z) (still_once x fs (not_second (has_field z fs) (has_twice fs) e))
-  where
-    by_test : (b : Bool) → has_twice (without_field x fs) ≡ false → has_twice (if b then fs else a_field z v (without_field x fs)) ≡ false
-    by_test true g = not_second (has_field z fs) (has_twice fs) e
-    by_test false g = neither (has_field z (without_field x fs)) (has_twice (without_field x fs)) (still_without z x fs (not_first (has_field z fs) (has_twice fs) e)) g
-
-bound_held : (ps : Parameters) (ds : List Value) (vs : Values) (fs : Fields) → HeldList ds → HeldValues vs → HeldFields fs → has_twice fs ≡ false → HeldBound (bound ps ds vs fs)
-bound_held no_parameters ds no_values no_fields d h k e = tt
-bound_held no_parameters ds no_values (a_field y v fs) d h k e = tt
-bound_held no_parameters ds (a_value v vs) fs d h k e = tt
-bound_held (required x ps) ds (a_value v vs) fs d h k e = front_held x (unless_named x v fs) (bound ps ds vs fs) (unless_held x v fs h.0) (bound_held ps ds vs fs d h.1 k e)
-bound_held (required x ps) ds no_values fs d h k e = front_held x (field_of x fs) _ (field_held x fs k) (bound_held ps ds no_values (without_field x fs) d h (without_held x fs k) (still_once x fs e))
-bound_held (defaulted x f ps) [] vs fs d h k e = tt
-bound_held (defaulted x f ps) (w ∷ ds) (a_value v vs) fs d h k e = front_held x (unless_named x v fs) (bound ps ds vs fs) (unless_held x v fs h.0) (bound_held ps ds vs fs d.1 h.1 k e)
-bound_held (defaulted x f ps) (w ∷ ds) no_values fs d h k e =
-    front_held x (or_default (field_of x fs) (Some w)) _ (default_held (field_of x fs) (Some w) (field_held x fs k) d.0) (bound_held ps ds no_values (without_field x fs) d.1 h (without_held x fs k) (still_once x fs e))
-bound_held (bare_star ps) ds (a_value v vs) fs d h k e = tt
-bound_held (bare_star ps) ds no_values fs d h k e = bound_held ps ds no_values fs d h k e
-bound_held (starred_parameter x ps) ds vs fs d h k e = front_held x (Some (tuple_value vs)) (bound ps ds no_values fs) h (bound_held ps ds no_values fs d tt k e)
-bound_held (double_starred_parameter x ps) ds (a_value v vs) fs d h k e = tt
-bound_held (double_starred_parameter x ps) ds no_values fs d h k e = rest_held x fs (bound ps ds no_values no_fields) (k, e) (bound_held ps ds no_values no_fields d tt tt refl)
-
-bound_if : (b : Bool) (o : Option (List (Name × Given))) → (b ≡ false → HeldBound o) → HeldBound (if b then None else o)
-bound_if true o h = tt
-bound_if false o h = h refl
-
-arguments_bound : (ps : Parameters) (ds : List Value) (vs : Arguments) → HeldList ds → HeldArguments vs → HeldBound (all_bound ps ds vs)
-arguments_bound ps ds (arguments vs fs) d h = bound_if (has_twice fs) (bound ps ds vs fs) (λ e. bound_held ps ds vs fs d h.0 h.1 e)
-
-texts_avoid : (x : Name) (fs : Fields) → has_field x fs ≡ false → has_equal_key (text_value x) (text_pairs fs) ≡ false
-texts_avoid x no_fields e = refl
-texts_avoid x (a_field y v fs) e = neither (bytes_eq x y) (has_equal_key (text_value x) (text_pairs fs)) (not_first (bytes_eq x y) (has_field x fs) e) (texts_avoid x fs (not_second (bytes_eq x y) (has_field x fs) e))
-
-texts_held : (fs : Fields) → HeldFields fs → has_twice fs ≡ false → HeldPairs (text_pairs fs)
-texts_held no_fields h e = tt
-texts_held (a_field x v fs) h e = (h.0, h.1, texts_avoid x fs (not_first (has_field x fs) (has_twice fs) e), texts_held fs h.2 (not_second (has_field x fs) (has_twice fs) e))
-
-given_keeps : {H : Type 0} (g : Given) → HeldGiven g → Keeps {H = H} HeldValue (value_given g)
-given_keeps (given v) h = keeps_give v h
-given_keeps (rest_given fs) h = keeps_then (keeps_new_object (of_dict (text_pairs fs)) (texts_held fs h.0 h.1)) (λ r u. keeps_give (dict_value r) tt)
-
-values_keep : {H : Type 0} (bs : List (Name × Given)) → AllGiven bs → Keeps {H = H} HeldList (values_given bs)
-values_keep [] h = keeps_give [] tt
-values_keep (b ∷ bs) h = keeps_then (given_keeps b.1 h.0) (λ v k. keeps_then (values_keep bs h.1) (λ vs j. keeps_give (v ∷ vs) (k, j)))
-
-bound_found : (o : Option (List (Name × Given))) (bs : List (Name × Given)) → HeldBound o → o ≡ Some bs → AllGiven bs
-bound_found None bs h e = cc
-bound_found (Some cs) bs h e = let same : cs ≡ bs = cc in rw (← same) h
-
-pub bound_keeps : {H : Type 0} (p : Place) (ps : Parameters) (ds : List Value) (vs : Arguments) → HeldList ds → HeldArguments vs → Keeps {H = H} HeldList (bound_values p ps ds vs)
-bound_keeps p ps ds vs d h = keeps_then (keeps_or_fail kind.ArgBind p (all_bound ps ds vs) (λ bs e. bound_found (all_bound ps ds vs) bs (arguments_bound ps ds vs d h) e)) (λ bs k. values_keep bs k)
+-- ---- scopes
 
 pub filled_keep : {H : Type 0} (xs : List Name) (vs : List Value) → HeldList vs → Keeps {H = H} Anything (boxes_for xs vs)
 filled_keep [] vs h = keeps_give [] tt
@@ -206,7 +84,7 @@ starlark_keeps = record {
   members = members_keep;
   defaults = λ call calls ps env h. defaults_keep call calls ps env h;
   bind = scope_keeps;
-  own = λ p f vs h k. keeps_fail kind.NotBuilt p [];
+  own = λ p f vs h k. keeps_then (own_keeps p f vs h k) (λ v g. keeps_give (without_keys v) g);
   own_keyed = λ p f vs ms ks h k i j. keeps_fail kind.NotBuilt p [];
 }
 
@@ -255,7 +133,7 @@ module _ {H : Type 0} (language : Language H) (keeps : LanguageKeeps language) w
   kind_keeps function native keyed fs ns ks p (function_value r) vs h k = fs.by p (function_value r) vs h k
   kind_keeps function native keyed fs ns ks p (native_value (builtin x)) vs h k = keeps_then (keeps.own p (native_value (builtin x)) vs h k) (λ g i. ks p (native_value (builtin x)) vs g h k i)
   kind_keeps function native keyed fs ns ks p (native_value (method x v)) vs h k = keeps_then (keeps.own p (native_value (method x v)) vs h k) (λ g i. ks p (native_value (method x v)) vs g h k i)
-  kind_keeps function native keyed fs ns ks p (native_value (host_native x held)) vs h k = ns p x held vs h k
+  kind_keeps function native keyed fs ns ks p (native_value (host_native x held)) vs h k = ns p x held vs h.1 k
   kind_keeps function native keyed fs ns ks p _ vs h k = keeps_fail kind.ValueKind p []
 
   no_keys_keep : (p : Place) (f : Value) (vs : Arguments) (k : Keyed) → HeldKeyed k → Keeps {H = H} HeldValue (no_keys p f vs k)
@@ -282,11 +160,11 @@ module _ {H : Type 0} (language : Language H) (keeps : LanguageKeeps language) w
   natives_keep host hosts function fs (suc left) =
       any_keeps function (native_call host (call_with_natives language host function left) (suc left)) fs (native_keeps host hosts (call_with_natives language host function left) (natives_keep host hosts function fs left) (suc left))
 
-  found_function : (o : Option Function) (g : Function) → HeldFunction o → o ≡ Some g → HeldList g.defaults
+  found_function : (o : Option Function) (g : Function) → HeldFunction o → o ≡ Some g → IsUtf8 g.name × HeldList g.defaults
   found_function None g h e = cc
   found_function (Some f) g h e = let same : f ≡ g = cc in rw (← same) h
 
-  function_keeps : (p : Place) (f : Value) → Keeps {H = H} (λ g. HeldList g.defaults) (function_of p f)
+  function_keeps : (p : Place) (f : Value) → Keeps {H = H} (λ g. IsUtf8 g.name × HeldList g.defaults) (function_of p f)
   function_keeps p (function_value r) = keeps_then (keeps_reads {P = HeldFunction} (function_at r) (λ store h. function_held (object_at r store) (object_held store r h))) (λ o h. keeps_or_fail kind.ValueKind p o (λ g e. found_function o g h e))
   function_keeps p _ = keeps_fail kind.ValueKind p []
 
@@ -297,7 +175,7 @@ module _ {H : Type 0} (language : Language H) (keeps : LanguageKeeps language) w
   called_keeps : {B : Type 0} (names : B → List Name) (enter : Enter H B) (table : Table B) → TableKeeps enter table → (below : Call H) → CallKeeps below → CallKeeps (function_call language names enter table below)
   called_keeps names enter table tables below belows = record {
     by = λ p f vs h k. keeps_then (function_keeps p f) (λ g i. keeps_then (keeps_or_ill_formed {P = λ c. table g.file g.number ≡ Some c} (table g.file g.number) (λ c e. e))
-        (λ c e. keeps_then (keeps.bind p (parameters_of c) (names_of names c) g.defaults vs g.env i k) (λ env u. tables.by below belows g.file g.number c e env)));
+        (λ c e. keeps_then (keeps.bind p (parameters_of c) (names_of names c) g.defaults vs g.env i.1 k) (λ env u. tables.by below belows g.file g.number c e env)));
   }
 
   too_deep_keeps : CallKeeps {H = H} too_deep

@@ -1,5 +1,5 @@
 -- Expressions, arguments and targets keep what the program holds, where their literals are such and calls keep it.
-use Rattle.std.proofs.Common.{◌≡◌, Bool, true, false, if◌then◌else◌, is_some, List, [], ◌∷◌, ◌++◌, ℕ, Option, Some, None, unwrap_or, IsUtf8, bytes_eq, codes}
+use Rattle.std.proofs.Common.{◌≡◌, Bool, true, false, if◌then◌else◌, is_some, List, [], ◌∷◌, ◌++◌, ℕ, Option, Some, None, unwrap_or, IsUtf8, refl, bytes_eq, codes}
 use Rattle.std.proofs.lemmas.Str.{IsUtf8-nil, IsUtf8-append}
 use Rattle.ytt_base.specs.declared.fault.FaultKind.{FaultKind}
 use Rattle.ytt_base.specs.declared.fault.FaultKind.TheVariants as kind
@@ -17,11 +17,13 @@ use Rattle.star_spec.specs.Names.{constant, box_of, with_box, with_boxes, value_
 use Rattle.code_spec.specs.Names.{own_functions, is_among, target_names, clauses_names}
 use Rattle.value_spec.specs.Outcomes.{Computation, ◌>>=◌}
 use Rattle.value_spec.specs.Store.{object_at, put_pair, with_contents, end_loop, box_at}
-use Rattle.value_spec.specs.Values.{Value, none_value, bool_value, int_value, text_value, tuple_value, dict_value, function_value, Values, no_values, values_from, Fields, no_fields, a_field, Arguments, arguments, Env, of_box, of_function}
+use Rattle.value_spec.specs.Values.{Value, none_value, bool_value, int_value, text_value, tuple_value, dict_value, function_value, native_value, builtin, Values, no_values, values_from, Fields, no_fields, a_field, Arguments, arguments, Env, of_box, of_function}
+use Rattle.star_spec.proofs.BuiltinsKeep.{among_utf8, assignment_held, attribute_keeps, operator_held}
 use Rattle.star_spec.proofs.Keeping.{Keeps, Anything, keeps_then, keeps_give, keeps_fail, keeps_or_fail, keeps_ill_formed, keeps_need, keeps_paid, keeps_if, keeps_reads, keeps_new_object, object_held, box_held, change_held, loops_held, kept_finally}
 use Rattle.star_spec.proofs.IndexKeeps.{index_keeps, slice_keeps, set_index_keeps}
 use Rattle.star_spec.proofs.MembersHeld.{from_values, more_held, members_keep, pairs_keep, put_pair_held, new_list_keeps, new_dict_keeps}
-use Rattle.star_spec.proofs.RowsHeld.{unary_held, binary_held, augmented_held, measured_keeps}
+use Rattle.star_spec.proofs.RowsHeld.{unary_held, measured_keeps}
+use Rattle.star_spec.proofs.TextsKeep.{low_utf8}
 
 -- a call of a value gives what the program holds
 pub record CallKeeps {H : Type 0} (call : Call H) : Type 0 where
@@ -100,7 +102,7 @@ constant_held x = one_of (bytes_eq x (codes "None")) (bytes_eq x (codes "True"))
     one_of false false false = tt
 
 unbound_keeps : {H : Type 0} (p : Place) (x : Name) (o : Option Value) → HeldAny o → Keeps {H = H} HeldValue (unbound p x o)
-unbound_keeps p x None h = keeps_if (is_among x own_functions) (λ e. keeps_fail kind.NotBuilt p []) (λ e. keeps_fail kind.NameUnknown p x)
+unbound_keeps p x None h = keeps_if (is_among x own_functions) (λ e. keeps_give (native_value (builtin x)) (among_utf8 x own_functions refl e)) (λ e. keeps_fail kind.NameUnknown p x)
 unbound_keeps p x (Some v) h = keeps_give v h
 
 pub read_keeps : {H : Type 0} (p : Place) (x : Name) (o : Option ℕ) → Keeps {H = H} HeldValue (read_name p x o)
@@ -178,7 +180,7 @@ module _ {H : Type 0} (call : Call H) (calls : CallKeeps call) where
     eval_keeps (code.tuple p es) env h = keeps_paid 1 p (keeps_then (all_keep es env h) (λ vs k. keeps_give (tuple_value (values_from vs)) (from_values vs k)))
     eval_keeps (code.dict p es) env h = keeps_paid 1 p (keeps_then (entries_keep p es env [] h tt) new_dict_keeps)
     eval_keeps (code.unary p o a) env h = keeps_paid 1 p (keeps_then (eval_keeps a env h) (unary_held p o))
-    eval_keeps (code.binary p o a b) env h = keeps_paid 1 p (keeps_then (eval_keeps a env h.0) (λ x k. keeps_then (eval_keeps b env h.1) (λ y g. binary_held p o x y k g)))
+    eval_keeps (code.binary p o a b) env h = keeps_paid 1 p (keeps_then (eval_keeps a env h.0) (λ x k. keeps_then (eval_keeps b env h.1) (λ y g. operator_held p o x y k g)))
     eval_keeps (code.conjunction p a b) env h = keeps_paid 1 p (keeps_then (eval_keeps a env h.0) (λ x k. keeps_then (truth_keeps x) (λ holds u. keeps_if holds (λ e. eval_keeps b env h.1) (λ e. keeps_give x k))))
     eval_keeps (code.disjunction p a b) env h = keeps_paid 1 p (keeps_then (eval_keeps a env h.0) (λ x k. keeps_then (truth_keeps x) (λ holds u. keeps_if holds (λ e. keeps_give x k) (λ e. eval_keeps b env h.1))))
     eval_keeps (code.conditional p c a b) env h = keeps_paid 1 p (keeps_then (eval_keeps c env h.0) (λ x k. keeps_then (truth_keeps x) (λ holds u. keeps_if holds (λ e. eval_keeps a env h.1) (λ e. eval_keeps b env h.2))))
@@ -192,8 +194,8 @@ module _ {H : Type 0} (call : Call H) (calls : CallKeeps call) where
         keeps_paid 1 p (keeps_then (eval_keeps a env h.0) (λ x k. keeps_then (optional_keeps l env h.1) (λ y u.
         keeps_then (optional_keeps g env h.2) (λ z v. keeps_then (optional_keeps d env h.3) (λ w t.
         slice_keeps p x (record { from = unwrap_or y none_value; to = unwrap_or z none_value; step = unwrap_or w none_value }) k)))))
-    eval_keeps (code.attribute p a x) env h = keeps_paid 1 p (keeps_then (eval_keeps a env h) (λ v k. keeps_fail kind.NotBuilt p []))
-    eval_keeps (code.lambda p n ps e) env h = keeps_paid 1 p (keeps_then (defaults_keep ps env h.0) (λ ds k. keeps_then (keeps_new_object (of_function _) k) (λ r u. keeps_give (function_value r) tt)))
+    eval_keeps (code.attribute p a x) env h = keeps_paid 1 p (keeps_then (eval_keeps a env h) (λ v k. attribute_keeps p v x k))
+    eval_keeps (code.lambda p n ps e) env h = keeps_paid 1 p (keeps_then (defaults_keep ps env h.0) (λ ds k. keeps_then (keeps_new_object (of_function _) (low_utf8 (codes "lambda") refl, k)) (λ r u. keeps_give (function_value r) tt)))
     eval_keeps (code.list_comprehension p e cs) env h =
         keeps_paid 1 p (keeps_then (comprehend_keeps false p _ cs env h.1 (λ scope vs k. keeps_then (eval_keeps e scope h.0) (λ v g. keeps_give (on (vs ++ v ∷ [])) (more_held vs (v ∷ []) k (g, tt)))) [] tt)
         (λ f k. new_list_keeps (built_so_far f) (flow_held HeldList f k)))
@@ -260,8 +262,8 @@ module _ {H : Type 0} (call : Call H) (calls : CallKeeps call) where
     each_keeps p (an_expr e es) (v ∷ vs) env h k = keeps_then (assign_keeps p e v env h.0 k.0) (λ u t. each_keeps p es vs env h.1 k.1)
 
   pub augment_keeps : (p : Place) (o : BinaryOperator) (q : Place) (x e : Expr) (env : Env) → HeldExpr x → HeldExpr e → Keeps Anything (augment_to call p o q x e env)
-  augment_keeps p o q (code.name r x) e env h k = keeps_then (read_keeps r x (box_of x env)) (λ old g. keeps_then (eval_keeps e env k) (λ v i. keeps_then (augmented_held q o old v g i) (λ w j. write_keeps r x w (box_of x env) j)))
+  augment_keeps p o q (code.name r x) e env h k = keeps_then (read_keeps r x (box_of x env)) (λ old g. keeps_then (eval_keeps e env k) (λ v i. keeps_then (assignment_held q o old v g i) (λ w j. write_keeps r x w (box_of x env) j)))
   augment_keeps p o q (code.index r a i) e env h k =
       keeps_then (eval_keeps a env h.0) (λ x g. keeps_then (eval_keeps i env h.1) (λ y j. keeps_then (index_keeps r x y g j) (λ old u.
-      keeps_then (eval_keeps e env k) (λ v t. keeps_then (augmented_held q o old v u t) (λ w d. set_index_keeps r x y w j d)))))
+      keeps_then (eval_keeps e env k) (λ v t. keeps_then (assignment_held q o old v u t) (λ w d. set_index_keeps r x y w j d)))))
   augment_keeps p o q _ e env h k = keeps_ill_formed

@@ -45,7 +45,7 @@ mutual
   children_keep p n (a_child (child q ns x b) cs) =
       keeps_then (keeps_paid 1 p (key_keeps p x)) (λ u g. keeps_then (body_keeps p n b) (λ v h. children_keep p n cs))
 
-  body_keeps : {H : Type 0} (p : Place) (n : ℕ) (b : Body) → Keeps {H = H} Anything (body_paid p n b)
+  pub body_keeps : {H : Type 0} (p : Place) (n : ℕ) (b : Body) → Keeps {H = H} Anything (body_paid p n b)
   body_keeps p n (one t) = tree_keeps p n t
   body_keeps p n (map_of cs) = keeps_below p n (λ m. children_paid p m cs) (λ m e. children_keep p m cs)
   body_keeps p n (list_of cs) = keeps_below p n (λ m. children_paid p m cs) (λ m e. children_keep p m cs)

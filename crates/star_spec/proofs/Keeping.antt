@@ -1,6 +1,6 @@
 -- Computations that keep what the program holds: where the store holds such values, what one gives is such, and so is
 -- the store that it leaves, whichever way it ends.
-use Rattle.std.proofs.Common.{◌≡◌, ℕ, zero, suc, nat_le, ◌==◌, Bool, true, false, if◌then◌else◌, List, [], ◌∷◌, ◌++◌, take, drop, map, slice_set, Option, Some, None, refl}
+use Rattle.std.proofs.Common.{◌≡◌, ℕ, zero, suc, nat_le, ◌==◌, Bool, true, false, if◌then◌else◌, List, [], ◌∷◌, ◌++◌, take, drop, map, slice_set, Option, Some, None, IsUtf8, refl}
 use Rattle.ytt_base.specs.declared.fault.FaultKind.{FaultKind}
 use Rattle.ytt_base.specs.declared.fault.FaultKind.TheVariants as kind
 use Rattle.ytt_base.specs.declared.fault.Place.{Place}
@@ -124,7 +124,7 @@ box_held (Some o) h = held_box o.contents h
 
 abbrev pub HeldFunction : Option Function → Type 0
 HeldFunction None = Unit {0}
-HeldFunction (Some f) = HeldList f.defaults
+HeldFunction (Some f) = IsUtf8 f.name × HeldList f.defaults
 
 pub function_held : (o : Option Object) → HeldIfThere o → HeldFunction (function_in o)
 function_held None h = tt

@@ -1,9 +1,13 @@
+pub mod BindingsKeep
 pub mod BoundNames
+pub mod BuiltinsKeep
 pub mod CallsKeep
 pub mod CutsHeld
 pub mod EvalKeeps
+pub mod FillingKeeps
 pub mod FreshKeeps
 pub mod IndexKeeps
 pub mod Keeping
 pub mod MembersHeld
 pub mod RowsHeld
+pub mod TextsKeep

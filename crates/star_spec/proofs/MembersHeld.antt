@@ -33,11 +33,11 @@ keys_held : (ps : List (Value × Value)) → HeldPairs ps → HeldList (keys_in 
 keys_held [] h = tt
 keys_held (p ∷ ps) h = (h.0, keys_held ps h.3)
 
-abbrev HeldMembers : Option (List Value) → Type 0
+abbrev pub HeldMembers : Option (List Value) → Type 0
 HeldMembers None = Unit {0}
 HeldMembers (Some vs) = HeldList vs
 
-members_held : (store : Store) (v : Value) → HeldStore store → HeldValue v → HeldMembers (members_in store v)
+pub members_held : (store : Store) (v : Value) → HeldStore store → HeldValue v → HeldMembers (members_in store v)
 members_held store (tuple_value vs) h k = in_values vs k
 members_held store (list_value r) h k = list_held (object_at r store) (object_held store r h)
 members_held store (dict_value r) h k = keys_held (pairs_at r store) (pairs_held (object_at r store) (object_held store r h))

@@ -55,7 +55,7 @@ fits_signed (negsuc n) h = record { sfits = ltb-true _ _ h }
 refused : {H : Type 0} (k : FaultKind) (p : Place) → Keeps {H = H} HeldValue (fail k p)
 refused k p = keeps_fail k p []
 
-int_of_held : {H : Type 0} (p : Place) (z : ℤ) → Keeps {H = H} HeldValue (int_of p z)
+pub int_of_held : {H : Type 0} (p : Place) (z : ℤ) → Keeps {H = H} HeldValue (int_of p z)
 int_of_held p z = keeps_if (fits z) (λ h. keeps_give (int_value z) (fits_signed z h)) (λ h. refused kind.IntOverflow p)
 
 complement_fits : (z : ℤ) → FitsSigned w128 z → FitsSigned w128 (complement z)

@@ -71,7 +71,7 @@ is_false : (h : Bool) → not h ≡ true → h ≡ false
 is_false true e = cc
 is_false false e = refl
 
-one_filled : {H : Type 0} (p : Place) (b : ℕ) (t : List ℕ) (vs : List Value) → is_plain b ≡ true → filled {H = H} p (b ∷ t) vs ≡ text_before (b ∷ []) (filled p t vs)
+pub one_filled : {H : Type 0} (p : Place) (b : ℕ) (t : List ℕ) (vs : List Value) → is_plain b ≡ true → filled {H = H} p (b ∷ t) vs ≡ text_before (b ∷ []) (filled p t vs)
 one_filled {H = H} p b [] vs h = ap (λ k. if k then fail kind.ValueKind p else text_before {H = H} (b ∷ []) (at_end p vs)) (is_false (b == 37) h)
 one_filled {H = H} p b (c ∷ t) vs h = ap (λ k. if k then by_conversion p (conversion_of c) vs (filled p t) else text_before {H = H} (b ∷ []) (filled p (c ∷ t) vs)) (is_false (b == 37) h)
 
@@ -91,7 +91,7 @@ module _ {H : Type 0} (p : Place) (vs : Values) (fs : Fields) where
   passed_over met [] t = refl
   passed_over met (b ∷ a) t = passed_over met a t
 
-  one_formatted : (met : Met) (b : ℕ) (t : List ℕ) → is_no_brace b ≡ true → formatted {H = H} p vs fs met 0 (b ∷ t) ≡ text_before (b ∷ []) (formatted p vs fs met 0 t)
+  pub one_formatted : (met : Met) (b : ℕ) (t : List ℕ) → is_no_brace b ≡ true → formatted {H = H} p vs fs met 0 (b ∷ t) ≡ text_before (b ∷ []) (formatted p vs fs met 0 t)
   one_formatted met b t h =
       ap (λ k. if k then (if begins b t then text_before {H = H} (b ∷ []) (formatted p vs fs met 1 t) else if b == 125 then fail kind.ValueKind p else opened p vs fs met (cut_at 125 t) (λ m k. formatted p vs fs m k t)) else text_before (b ∷ []) (formatted p vs fs met 0 t))
       (is_false (b == 123 || b == 125) h)

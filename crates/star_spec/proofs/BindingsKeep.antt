@@ -1,0 +1,132 @@
+-- The values that the parameters of a call get are what the program holds, where its arguments and its defaults are.
+use Rattle.std.proofs.Common.{◌≡◌, Bool, true, false, ◌||◌, if◌then◌else◌, List, [], ◌∷◌, Option, Some, None, refl, bytes_eq}
+use Rattle.ytt_base.specs.declared.fault.FaultKind.TheVariants as kind
+use Rattle.ytt_base.specs.declared.fault.Place.{Place}
+use Rattle.code_spec.specs.Code.{Name, Parameters, no_parameters, required, defaulted, bare_star, starred_parameter, double_starred_parameter}
+use Rattle.star_spec.specs.Held.{HeldValue, HeldValues, HeldFields, HeldList, has_equal_key, HeldPairs, HeldArguments}
+use Rattle.value_spec.specs.Binding.{field_of, without_field, has_field, has_twice, or_default, Given, given, rest_given, in_front, rest_in_front, unless_named, bound, all_bound, text_pairs, value_given, values_given, bound_values}
+use Rattle.value_spec.specs.Values.{Value, text_value, tuple_value, dict_value, Values, no_values, a_value, Fields, no_fields, a_field, Arguments, arguments, of_dict}
+use Rattle.star_spec.proofs.Keeping.{Keeps, keeps_then, keeps_give, keeps_or_fail, keeps_new_object}
+
+abbrev HeldGiven : Given → Type 0
+HeldGiven (given v) = HeldValue v
+HeldGiven (rest_given fs) = HeldFields fs × (has_twice fs ≡ false)
+
+abbrev AllGiven : List (Name × Given) → Type 0
+AllGiven [] = Unit {0}
+AllGiven (b ∷ bs) = HeldGiven b.1 × AllGiven bs
+
+abbrev HeldBound : Option (List (Name × Given)) → Type 0
+HeldBound None = Unit {0}
+HeldBound (Some bs) = AllGiven bs
+
+abbrev pub HeldOne : Option Value → Type 0
+HeldOne None = Unit {0}
+HeldOne (Some v) = HeldValue v
+
+front_held : (x : Name) (o : Option Value) (b : Option (List (Name × Given))) → HeldOne o → HeldBound b → HeldBound (in_front x o b)
+front_held x None b h k = tt
+front_held x (Some v) None h k = tt
+front_held x (Some v) (Some bs) h k = (h, k)
+
+rest_held : (x : Name) (fs : Fields) (b : Option (List (Name × Given))) → HeldGiven (rest_given fs) → HeldBound b → HeldBound (rest_in_front x fs b)
+rest_held x fs None h k = tt
+rest_held x fs (Some bs) h k = (h, k)
+
+one_if : (b : Bool) (x y : Option Value) → HeldOne x → HeldOne y → HeldOne (if b then x else y)
+one_if true x y h k = h
+one_if false x y h k = k
+
+pub field_held : (x : Name) (fs : Fields) → HeldFields fs → HeldOne (field_of x fs)
+field_held x no_fields h = tt
+field_held x (a_field y v fs) h = one_if (bytes_eq x y) (Some v) (field_of x fs) h.1 (field_held x fs h.2)
+
+fields_if : (b : Bool) (f g : Fields) → HeldFields f → HeldFields g → HeldFields (if b then f else g)
+fields_if true f g h k = h
+fields_if false f g h k = k
+
+without_held : (x : Name) (fs : Fields) → HeldFields fs → HeldFields (without_field x fs)
+without_held x no_fields h = tt
+without_held x (a_field y v fs) h = fields_if (bytes_eq x y) fs (a_field y v (without_field x fs)) h.2 (h.0, h.1, without_held x fs h.2)
+
+unless_held : (x : Name) (v : Value) (fs : Fields) → HeldValue v → HeldOne (unless_named x v fs)
+unless_held x v fs h = one_if (has_field x fs) None (Some v) tt h
+
+default_held : (o d : Option Value) → HeldOne o → HeldOne d → HeldOne (or_default o d)
+default_held None d h k = k
+default_held (Some v) d h k = h
+
+-- what isn't in two isn't in the second, nor in the first
+not_first : (a b : Bool) → (a || b) ≡ false → a ≡ false
+not_first true b e = cc
+not_first false b e = refl
+
+not_second : (a b : Bool) → (a || b) ≡ false → b ≡ false
+not_second true b e = cc
+not_second false b e = e
+
+neither : (a b : Bool) → a ≡ false → b ≡ false → (a || b) ≡ false
+neither true b e f = cc
+neither false b e f = f
+
+still_without : (y x : Name) (fs : Fields) → has_field y fs ≡ false → has_field y (without_field x fs) ≡ false
+still_without y x no_fields e = e
+still_without y x (a_field z v fs) e = by_test (bytes_eq x z) (still_without y x fs (not_second (bytes_eq y z) (has_field y fs) e))
+  where
+    by_test : (b : Bool) → has_field y (without_field x fs) ≡ false → has_field y (if b then fs else a_field z v (without_field x fs)) ≡ false
+    by_test true g = not_second (bytes_eq y z) (has_field y fs) e
+    by_test false g = neither (bytes_eq y z) (has_field y (without_field x fs)) (not_first (bytes_eq y z) (has_field y fs) e) g
+
+still_once : (x : Name) (fs : Fields) → has_twice fs ≡ false → has_twice (without_field x fs) ≡ false
+still_once x no_fields e = e
+still_once x (a_field z v fs) e = by_test (bytes_eq x z) (still_once x fs (not_second (has_field z fs) (has_twice fs) e))
+  where
+    by_test : (b : Bool) → has_twice (without_field x fs) ≡ false → has_twice (if b then fs else a_field z v (without_field x fs)) ≡ false
+    by_test true g = not_second (has_field z fs) (has_twice fs) e
+    by_test false g = neither (has_field z (without_field x fs)) (has_twice (without_field x fs)) (still_without z x fs (not_first (has_field z fs) (has_twice fs) e)) g
+
+bound_held : (ps : Parameters) (ds : List Value) (vs : Values) (fs : Fields) → HeldList ds → HeldValues vs → HeldFields fs → has_twice fs ≡ false → HeldBound (bound ps ds vs fs)
+bound_held no_parameters ds no_values no_fields d h k e = tt
+bound_held no_parameters ds no_values (a_field y v fs) d h k e = tt
+bound_held no_parameters ds (a_value v vs) fs d h k e = tt
+bound_held (required x ps) ds (a_value v vs) fs d h k e = front_held x (unless_named x v fs) (bound ps ds vs fs) (unless_held x v fs h.0) (bound_held ps ds vs fs d h.1 k e)
+bound_held (required x ps) ds no_values fs d h k e = front_held x (field_of x fs) _ (field_held x fs k) (bound_held ps ds no_values (without_field x fs) d h (without_held x fs k) (still_once x fs e))
+bound_held (defaulted x f ps) [] vs fs d h k e = tt
+bound_held (defaulted x f ps) (w ∷ ds) (a_value v vs) fs d h k e = front_held x (unless_named x v fs) (bound ps ds vs fs) (unless_held x v fs h.0) (bound_held ps ds vs fs d.1 h.1 k e)
+bound_held (defaulted x f ps) (w ∷ ds) no_values fs d h k e =
+    front_held x (or_default (field_of x fs) (Some w)) _ (default_held (field_of x fs) (Some w) (field_held x fs k) d.0) (bound_held ps ds no_values (without_field x fs) d.1 h (without_held x fs k) (still_once x fs e))
+bound_held (bare_star ps) ds (a_value v vs) fs d h k e = tt
+bound_held (bare_star ps) ds no_values fs d h k e = bound_held ps ds no_values fs d h k e
+bound_held (starred_parameter x ps) ds vs fs d h k e = front_held x (Some (tuple_value vs)) (bound ps ds no_values fs) h (bound_held ps ds no_values fs d tt k e)
+bound_held (double_starred_parameter x ps) ds (a_value v vs) fs d h k e = tt
+bound_held (double_starred_parameter x ps) ds no_values fs d h k e = rest_held x fs (bound ps ds no_values no_fields) (k, e) (bound_held ps ds no_values no_fields d tt tt refl)
+
+bound_if : (b : Bool) (o : Option (List (Name × Given))) → (b ≡ false → HeldBound o) → HeldBound (if b then None else o)
+bound_if true o h = tt
+bound_if false o h = h refl
+
+arguments_bound : (ps : Parameters) (ds : List Value) (vs : Arguments) → HeldList ds → HeldArguments vs → HeldBound (all_bound ps ds vs)
+arguments_bound ps ds (arguments vs fs) d h = bound_if (has_twice fs) (bound ps ds vs fs) (λ e. bound_held ps ds vs fs d h.0 h.1 e)
+
+texts_avoid : (x : Name) (fs : Fields) → has_field x fs ≡ false → has_equal_key (text_value x) (text_pairs fs) ≡ false
+texts_avoid x no_fields e = refl
+texts_avoid x (a_field y v fs) e = neither (bytes_eq x y) (has_equal_key (text_value x) (text_pairs fs)) (not_first (bytes_eq x y) (has_field x fs) e) (texts_avoid x fs (not_second (bytes_eq x y) (has_field x fs) e))
+
+texts_held : (fs : Fields) → HeldFields fs → has_twice fs ≡ false → HeldPairs (text_pairs fs)
+texts_held no_fields h e = tt
+texts_held (a_field x v fs) h e = (h.0, h.1, texts_avoid x fs (not_first (has_field x fs) (has_twice fs) e), texts_held fs h.2 (not_second (has_field x fs) (has_twice fs) e))
+
+given_keeps : {H : Type 0} (g : Given) → HeldGiven g → Keeps {H = H} HeldValue (value_given g)
+given_keeps (given v) h = keeps_give v h
+given_keeps (rest_given fs) h = keeps_then (keeps_new_object (of_dict (text_pairs fs)) (texts_held fs h.0 h.1)) (λ r u. keeps_give (dict_value r) tt)
+
+values_keep : {H : Type 0} (bs : List (Name × Given)) → AllGiven bs → Keeps {H = H} HeldList (values_given bs)
+values_keep [] h = keeps_give [] tt
+values_keep (b ∷ bs) h = keeps_then (given_keeps b.1 h.0) (λ v k. keeps_then (values_keep bs h.1) (λ vs j. keeps_give (v ∷ vs) (k, j)))
+
+bound_found : (o : Option (List (Name × Given))) (bs : List (Name × Given)) → HeldBound o → o ≡ Some bs → AllGiven bs
+bound_found None bs h e = cc
+bound_found (Some cs) bs h e = let same : cs ≡ bs = cc in rw (← same) h
+
+pub bound_keeps : {H : Type 0} (p : Place) (ps : Parameters) (ds : List Value) (vs : Arguments) → HeldList ds → HeldArguments vs → Keeps {H = H} HeldList (bound_values p ps ds vs)
+bound_keeps p ps ds vs d h = keeps_then (keeps_or_fail kind.ArgBind p (all_bound ps ds vs) (λ bs e. bound_found (all_bound ps ds vs) bs (arguments_bound ps ds vs d h) e)) (λ bs k. values_keep bs k)
