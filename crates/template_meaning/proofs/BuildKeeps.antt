@@ -1,6 +1,6 @@
 -- What is built can be written: the documents of a template whose scalars and literals are what the program holds are
 -- such, with distinct keys, and none nests deeper than it may.
-use Rattle.std.proofs.Common.{◌≡◌, ℕ, suc, ◌-◌, ◌≤◌, Bool, true, false, nat_eq, if◌then◌else◌, List, [], ◌∷◌, length, Option, Some, None, IsTrue, refl, arith, ◌++◌, bytes_eq}
+use Rattle.std.proofs.Common.{◌≡◌, ℕ, suc, ◌-◌, ◌≤◌, Bool, true, false, nat_eq, if◌then◌else◌, List, [], ◌∷◌, length, Option, Some, None, IsTrue, IsUtf8, refl, arith, ◌++◌, bytes_eq}
 use Rattle.ytt_base.specs.declared.fault.FaultKind.TheVariants as kind
 use Rattle.ytt_base.specs.declared.fault.Place.{Place}
 use Rattle.ytt_base.specs.Trees.{scalar, Tree, Trees, tree, IsScalar, IsTree, AreTrees, Writable, depth, is_null, max_depth}
@@ -40,15 +40,15 @@ HeldItemKey no_key = Unit {0}
 HeldItemKey (written_key x) = IsScalar x
 HeldItemKey (key_from e) = HeldExpr e
 
--- the scalars and the literals of a template are what the program holds, where so many collections stand around its
--- items, and no more than the greatest depth in all
+-- the scalars, the literals and the names of functions of a template are what the program holds, where so many collections stand
+-- around its items, and no more than the greatest depth in all
 abbrev mutual
   pub HeldItem : (n : ℕ) → Item → Type 0
   HeldItem n (node p k ns key c) = HeldNotes ns × HeldItemKey key × HeldContent n c
   HeldItem n (code_item s) = HeldStatement s
   HeldItem n (if_block p e body more) = HeldExpr e × HeldItems n body × HeldBranches n more
   HeldItem n (for_block p x e body) = HeldExpr x × HeldExpr e × HeldItems n body
-  HeldItem n (def_block p number x ps k body) = HeldParameters ps × HeldItems (level_of (fragment_kind k body)) body
+  HeldItem n (def_block p number x ps k body) = IsUtf8 x × HeldParameters ps × HeldItems (level_of (fragment_kind k body)) body
 
   pub HeldItems : (n : ℕ) → Items → Type 0
   HeldItems n no_items = Unit {0}
@@ -129,7 +129,7 @@ module _ {H : Type 0} (language : Language H) (keeps : LanguageKeeps language) (
         keeps_paid 1 p (keeps_then (test_keeps e env h.0) (λ v u. choice_keeps n v (builds language call n body env) (choose language call n more env) (λ ds d. items_keep n body env h.1 ds d) (λ ds d. branches_keep n more env h.2 ds d) cs g))
     item_keeps n (for_block p x e body) env h cs g =
         keeps_paid 1 p (keeps_then (keeps.eval call calls e env h.1) (λ v k. over_keeps (GoodAt n) p (language.members p v) (λ w. language.assign call p x w env) v (builds language call n body env) (keeps.members p v k) (λ w j. keeps.assign call calls p x w env h.0 j) (λ ds d. items_keep n body env h.2 ds d) cs g))
-    item_keeps n (def_block p m x ps k body) env h cs g = plain_keeps (GoodAt n) (define language call p m x ps env) (define_keeps language keeps call calls p m x ps env h.0) cs g
+    item_keeps n (def_block p m x ps k body) env h cs g = plain_keeps (GoodAt n) (define language call p m x ps env) (define_keeps language keeps call calls p m x ps env h.0 h.1) cs g
 
     pub items_keep : (n : ℕ) (t : Items) (env : Env) → HeldItems n t → (cs : Children) → GoodAt n cs → Keeps (FlowHeld (GoodAt n)) (builds language call n t env cs)
     items_keep n no_items env h cs g = keeps_give (on cs) g
@@ -261,8 +261,8 @@ mutual
   item_code_held k n (if_block p e body more) h = either_code (lambda_code (lambda_in k e)) _ (of_held (lambda_in k e) (lambda_held k e h.0)) (either_code (function_among k body) (branches_function k more) (items_code_held k n body h.1) (branches_code_held k n more h.2))
   item_code_held k n (for_block p x e body) h = either_code (lambda_code (lambda_in k x)) _ (of_held (lambda_in k x) (lambda_held k x h.0)) (either_code (lambda_code (lambda_in k e)) (function_among k body) (of_held (lambda_in k e) (lambda_held k e h.1)) (items_code_held k n body h.2))
   item_code_held k n (def_block p m x ps j body) h =
-      either_code (only_if (nat_eq k m) (of_def ps (fragment_kind j body) body)) _ (this_def (nat_eq k m) ps (fragment_kind j body) body h.1)
-      (either_code (lambda_code (lambda_in_parameters k ps)) (function_among k body) (of_held (lambda_in_parameters k ps) (parameters_held k ps h.0)) (items_code_held k (level_of (fragment_kind j body)) body h.1))
+      either_code (only_if (nat_eq k m) (of_def ps (fragment_kind j body) body)) _ (this_def (nat_eq k m) ps (fragment_kind j body) body h.2)
+      (either_code (lambda_code (lambda_in_parameters k ps)) (function_among k body) (of_held (lambda_in_parameters k ps) (parameters_held k ps h.1)) (items_code_held k (level_of (fragment_kind j body)) body h.2))
 
   items_code_held : (k n : ℕ) (t : Items) → HeldItems n t → HeldCode (function_among k t)
   items_code_held k n no_items h = tt

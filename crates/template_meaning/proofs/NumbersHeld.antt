@@ -111,7 +111,7 @@ mutual
       let a = (number_expr x n).next in (held_expr x n h.0, held_expr e a h.1, held_items m body (number_expr e a).next h.2)
   held_item m (def_block p k x ps kind body) n h =
       let a = (number_parameters ps (suc n)).next in
-      (held_parameters ps (suc n) h.0, subst (λ l. HeldItems l (number_items body a).result) (sym (level_same kind body a)) (held_items (level_of (fragment_kind kind body)) body a h.1))
+      (h.0, held_parameters ps (suc n) h.1, subst (λ l. HeldItems l (number_items body a).result) (sym (level_same kind body a)) (held_items (level_of (fragment_kind kind body)) body a h.2))
 
   held_items : (m : ℕ) (t : Items) (n : ℕ) → HeldItems m t → HeldItems m (number_items t n).result
   held_items m no_items n h = tt

@@ -220,8 +220,8 @@ unknown_name : (r : CodeReader) → r.expr (place_at 1 1) (codes "x") ≡ Ok (na
 unfolding digits chars encode is_utf8 cut lines_of checked Lines form plain fold_parts single double parts Quote header body block_text Block start_fault span further plain_lines gap flow_key elements pair_value pairs flow_scalar flow noted ended value key_at heads_of row_at taken rows cut_after content_of entry_content entry entry_at entries Doc segments explicit read_ended documents implicit Read distinct fits_plain fits_literal comment_said events placing_fault placed_whole
 unknown_name r read = rw read refl
 
--- a function of the language is known, and isn't built yet
-known_name : (r : CodeReader) → r.expr (place_at 1 1) (codes "len") ≡ Ok (name (place_at 1 1) (codes "len")) → due_of r (codes "a: #@ len\n") ≡ fault (codes "error: NotBuilt at a.yml:1\n")
+-- a function of the language is a value, which isn't YAML
+known_name : (r : CodeReader) → r.expr (place_at 1 1) (codes "len") ≡ Ok (name (place_at 1 1) (codes "len")) → due_of r (codes "a: #@ len\n") ≡ fault (codes "error: NotYaml at a.yml:1\n")
 unfolding digits chars encode is_utf8 cut lines_of checked Lines form plain fold_parts single double parts Quote header body block_text Block start_fault span further plain_lines gap flow_key elements pair_value pairs flow_scalar flow noted ended value key_at heads_of row_at taken rows cut_after content_of entry_content entry entry_at entries Doc segments explicit read_ended documents implicit Read distinct fits_plain fits_literal comment_said events placing_fault placed_whole
 known_name r read = rw read refl
 

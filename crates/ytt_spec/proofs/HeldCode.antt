@@ -1,6 +1,6 @@
--- Readers of code whose literals are what the program holds: integers of 128 bits, and texts in UTF-8. So are those of what
--- comments say by them, and of the events of a text.
-use Rattle.std.proofs.Common.{ℕ, Bool, ◌||◌, List, [], ◌∷◌, drop, Ok}
+-- Readers of code whose literals are what the program holds: integers of 128 bits, and texts in UTF-8; and whose functions have
+-- names in UTF-8. So are those of what comments say by them, and of the events of a text.
+use Rattle.std.proofs.Common.{ℕ, Bool, ◌||◌, List, [], ◌∷◌, drop, Ok, IsUtf8}
 use Rattle.std.specs.Prelude.{codes}
 use Rattle.std.specs.Result.{IfOk}
 use Rattle.ytt_base.specs.declared.fault.FaultKind.TheVariants as kind
@@ -25,7 +25,7 @@ HeldHeader (if_header e) = HeldExpr e
 HeldHeader (elif_header e) = HeldExpr e
 HeldHeader else_header = Unit {0}
 HeldHeader (for_header x e) = HeldExpr x × HeldExpr e
-HeldHeader (def_header x ps) = HeldParameters ps
+HeldHeader (def_header x ps) = IsUtf8 x × HeldParameters ps
 HeldHeader end_header = Unit {0}
 
 abbrev pub HeldInstruction : Instruction → Type 0
@@ -35,7 +35,7 @@ HeldInstruction (begin_if p e) = HeldExpr e
 HeldInstruction (begin_elif p e) = HeldExpr e
 HeldInstruction (begin_else p) = Unit {0}
 HeldInstruction (begin_for p x e) = HeldExpr x × HeldExpr e
-HeldInstruction (begin_def p n fragment x ps) = HeldParameters ps
+HeldInstruction (begin_def p n fragment x ps) = IsUtf8 x × HeldParameters ps
 HeldInstruction (close p) = Unit {0}
 
 abbrev pub HeldLine : List Instruction → Type 0

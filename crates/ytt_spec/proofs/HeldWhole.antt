@@ -101,7 +101,7 @@ module _ (n : ℕ) (kind : ItemKind) (p : Place) (le : level_of (Some kind) ≤ 
   held_block : (h : Header) (is : Items) (more : Branches) (t : Nested) → HeldHeader h → HeldItems n is → HeldBranches n more → HeldNested n t → HeldNested n (put_block (block_of kind p h is more) t)
   held_block (if_header e) is more t h i b g = held_put n (if_block p e is more) t (h, i, b) g
   held_block (for_header x e) is no_branch t h i b g = held_put n (for_block p x e is) t (h.0, h.1, i) g
-  held_block (def_header x ps) is no_branch t h i b g = held_put n (def_block p 0 x ps kind is) t (h, function_held kind n is le i) g
+  held_block (def_header x ps) is no_branch t h i b g = held_put n (def_block p 0 x ps kind is) t (h.0, h.1, function_held kind n is le i) g
   held_block k is more t h i b g = tt
 
   held_around : (h : Header) (t : Nested) → HeldHeader h → HeldNested n t → HeldNested n (around_one kind p h t)

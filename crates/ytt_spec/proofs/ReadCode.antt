@@ -396,7 +396,7 @@ module _ (file : ℕ) where
     stated_held stated.Augment = (line_more (code_in (fourth ps)) _ (code_held (fourth ps) p4) (e3.0, e1.0), h4)
     stated_held stated.Evaluate = (line_more (code_in (second ps)) _ (code_held (second ps) p2) e1.0, h2)
     stated_held stated.For = (line_more (code_in (fourth ps)) _ (code_held (fourth ps) p4) (e2.0, e1.0), h4)
-    stated_held stated.Def = (line_more (code_in (fourth ps)) _ (code_held (fourth ps) p4) (all_parameters (each (parameter_of file) (params_in (top ps))) (params_held (top ps) p1)), h4)
+    stated_held stated.Def = (line_more (code_in (fourth ps)) _ (code_held (fourth ps) p4) (e2.1, all_parameters (each (parameter_of file) (params_in (top ps))) (params_held (top ps) p1)), h4)
 
     built_held : (a : Action) → HeldParts (built a ps)
     built_held action.Keep = h
