@@ -6,7 +6,7 @@ use Rattle.code_spec.specs.Code.{Name, Parameters, no_parameters, required, defa
 use Rattle.star_spec.specs.Held.{HeldValue, HeldValues, HeldFields, HeldList, has_equal_key, HeldPairs, HeldArguments}
 use Rattle.value_spec.specs.Binding.{field_of, without_field, has_field, has_twice, or_default, Given, given, rest_given, in_front, rest_in_front, unless_named, bound, all_bound, text_pairs, value_given, values_given, bound_values}
 use Rattle.value_spec.specs.Values.{Value, text_value, tuple_value, dict_value, Values, no_values, a_value, Fields, no_fields, a_field, Arguments, arguments, of_dict}
-use Rattle.star_spec.proofs.Keeping.{Keeps, keeps_then, keeps_give, keeps_or_fail, keeps_new_object}
+use Rattle.star_spec.proofs.Keeping.{IfFound, found_if, found_one, Keeps, keeps_then, keeps_give, keeps_or_fail, keeps_new_object}
 
 abbrev HeldGiven : Given → Type 0
 HeldGiven (given v) = HeldValue v
@@ -16,30 +16,18 @@ abbrev AllGiven : List (Name × Given) → Type 0
 AllGiven [] = Unit {0}
 AllGiven (b ∷ bs) = HeldGiven b.1 × AllGiven bs
 
-abbrev HeldBound : Option (List (Name × Given)) → Type 0
-HeldBound None = Unit {0}
-HeldBound (Some bs) = AllGiven bs
-
-abbrev pub HeldOne : Option Value → Type 0
-HeldOne None = Unit {0}
-HeldOne (Some v) = HeldValue v
-
-front_held : (x : Name) (o : Option Value) (b : Option (List (Name × Given))) → HeldOne o → HeldBound b → HeldBound (in_front x o b)
+front_held : (x : Name) (o : Option Value) (b : Option (List (Name × Given))) → IfFound HeldValue o → IfFound AllGiven b → IfFound AllGiven (in_front x o b)
 front_held x None b h k = tt
 front_held x (Some v) None h k = tt
 front_held x (Some v) (Some bs) h k = (h, k)
 
-rest_held : (x : Name) (fs : Fields) (b : Option (List (Name × Given))) → HeldGiven (rest_given fs) → HeldBound b → HeldBound (rest_in_front x fs b)
+rest_held : (x : Name) (fs : Fields) (b : Option (List (Name × Given))) → HeldGiven (rest_given fs) → IfFound AllGiven b → IfFound AllGiven (rest_in_front x fs b)
 rest_held x fs None h k = tt
 rest_held x fs (Some bs) h k = (h, k)
 
-one_if : (b : Bool) (x y : Option Value) → HeldOne x → HeldOne y → HeldOne (if b then x else y)
-one_if true x y h k = h
-one_if false x y h k = k
-
-pub field_held : (x : Name) (fs : Fields) → HeldFields fs → HeldOne (field_of x fs)
+pub field_held : (x : Name) (fs : Fields) → HeldFields fs → IfFound HeldValue (field_of x fs)
 field_held x no_fields h = tt
-field_held x (a_field y v fs) h = one_if (bytes_eq x y) (Some v) (field_of x fs) h.1 (field_held x fs h.2)
+field_held x (a_field y v fs) h = found_if HeldValue (bytes_eq x y) (Some v) (field_of x fs) h.1 (field_held x fs h.2)
 
 fields_if : (b : Bool) (f g : Fields) → HeldFields f → HeldFields g → HeldFields (if b then f else g)
 fields_if true f g h k = h
@@ -49,10 +37,10 @@ without_held : (x : Name) (fs : Fields) → HeldFields fs → HeldFields (withou
 without_held x no_fields h = tt
 without_held x (a_field y v fs) h = fields_if (bytes_eq x y) fs (a_field y v (without_field x fs)) h.2 (h.0, h.1, without_held x fs h.2)
 
-unless_held : (x : Name) (v : Value) (fs : Fields) → HeldValue v → HeldOne (unless_named x v fs)
-unless_held x v fs h = one_if (has_field x fs) None (Some v) tt h
+unless_held : (x : Name) (v : Value) (fs : Fields) → HeldValue v → IfFound HeldValue (unless_named x v fs)
+unless_held x v fs h = found_if HeldValue (has_field x fs) None (Some v) tt h
 
-default_held : (o d : Option Value) → HeldOne o → HeldOne d → HeldOne (or_default o d)
+default_held : (o d : Option Value) → IfFound HeldValue o → IfFound HeldValue d → IfFound HeldValue (or_default o d)
 default_held None d h k = k
 default_held (Some v) d h k = h
 
@@ -85,7 +73,7 @@ still_once x (a_field z v fs) e = by_test (bytes_eq x z) (still_once x fs (not_s
     by_test true g = not_second (has_field z fs) (has_twice fs) e
     by_test false g = neither (has_field z (without_field x fs)) (has_twice (without_field x fs)) (still_without z x fs (not_first (has_field z fs) (has_twice fs) e)) g
 
-bound_held : (ps : Parameters) (ds : List Value) (vs : Values) (fs : Fields) → HeldList ds → HeldValues vs → HeldFields fs → has_twice fs ≡ false → HeldBound (bound ps ds vs fs)
+bound_held : (ps : Parameters) (ds : List Value) (vs : Values) (fs : Fields) → HeldList ds → HeldValues vs → HeldFields fs → has_twice fs ≡ false → IfFound AllGiven (bound ps ds vs fs)
 bound_held no_parameters ds no_values no_fields d h k e = tt
 bound_held no_parameters ds no_values (a_field y v fs) d h k e = tt
 bound_held no_parameters ds (a_value v vs) fs d h k e = tt
@@ -101,11 +89,11 @@ bound_held (starred_parameter x ps) ds vs fs d h k e = front_held x (Some (tuple
 bound_held (double_starred_parameter x ps) ds (a_value v vs) fs d h k e = tt
 bound_held (double_starred_parameter x ps) ds no_values fs d h k e = rest_held x fs (bound ps ds no_values no_fields) (k, e) (bound_held ps ds no_values no_fields d tt tt refl)
 
-bound_if : (b : Bool) (o : Option (List (Name × Given))) → (b ≡ false → HeldBound o) → HeldBound (if b then None else o)
+bound_if : (b : Bool) (o : Option (List (Name × Given))) → (b ≡ false → IfFound AllGiven o) → IfFound AllGiven (if b then None else o)
 bound_if true o h = tt
 bound_if false o h = h refl
 
-arguments_bound : (ps : Parameters) (ds : List Value) (vs : Arguments) → HeldList ds → HeldArguments vs → HeldBound (all_bound ps ds vs)
+arguments_bound : (ps : Parameters) (ds : List Value) (vs : Arguments) → HeldList ds → HeldArguments vs → IfFound AllGiven (all_bound ps ds vs)
 arguments_bound ps ds (arguments vs fs) d h = bound_if (has_twice fs) (bound ps ds vs fs) (λ e. bound_held ps ds vs fs d h.0 h.1 e)
 
 texts_avoid : (x : Name) (fs : Fields) → has_field x fs ≡ false → has_equal_key (text_value x) (text_pairs fs) ≡ false
@@ -124,9 +112,5 @@ values_keep : {H : Type 0} (bs : List (Name × Given)) → AllGiven bs → Keeps
 values_keep [] h = keeps_give [] tt
 values_keep (b ∷ bs) h = keeps_then (given_keeps b.1 h.0) (λ v k. keeps_then (values_keep bs h.1) (λ vs j. keeps_give (v ∷ vs) (k, j)))
 
-bound_found : (o : Option (List (Name × Given))) (bs : List (Name × Given)) → HeldBound o → o ≡ Some bs → AllGiven bs
-bound_found None bs h e = cc
-bound_found (Some cs) bs h e = let same : cs ≡ bs = cc in rw (← same) h
-
 pub bound_keeps : {H : Type 0} (p : Place) (ps : Parameters) (ds : List Value) (vs : Arguments) → HeldList ds → HeldArguments vs → Keeps {H = H} HeldList (bound_values p ps ds vs)
-bound_keeps p ps ds vs d h = keeps_then (keeps_or_fail kind.ArgBind p (all_bound ps ds vs) (λ bs e. bound_found (all_bound ps ds vs) bs (arguments_bound ps ds vs d h) e)) (λ bs k. values_keep bs k)
+bound_keeps p ps ds vs d h = keeps_then (keeps_or_fail kind.ArgBind p (all_bound ps ds vs) (λ bs e. found_one AllGiven (all_bound ps ds vs) bs (arguments_bound ps ds vs d h) e)) (λ bs k. values_keep bs k)

@@ -14,17 +14,17 @@ use Rattle.operator_spec.specs.Operators.{augment_row, binary_row}
 use Rattle.star_spec.specs.Held.{HeldValue, HeldList, HeldStore, HeldArguments}
 use Rattle.text_spec.specs.Answers.{Answer, one_text, one_test, one_number, text_list, text_tuple, nowhere, answer_bytes, answer_members, give_answer, text_values}
 use Rattle.text_spec.specs.Methods.{Method, method_answer, method_in, row_of, text_method, text_methods}
-use Rattle.text_spec.specs.Signatures.{Kind, no_kind, text_kind, separator, optional_text, optional_separator, optional_integer, optional_bool, text_or_texts, text_members, Kinds, Operand, of_texts, Operands, all_texts, read_as, read_operands, read_texts, text_in_front, three_read, value_at}
+use Rattle.text_spec.specs.Signatures.{Kind, no_kind, text_kind, separator, optional_text, optional_separator, optional_integer, optional_bool, text_or_texts, text_members, Kinds, Operand, of_texts, all_texts, read_as, read_operands, read_texts, text_in_front, three_read, value_at}
 use Rattle.value_spec.specs.Binding.{none_for_each, parameters_named}
 use Rattle.value_spec.specs.Members.{as_text, count_in, members_in, truth_in}
 use Rattle.value_spec.specs.Outcomes.{Computation}
 use Rattle.value_spec.specs.Values.{Value, none_value, bool_value, int_value, text_value, tuple_value, range_value, struct_value, fragment_value, list_value, dict_value, function_value, module_value, native_value, builtin, method, values_in, Arguments, Store}
 use Rattle.text_spec.proofs.Answers.{AllAnswerUtf8, AnswerUtf8, AnswersUtf8, Fits, OperandUtf8, OperandsFit, methods_utf8}
 use Rattle.text_spec.proofs.Utf8.{AreUtf8}
-use Rattle.star_spec.proofs.BindingsKeep.{HeldOne, bound_keeps, field_held}
+use Rattle.star_spec.proofs.BindingsKeep.{bound_keeps, field_held}
 use Rattle.star_spec.proofs.FillingKeeps.{format_keeps, paid_keeps, percent_keeps}
-use Rattle.star_spec.proofs.Keeping.{Keeps, Anything, keeps_then, keeps_give, keeps_fail, keeps_need, keeps_if, keeps_or_fail, keeps_reads}
-use Rattle.star_spec.proofs.MembersHeld.{HeldMembers, from_values, in_values, members_held, new_list_keeps}
+use Rattle.star_spec.proofs.Keeping.{IfFound, found_if, found_one, Keeps, Anything, keeps_then, keeps_give, keeps_fail, keeps_need, keeps_if, keeps_or_fail, keeps_reads}
+use Rattle.star_spec.proofs.MembersHeld.{from_values, in_values, members_held, new_list_keeps}
 use Rattle.star_spec.proofs.RowsHeld.{augmented_held, binary_held, int_of_held}
 use Rattle.star_spec.proofs.TextsKeep.{all_low, low_utf8, repr_keeps, str_keeps}
 
@@ -63,11 +63,11 @@ method_utf8 x e = by (bytes_eq x (codes "format")) refl e where
 
 -- ---- attributes
 
-method_held : (b : Bool) (x : Name) (v : Value) → (b ≡ true → IsUtf8 x) → HeldValue v → HeldOne (method_if b x v)
+method_held : (b : Bool) (x : Name) (v : Value) → (b ≡ true → IsUtf8 x) → HeldValue v → IfFound HeldValue (method_if b x v)
 method_held true x v u h = (u refl, h)
 method_held false x v u h = tt
 
-attribute_held : (v : Value) (x : Name) → HeldValue v → HeldOne (attribute_of v x)
+attribute_held : (v : Value) (x : Name) → HeldValue v → IfFound HeldValue (attribute_of v x)
 attribute_held (struct_value fs) x h = field_held x fs h.0
 attribute_held (module_value m fs) x h = field_held x fs h.1
 attribute_held (text_value t) x h = method_held (is_text_method x) x (text_value t) (method_utf8 x) h
@@ -75,7 +75,7 @@ attribute_held (list_value r) x h = method_held (is_among x list_methods) x (lis
 attribute_held (dict_value r) x h = method_held (is_among x dict_methods) x (dict_value r) (among_utf8 x dict_methods refl) h
 attribute_held _ x h = tt
 
-missing_keeps : {H : Type 0} (p : Place) (x : Name) (o : Option Value) → HeldOne o → Keeps {H = H} HeldValue (or_missing p x o)
+missing_keeps : {H : Type 0} (p : Place) (x : Name) (o : Option Value) → IfFound HeldValue o → Keeps {H = H} HeldValue (or_missing p x o)
 missing_keeps p x None h = keeps_fail kind.KeyMissing p x
 missing_keeps p x (Some v) h = keeps_give v h
 
@@ -84,46 +84,34 @@ attribute_keeps p v x h = missing_keeps p x (attribute_of v x) (attribute_held v
 
 -- ---- what the arguments of a method are read as
 
-abbrev IfText : Option (List ℕ) → Type 0
-IfText None = Unit {0}
-IfText (Some t) = IsUtf8 t
+-- a separator isn't empty, and texts are in UTF-8
+abbrev IsRead : Kind → Operand → Type 0
+IsRead k o = Fits k o × OperandUtf8 o
 
-abbrev IfTexts : Option (List (List ℕ)) → Type 0
-IfTexts None = Unit {0}
-IfTexts (Some ts) = AreUtf8 ts
-
-abbrev IfRead : Kind → Option Operand → Type 0
-IfRead k None = Unit {0}
-IfRead k (Some o) = Fits k o × OperandUtf8 o
-
-abbrev IfAllRead : Kinds → Option Operands → Type 0
-IfAllRead ks None = Unit {0}
-IfAllRead ks (Some os) = OperandsFit ks os
-
-text_there : (v : Value) → HeldValue v → IfText (as_text v)
+text_there : (v : Value) → HeldValue v → IfFound IsUtf8 (as_text v)
 text_there (text_value t) h = h
 text_there _ h = tt
 
-front_there : (a : Option (List ℕ)) (b : Option (List (List ℕ))) → IfText a → IfTexts b → IfTexts (text_in_front a b)
+front_there : (a : Option (List ℕ)) (b : Option (List (List ℕ))) → IfFound IsUtf8 a → IfFound AreUtf8 b → IfFound AreUtf8 (text_in_front a b)
 front_there None b h k = tt
 front_there (Some t) None h k = tt
 front_there (Some t) (Some ts) h k = (h, k)
 
-texts_there : (vs : List Value) → HeldList vs → IfTexts (all_texts vs)
+texts_there : (vs : List Value) → HeldList vs → IfFound AreUtf8 (all_texts vs)
 texts_there [] h = tt
 texts_there (v ∷ vs) h = front_there (as_text v) (all_texts vs) (text_there v h.0) (texts_there vs h.1)
 
-choices_read : (vs : List Value) → HeldList vs → IfRead text_or_texts (read_texts vs)
+choices_read : (vs : List Value) → HeldList vs → IfFound (IsRead text_or_texts) (read_texts vs)
 choices_read vs h = by (all_texts vs) (texts_there vs h) where
-  by : (o : Option (List (List ℕ))) → IfTexts o → IfRead text_or_texts (option_map of_texts o)
+  by : (o : Option (List (List ℕ))) → IfFound AreUtf8 o → IfFound (IsRead text_or_texts) (option_map of_texts o)
   by None u = tt
   by (Some ts) u = (tt, u)
 
-members_read : (o : Option (List Value)) → HeldMembers o → IfRead text_members (option_and_then read_texts o)
+members_read : (o : Option (List Value)) → IfFound HeldList o → IfFound (IsRead text_members) (option_and_then read_texts o)
 members_read None h = tt
 members_read (Some vs) h = choices_read vs h
 
-one_read : (store : Store) (k : Kind) (v : Value) → HeldStore store → HeldValue v → IfRead k (read_as store k v)
+one_read : (store : Store) (k : Kind) (v : Value) → HeldStore store → HeldValue v → IfFound (IsRead k) (read_as store k v)
 one_read store no_kind v g h = (tt, tt)
 one_read store text_kind (text_value t) g h = (tt, h)
 one_read store text_kind _ g h = tt
@@ -147,7 +135,7 @@ one_read store text_or_texts (tuple_value vs) g h = choices_read (values_in vs) 
 one_read store text_or_texts v g h = choices_read (v ∷ []) (h, tt)
 one_read store text_members v g h = members_read (members_in store v) (members_held store v g h)
 
-three : (ks : Kinds) (a b c : Option Operand) → IfRead ks.first a → IfRead ks.second b → IfRead ks.third c → IfAllRead ks (three_read a b c)
+three : (ks : Kinds) (a b c : Option Operand) → IfFound (IsRead ks.first) a → IfFound (IsRead ks.second) b → IfFound (IsRead ks.third) c → IfFound (OperandsFit ks) (three_read a b c)
 three ks None b c h k g = tt
 three ks (Some x) None c h k g = tt
 three ks (Some x) (Some y) None h k g = tt
@@ -158,7 +146,7 @@ nth_held n [] h = tt
 nth_held zero (v ∷ vs) h = h.0
 nth_held (suc n) (v ∷ vs) h = nth_held n vs h.1
 
-all_read : (store : Store) (ks : Kinds) (vs : List Value) → HeldStore store → HeldList vs → IfAllRead ks (read_operands store ks vs)
+all_read : (store : Store) (ks : Kinds) (vs : List Value) → HeldStore store → HeldList vs → IfFound (OperandsFit ks) (read_operands store ks vs)
 all_read store ks vs g h =
     three ks _ _ _ (one_read store ks.first (value_at 0 vs) g (nth_held 0 vs h)) (one_read store ks.second (value_at 1 vs) g (nth_held 1 vs h)) (one_read store ks.third (value_at 2 vs) g (nth_held 2 vs h))
 
@@ -176,32 +164,20 @@ answer_keeps p (text_list ts) u = new_list_keeps (text_values ts) (texts_held ts
 answer_keeps p (text_tuple ts) u = keeps_give _ (from_values (text_values ts) (texts_held ts u))
 answer_keeps p nowhere u = keeps_fail kind.KeyMissing p []
 
-read_one : (ks : Kinds) (o : Option Operands) (os : Operands) → IfAllRead ks o → o ≡ Some os → OperandsFit ks os
-read_one ks None os h e = cc
-read_one ks (Some q) os h e = let same : q ≡ os = cc in subst (OperandsFit ks) same h
-
 answered_keeps : {H : Type 0} (p : Place) (m : Method) (t : List ℕ) (vs : List Value) → AnswersUtf8 m → IsUtf8 t → HeldList vs → Keeps {H = H} AnswerUtf8 (method_answer p m t vs)
 answered_keeps p m t vs answers u h =
-    keeps_then (keeps_then {P = IfAllRead m.kinds} (keeps_reads (λ store. read_operands store m.kinds vs) (λ store g. all_read store m.kinds vs g h)) (λ o k. keeps_or_fail kind.ValueKind p o (λ os e. read_one m.kinds o os k e)))
+    keeps_then (keeps_then {P = IfFound (OperandsFit m.kinds)} (keeps_reads (λ store. read_operands store m.kinds vs) (λ store g. all_read store m.kinds vs g h)) (λ o k. keeps_or_fail kind.ValueKind p o (λ os e. found_one (OperandsFit m.kinds) o os k e)))
     (λ os fit. paid_keeps p (text_value t ∷ vs) (answer_bytes (m.answer t os)) (answer_members (m.answer t os)) (keeps_give (m.answer t os) (answers t os u fit)))
 
 nones_held : (xs : List Name) → HeldList (none_for_each xs)
 nones_held [] = tt
 nones_held (x ∷ xs) = (tt, nones_held xs)
 
-abbrev AnswersIfAny : Option Method → Type 0
-AnswersIfAny None = Unit {0}
-AnswersIfAny (Some m) = AnswersUtf8 m
-
-answers_if : (h : Bool) (m o : Option Method) → AnswersIfAny m → AnswersIfAny o → AnswersIfAny (if h then m else o)
-answers_if true m o a b = a
-answers_if false m o a b = b
-
-answers_in : (x : Name) (ms : List (Name × Method)) → AllAnswerUtf8 ms → AnswersIfAny (method_in x ms)
+answers_in : (x : Name) (ms : List (Name × Method)) → AllAnswerUtf8 ms → IfFound AnswersUtf8 (method_in x ms)
 answers_in x [] h = tt
-answers_in x (m ∷ ms) h = answers_if (bytes_eq x m.0) (Some m.1) (method_in x ms) h.0 (answers_in x ms h.1)
+answers_in x (m ∷ ms) h = found_if AnswersUtf8 (bytes_eq x m.0) (Some m.1) (method_in x ms) h.0 (answers_in x ms h.1)
 
-row_keeps : {H : Type 0} (p : Place) (x : Name) (o : Option Method) (t : List ℕ) (vs : Arguments) → AnswersIfAny o → IsUtf8 t → HeldArguments vs → Keeps {H = H} HeldValue (row_of p x o t vs)
+row_keeps : {H : Type 0} (p : Place) (x : Name) (o : Option Method) (t : List ℕ) (vs : Arguments) → IfFound AnswersUtf8 o → IsUtf8 t → HeldArguments vs → Keeps {H = H} HeldValue (row_of p x o t vs)
 row_keeps p x None t vs answers u h = keeps_fail kind.KeyMissing p x
 row_keeps p x (Some m) t vs answers u h =
     keeps_then (bound_keeps p (parameters_named m.needed m.optional) (none_for_each m.optional) vs (nones_held m.optional) h) (λ ws k.
@@ -244,10 +220,6 @@ abbrev AllGiveHeld : {H : Type 0} → List (Name × Builtin H) → Type 0
 AllGiveHeld [] = Unit {0}
 AllGiveHeld (b ∷ bs) = GivesHeld b.1 × AllGiveHeld bs
 
-abbrev GivesIfAny : {H : Type 0} → Option (Builtin H) → Type 0
-GivesIfAny None = Unit {0}
-GivesIfAny (Some b) = GivesHeld b
-
 truth_keeps : {H : Type 0} (v : Value) → Keeps {H = H} HeldValue (truth_row v)
 truth_keeps v = keeps_reads (λ store. bool_value (truth_in store v)) (λ store h. tt)
 
@@ -263,15 +235,11 @@ builtins_give = (
   ),
 )
 
-gives_if : {H : Type 0} (h : Bool) (b o : Option (Builtin H)) → GivesIfAny b → GivesIfAny o → GivesIfAny (if h then b else o)
-gives_if true b o g k = g
-gives_if false b o g k = k
-
-gives_in : {H : Type 0} (x : Name) (bs : List (Name × Builtin H)) → AllGiveHeld bs → GivesIfAny (builtin_in x bs)
+gives_in : {H : Type 0} (x : Name) (bs : List (Name × Builtin H)) → AllGiveHeld bs → IfFound GivesHeld (builtin_in x bs)
 gives_in x [] h = tt
-gives_in x (b ∷ bs) h = gives_if (bytes_eq x b.0) (Some b.1) (builtin_in x bs) h.0 (gives_in x bs h.1)
+gives_in x (b ∷ bs) h = found_if GivesHeld (bytes_eq x b.0) (Some b.1) (builtin_in x bs) h.0 (gives_in x bs h.1)
 
-function_keeps : {H : Type 0} (p : Place) (o : Option (Builtin H)) (vs : Arguments) → GivesIfAny o → HeldArguments vs → Keeps HeldValue (row_of_function p o vs)
+function_keeps : {H : Type 0} (p : Place) (o : Option (Builtin H)) (vs : Arguments) → IfFound GivesHeld o → HeldArguments vs → Keeps HeldValue (row_of_function p o vs)
 function_keeps p None vs g h = keeps_fail kind.NotBuilt p []
 function_keeps p (Some b) vs g h = keeps_then (bound_keeps p (parameters_named b.needed b.optional) b.otherwise vs g.0 h) (λ ws k. g.1 p (value_at 0 ws) (nth_held 0 ws k))
 

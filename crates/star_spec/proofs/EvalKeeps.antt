@@ -29,10 +29,6 @@ use Rattle.star_spec.proofs.TextsKeep.{low_utf8}
 pub record CallKeeps {H : Type 0} (call : Call H) : Type 0 where
   pub by : (p : Place) (f : Value) (vs : Arguments) → HeldValue f → HeldArguments vs → Keeps HeldValue (call p f vs)
 
-abbrev pub HeldAny : Option Value → Type 0
-HeldAny None = Unit {0}
-HeldAny (Some v) = HeldValue v
-
 -- ---- members and arguments
 
 and_values_held : (vs : List Value) (rest : Values) → HeldList vs → HeldValues rest → HeldValues (and_values vs rest)
@@ -87,31 +83,27 @@ spread_keeps p _ = keeps_fail kind.ValueKind p []
 
 -- ---- names
 
-unset_keeps : {H : Type 0} (p : Place) (x : Name) (o : Option Value) → HeldAny o → Keeps {H = H} HeldValue (value_or_unset p x o)
+unset_keeps : {H : Type 0} (p : Place) (x : Name) (o : Option Value) → HeldIfAny o → Keeps {H = H} HeldValue (value_or_unset p x o)
 unset_keeps p x None h = keeps_fail kind.NameUnset p x
 unset_keeps p x (Some v) h = keeps_give v h
 
 -- those of the language that are values
-constant_held : (x : Name) → HeldAny (constant x)
+constant_held : (x : Name) → HeldIfAny (constant x)
 constant_held x = one_of (bytes_eq x (codes "None")) (bytes_eq x (codes "True")) (bytes_eq x (codes "False"))
   where
-    one_of : (a b c : Bool) → HeldAny (if a then Some none_value else if b then Some (bool_value true) else if c then Some (bool_value false) else None)
+    one_of : (a b c : Bool) → HeldIfAny (if a then Some none_value else if b then Some (bool_value true) else if c then Some (bool_value false) else None)
     one_of true b c = tt
     one_of false true c = tt
     one_of false false true = tt
     one_of false false false = tt
 
-unbound_keeps : {H : Type 0} (p : Place) (x : Name) (o : Option Value) → HeldAny o → Keeps {H = H} HeldValue (unbound p x o)
+unbound_keeps : {H : Type 0} (p : Place) (x : Name) (o : Option Value) → HeldIfAny o → Keeps {H = H} HeldValue (unbound p x o)
 unbound_keeps p x None h = keeps_if (is_among x own_functions) (λ e. keeps_give (native_value (builtin x)) (among_utf8 x own_functions refl e)) (λ e. keeps_fail kind.NameUnknown p x)
 unbound_keeps p x (Some v) h = keeps_give v h
 
 pub read_keeps : {H : Type 0} (p : Place) (x : Name) (o : Option ℕ) → Keeps {H = H} HeldValue (read_name p x o)
 read_keeps p x None = unbound_keeps p x (constant x) (constant_held x)
-read_keeps p x (Some r) = keeps_then (keeps_reads {P = HeldIfAny} (box_at r) (λ store h. box_held (object_at r store) (object_held store r h))) (λ o h. unset_keeps p x o (any_held o h))
-  where
-    any_held : (o : Option Value) → HeldIfAny o → HeldAny o
-    any_held None h = tt
-    any_held (Some v) h = h
+read_keeps p x (Some r) = keeps_then (keeps_reads {P = HeldIfAny} (box_at r) (λ store h. box_held (object_at r store) (object_held store r h))) (λ o h. unset_keeps p x o h)
 
 pub fill_keeps : {H : Type 0} (r : ℕ) (v : Value) → HeldValue v → Keeps {H = H} Anything (fill_box r v)
 fill_keeps r v h = record { by = λ s held. (tt, change_held (with_contents (of_box (Some v))) r s.store (λ x k. h) held) }
@@ -215,7 +207,7 @@ module _ {H : Type 0} (call : Call H) (calls : CallKeeps call) where
     arguments_keep (an_expr (code.double_starred p e) es) env h = keeps_then (eval_keeps e env h.0) (λ v k. keeps_then (spread_keeps p v) (λ fs i. keeps_then (arguments_keep es env h.1) (λ rest g. keeps_give _ (with_fields_held fs rest i g))))
     arguments_keep (an_expr e es) env h = keeps_then (eval_keeps e env h.0) (λ v k. keeps_then (arguments_keep es env h.1) (λ rest g. keeps_give _ (with_values_held (v ∷ []) rest (k, tt) g)))
 
-    optional_keeps : (o : OptionalExpr) (env : Env) → HeldOptional o → Keeps HeldAny (eval_optional call o env)
+    optional_keeps : (o : OptionalExpr) (env : Env) → HeldOptional o → Keeps HeldIfAny (eval_optional call o env)
     optional_keeps absent env h = keeps_give None tt
     optional_keeps (present e) env h = keeps_then (eval_keeps e env h) (λ v k. keeps_give (Some v) k)
 

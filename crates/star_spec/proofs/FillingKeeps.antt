@@ -1,5 +1,5 @@
 -- What `%` and `format` make of a text in UTF-8 is in UTF-8, where the program holds the values that it is filled with.
-use Rattle.std.proofs.Common.{◌≡◌, ℤ, pos, negsuc, ℕ, zero, suc, ◌≤◌, ◌<◌, nat_le, ◌==◌, Bool, true, false, ◌&&◌, ◌||◌, not, if◌then◌else◌, List, [], ◌∷◌, ◌++◌, length, slice_get, Option, Some, None, IsUtf8, refl, sym, ap, subst, arith, ◌∙◌}
+use Rattle.std.proofs.Common.{◌≡◌, ℤ, pos, negsuc, ℕ, suc, ◌≤◌, ◌<◌, nat_le, ◌==◌, Bool, true, false, ◌&&◌, ◌||◌, not, if◌then◌else◌, List, [], ◌∷◌, ◌++◌, length, slice_get, Option, Some, None, IsUtf8, refl, sym, ap, subst, arith, ◌∙◌}
 use Rattle.std.proofs.lemmas.Bool.{eqb-true}
 use Rattle.std.proofs.lemmas.Bool.Decides.{nat_tests}
 use Rattle.std.proofs.lemmas.Str.{IsUtf8-append, IsUtf8-nil}
@@ -15,8 +15,9 @@ use Rattle.value_spec.specs.Values.{Value, int_value, text_value, tuple_value, V
 use Rattle.index_spec.specs.KeyTexts.{integer_text}
 use Rattle.text_spec.proofs.Characters.{AreInner, IsHigh, each_character}
 use Rattle.text_spec.proofs.Filling.{AllPass, is_no_brace, is_plain, one_filled, one_formatted}
-use Rattle.star_spec.proofs.BindingsKeep.{HeldOne, field_held}
-use Rattle.star_spec.proofs.Keeping.{Keeps, Anything, keeps_then, keeps_give, keeps_fail, keeps_need, keeps_paid, keeps_if, keeps_reads, keeps_weaker}
+use Rattle.star_spec.proofs.BindingsKeep.{field_held}
+use Rattle.star_spec.proofs.IndexKeeps.{member_held}
+use Rattle.star_spec.proofs.Keeping.{IfFound, Keeps, Anything, keeps_then, keeps_give, keeps_fail, keeps_need, keeps_paid, keeps_if, keeps_reads, keeps_weaker}
 use Rattle.star_spec.proofs.MembersHeld.{in_values}
 use Rattle.star_spec.proofs.TextsKeep.{byte_utf8, digits_utf8, integer_utf8, repr_keeps, str_keeps}
 
@@ -185,14 +186,9 @@ FirstUtf8 r = IsUtf8 r.0
 abbrev FirstHeld : Value × Met → Type 0
 FirstHeld r = HeldValue r.0
 
-found_keeps : {H : Type 0} (otherwise : Computation H (Value × Met)) (o : Option Value) (met : Met) → HeldOne o → Keeps FirstHeld otherwise → Keeps FirstHeld (found otherwise o met)
+found_keeps : {H : Type 0} (otherwise : Computation H (Value × Met)) (o : Option Value) (met : Met) → IfFound HeldValue o → Keeps FirstHeld otherwise → Keeps FirstHeld (found otherwise o met)
 found_keeps otherwise None met h k = k
 found_keeps otherwise (Some v) met h k = keeps_give (v, met) h
-
-nth_held : (vs : List Value) (n : ℕ) → HeldList vs → HeldOne (slice_get vs n)
-nth_held [] n h = tt
-nth_held (v ∷ vs) zero h = h.0
-nth_held (v ∷ vs) (suc n) h = nth_held vs n h.1
 
 -- a text is cut at the first such byte
 cut_is : (x : ℕ) (t : List ℕ) (q : List ℕ × List ℕ) → cut_at x t ≡ Some q → t ≡ q.0 ++ x ∷ q.1
@@ -214,7 +210,7 @@ needed p false = keeps_fail kind.ValueKind p []
 
 module _ (H : Type 0) (p : Place) (vs : Values) (fs : Fields) (values : HeldValues vs) (fields : HeldFields fs) where
   place_keeps : (n : ℕ) (met : Met) → Keeps {H = H} FirstHeld (at_place p n met (values_in vs))
-  place_keeps n met = found_keeps (fail kind.IndexRange p) (slice_get (values_in vs) n) met (nth_held (values_in vs) n (in_values vs values)) (keeps_fail kind.IndexRange p [])
+  place_keeps n met = found_keeps (fail kind.IndexRange p) (slice_get (values_in vs) n) met (member_held (values_in vs) n (in_values vs values)) (keeps_fail kind.IndexRange p [])
 
   argument_keeps : (met : Met) (w : Which) → Keeps {H = H} FirstHeld (argument_for p vs fs met w)
   argument_keeps none_met next_one = place_keeps 0 (by_turn 1)

@@ -22,31 +22,17 @@ use Rattle.value_spec.specs.Store.{list_of_contents, pairs_of_contents, first_of
 use Rattle.value_spec.specs.Values.{Value, text_value, tuple_value, range_value, struct_value, fragment_value, list_value, dict_value, values_in, Fields, no_fields, a_field, child, Children, no_children, a_child, Body, Contents, of_list, of_dict, of_box, of_function, Object}
 use Rattle.star_spec.proofs.CutsHeld.{cut_keeps, bytes_keep}
 use Rattle.star_spec.proofs.FreshKeeps.{BothHeld, body_value_keeps}
-use Rattle.star_spec.proofs.Keeping.{Keeps, Anything, keeps_then, keeps_give, keeps_fail, keeps_or_fail, keeps_need, keeps_paid, IfDid, ObjectHeld, did_unlocked, keeps_at_object, may_change_keeps}
+use Rattle.star_spec.proofs.Keeping.{IfFound, found_if, found_one, Keeps, Anything, keeps_then, keeps_give, keeps_fail, keeps_or_fail, keeps_need, keeps_paid, IfDid, ObjectHeld, did_unlocked, keeps_at_object, may_change_keeps}
 use Rattle.star_spec.proofs.MembersHeld.{in_values, from_values, list_keeps, pairs_keep, put_pair_held, new_list_keeps}
 use Rattle.star_spec.proofs.RowsHeld.{keeps_one, measured_keeps}
-
--- ---- what is found, if anything is
-
-abbrev IfFound : {A : Type 0} → (A → Type 0) → Option A → Type 0
-IfFound P None = Unit {0}
-IfFound P (Some a) = P a
-
-found_one : {A : Type 0} (P : A → Type 0) (o : Option A) (a : A) → IfFound P o → o ≡ Some a → P a
-found_one P None a h e = cc
-found_one P (Some b) a h e = let same : b ≡ a = cc in subst P same h
 
 found_there : {A B : Type 0} (P : B → Type 0) (f : A → Option B) (o : Option A) → ((a : A) → IfFound P (f a)) → IfFound P (option_and_then f o)
 found_there P f None h = tt
 found_there P f (Some a) h = h a
 
-one_or_other : {A : Type 0} (P : A → Type 0) (b : Bool) (a : A) (o : Option A) → P a → IfFound P o → IfFound P (if b then Some a else o)
-one_or_other P true a o h k = h
-one_or_other P false a o h k = k
-
 -- ---- members
 
-member_held : (vs : List Value) (i : ℕ) → HeldList vs → IfFound HeldValue (slice_get vs i)
+pub member_held : (vs : List Value) (i : ℕ) → HeldList vs → IfFound HeldValue (slice_get vs i)
 member_held [] i h = tt
 member_held (v ∷ vs) zero h = h.0
 member_held (v ∷ vs) (suc i) h = member_held vs i h.1
@@ -138,7 +124,7 @@ field_keeps p fs k h =
 
 under_held : (x : Scalar) (cs : Children) → HeldChildren cs → IfFound HeldBody (body_under x cs)
 under_held x no_children h = tt
-under_held x (a_child (child q ns y b) cs) h = one_or_other HeldBody (has_key x y) b (body_under x cs) h.0.1 (under_held x cs h.1)
+under_held x (a_child (child q ns y b) cs) h = found_if HeldBody (has_key x y) (Some b) (body_under x cs) h.0.1 (under_held x cs h.1)
 
 body_at_held : (n : ℕ) (cs : Children) → HeldChildren cs → IfFound HeldBody (body_at n cs)
 body_at_held n no_children h = tt

@@ -1,6 +1,6 @@
 -- Computations that keep what the program holds: where the store holds such values, what one gives is such, and so is
 -- the store that it leaves, whichever way it ends.
-use Rattle.std.proofs.Common.{◌≡◌, ℕ, zero, suc, nat_le, ◌==◌, Bool, true, false, if◌then◌else◌, List, [], ◌∷◌, ◌++◌, take, drop, map, slice_set, Option, Some, None, IsUtf8, refl}
+use Rattle.std.proofs.Common.{◌≡◌, ℕ, zero, suc, nat_le, ◌==◌, Bool, true, false, if◌then◌else◌, List, [], ◌∷◌, ◌++◌, take, drop, map, slice_set, Option, Some, None, IsUtf8, refl, subst}
 use Rattle.ytt_base.specs.declared.fault.FaultKind.{FaultKind}
 use Rattle.ytt_base.specs.declared.fault.FaultKind.TheVariants as kind
 use Rattle.ytt_base.specs.declared.fault.Place.{Place}
@@ -19,6 +19,20 @@ pub record Keeps {H A : Type 0} (P : A → Type 0) (m : Computation H A) : Type 
 
 abbrev pub Anything : {A : Type 0} → A → Type 0
 Anything a = Unit {0}
+
+-- ---- what is found, if anything is
+
+abbrev pub IfFound : {A : Type 0} → (A → Type 0) → Option A → Type 0
+IfFound P None = Unit {0}
+IfFound P (Some a) = P a
+
+pub found_one : {A : Type 0} (P : A → Type 0) (o : Option A) (a : A) → IfFound P o → o ≡ Some a → P a
+found_one P None a h e = cc
+found_one P (Some b) a h e = let same : b ≡ a = cc in subst P same h
+
+pub found_if : {A : Type 0} (P : A → Type 0) (b : Bool) (o q : Option A) → IfFound P o → IfFound P q → IfFound P (if b then o else q)
+found_if P true o q h k = h
+found_if P false o q h k = k
 
 -- ---- computations
 

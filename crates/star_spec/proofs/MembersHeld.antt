@@ -9,7 +9,7 @@ use Rattle.value_spec.specs.Members.{keys_in, members_in}
 use Rattle.value_spec.specs.Outcomes.{or_fail, ◌>>=◌, reads, new_list, new_dict, acting}
 use Rattle.value_spec.specs.Store.{list_of_contents, with_list, extend_members, object_at, list_at, pairs_at, with_value, with_pair, put_pair, put_pairs, list_extend}
 use Rattle.value_spec.specs.Values.{Value, int_value, tuple_value, range_value, list_value, dict_value, Values, no_values, a_value, values_in, values_from, Contents, of_list, of_dict, of_box, of_function, Store}
-use Rattle.star_spec.proofs.Keeping.{Keeps, Anything, keeps_then, keeps_give, keeps_or_fail, keeps_reads, keeps_new_object, object_held, list_held, pairs_held, keeps_at_object, did_unlocked}
+use Rattle.star_spec.proofs.Keeping.{IfFound, found_one, Keeps, Anything, keeps_then, keeps_give, keeps_or_fail, keeps_reads, keeps_new_object, object_held, list_held, pairs_held, keeps_at_object, did_unlocked}
 
 -- ---- lists of values
 
@@ -33,23 +33,15 @@ keys_held : (ps : List (Value × Value)) → HeldPairs ps → HeldList (keys_in 
 keys_held [] h = tt
 keys_held (p ∷ ps) h = (h.0, keys_held ps h.3)
 
-abbrev pub HeldMembers : Option (List Value) → Type 0
-HeldMembers None = Unit {0}
-HeldMembers (Some vs) = HeldList vs
-
-pub members_held : (store : Store) (v : Value) → HeldStore store → HeldValue v → HeldMembers (members_in store v)
+pub members_held : (store : Store) (v : Value) → HeldStore store → HeldValue v → IfFound HeldList (members_in store v)
 members_held store (tuple_value vs) h k = in_values vs k
 members_held store (list_value r) h k = list_held (object_at r store) (object_held store r h)
 members_held store (dict_value r) h k = keys_held (pairs_at r store) (pairs_held (object_at r store) (object_held store r h))
 members_held store (range_value a b d) h k = numbers_held _ k
 members_held store _ h k = tt
 
-members_found : (o : Option (List Value)) (vs : List Value) → HeldMembers o → o ≡ Some vs → HeldList vs
-members_found None vs h e = cc
-members_found (Some ws) vs h e = let same : ws ≡ vs = cc in rw (← same) h
-
 pub members_keep : {H : Type 0} (p : Place) (v : Value) → HeldValue v → Keeps {H = H} HeldList (reads (λ store. members_in store v) >>= or_fail kind.ValueKind p)
-members_keep p v h = keeps_then (keeps_reads {P = HeldMembers} (λ store. members_in store v) (λ store k. members_held store v k h)) (λ o k. keeps_or_fail kind.ValueKind p o (λ vs e. members_found o vs k e))
+members_keep p v h = keeps_then (keeps_reads {P = IfFound HeldList} (λ store. members_in store v) (λ store k. members_held store v k h)) (λ o k. keeps_or_fail kind.ValueKind p o (λ vs e. found_one HeldList o vs k e))
 
 pub list_keeps : {H : Type 0} (r : ℕ) → Keeps {H = H} HeldList (reads (list_at r))
 list_keeps r = keeps_reads (list_at r) (λ store h. list_held (object_at r store) (object_held store r h))
