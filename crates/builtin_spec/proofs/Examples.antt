@@ -4,14 +4,14 @@ use Rattle.std.specs.Fmt.{digits}
 use Rattle.ytt_base.specs.declared.fault.FaultKind.TheVariants as kind
 use Rattle.ytt_base.specs.declared.fault.Fault.{Fault}
 use Rattle.ytt_base.specs.Outcomes.{fault_at, first_place}
-use Rattle.code_spec.specs.Code.{Name, remainder, addition}
+use Rattle.code_spec.specs.Code.{Name, remainder}
 use Rattle.builtin_spec.specs.Attributes.{attribute_row}
 use Rattle.builtin_spec.specs.Calls.{own_row}
 use Rattle.builtin_spec.specs.Operators.{operator_row}
 use Rattle.operator_spec.specs.Operators.{tuple_of}
-use Rattle.value_spec.specs.Outcomes.{State, done, bad, Computation, fail_with}
-use Rattle.value_spec.specs.Store.{with_object}
-use Rattle.value_spec.specs.Values.{Value, none_value, bool_value, int_value, text_value, range_value, list_value, dict_value, native_value, builtin, method, values_from, Fields, no_fields, a_field, arguments, Store, of_list, of_dict, struct_value}
+use Rattle.value_spec.specs.Outcomes.{State, done, bad, Computation}
+use Rattle.value_spec.specs.Store.{object, with_object}
+use Rattle.value_spec.specs.Values.{Value, none_value, bool_value, int_value, text_value, range_value, list_value, dict_value, native_value, builtin, method, values_from, no_fields, a_field, arguments, Store, of_list, of_dict, struct_value}
 
 abbrev at : ℕ → Store → State (Unit {0})
 at n store = record { store = store; steps = n; host = tt }
@@ -100,3 +100,148 @@ filled_text = refl
 
 remainder_of_integers : gives 0 (operator_row first_place remainder (int 7) (int 3)) (int 1)
 remainder_of_integers = refl
+
+-- ---- members
+
+-- the objects 0 and 1: a list of 1 and "ab", and a dict of "a" and 1
+abbrev two_objects : Store
+two_objects = object (of_list (int 1 ∷ word (codes "ab") ∷ [])) ∷ object (of_dict ((word (codes "a"), int 1) ∷ [])) ∷ []
+
+-- of the list and of the dict
+abbrev of_list_0 : Name → List Value → Computation (Unit {0}) Value
+of_list_0 x vs = own_row first_place (native_value (method x (list_value 0))) (arguments (values_from vs) no_fields)
+
+abbrev of_dict_1 : Name → List Value → Computation (Unit {0}) Value
+of_dict_1 x vs = own_row first_place (native_value (method x (dict_value 1))) (arguments (values_from vs) no_fields)
+
+-- with these objects and so many steps, which are all taken; these objects are left
+abbrev turns : ℕ → Computation (Unit {0}) Value → Value → Store → Type 0
+turns n m v store = m (at n two_objects) ≡ done v (at 0 store)
+
+abbrev keeps : ℕ → Computation (Unit {0}) Value → Value → Type 0
+keeps n m v = turns n m v two_objects
+
+abbrev with_list : List Value → Store
+with_list vs = object (of_list vs) ∷ object (of_dict ((word (codes "a"), int 1) ∷ [])) ∷ []
+
+abbrev with_dict : List (Value × Value) → Store
+with_dict ps = object (of_list (int 1 ∷ word (codes "ab") ∷ [])) ∷ object (of_dict ps) ∷ []
+
+abbrev refused : ℕ → Computation (Unit {0}) Value → Fault → Type 0
+refused n m f = m (at n two_objects) ≡ bad f (at 0 two_objects)
+
+appended : turns 0 (of_list_0 (codes "append") (int 2 ∷ [])) none_value (with_list (int 1 ∷ word (codes "ab") ∷ int 2 ∷ []))
+appended = refl
+
+cleared : turns 2 (of_list_0 (codes "clear") []) none_value (with_list [])
+cleared = refl
+
+extended : turns 4 (of_list_0 (codes "extend") (list_value 0 ∷ [])) none_value (with_list (int 1 ∷ word (codes "ab") ∷ int 1 ∷ word (codes "ab") ∷ []))
+extended = refl
+
+place_found : keeps 2 (of_list_0 (codes "index") (word (codes "ab") ∷ [])) (int 1)
+place_found = refl
+
+no_place : refused 2 (of_list_0 (codes "index") (int 7 ∷ [])) (fault_at kind.KeyMissing first_place)
+no_place = refl
+
+not_before : refused 1 (of_list_0 (codes "index") (int 1 ∷ int 1 ∷ [])) (fault_at kind.KeyMissing first_place)
+not_before = refl
+
+inserted : turns 2 (of_list_0 (codes "insert") (int 0 ∷ int 5 ∷ [])) none_value (with_list (int 5 ∷ int 1 ∷ word (codes "ab") ∷ []))
+inserted = refl
+
+inserted_behind_all : turns 2 (of_list_0 (codes "insert") (int 9 ∷ int 5 ∷ [])) none_value (with_list (int 1 ∷ word (codes "ab") ∷ int 5 ∷ []))
+inserted_behind_all = refl
+
+last_popped : turns 0 (of_list_0 (codes "pop") []) (word (codes "ab")) (with_list (int 1 ∷ []))
+last_popped = refl
+
+first_popped : turns 2 (of_list_0 (codes "pop") (int 0 ∷ [])) (int 1) (with_list (word (codes "ab") ∷ []))
+first_popped = refl
+
+none_to_pop : refused 0 (of_list_0 (codes "pop") (int 2 ∷ [])) (fault_at kind.IndexRange first_place)
+none_to_pop = refl
+
+no_integer : refused 0 (of_list_0 (codes "pop") (none_value ∷ [])) (fault_at kind.ValueKind first_place)
+no_integer = refl
+
+removed : turns 2 (of_list_0 (codes "remove") (word (codes "ab") ∷ [])) none_value (with_list (int 1 ∷ []))
+removed = refl
+
+got : keeps 0 (of_dict_1 (codes "get") (word (codes "a") ∷ [])) (int 1)
+got = refl
+
+got_another : keeps 0 (of_dict_1 (codes "get") (word (codes "b") ∷ int 5 ∷ [])) (int 5)
+got_another = refl
+
+no_key : refused 0 (of_dict_1 (codes "get") (list_value 0 ∷ [])) (fault_at kind.ValueKind first_place)
+no_key = refl
+
+listed_items : of_dict_1 (codes "items") [] (at 2 two_objects) ≡ done (list_value 2) (at 0 (with_object (of_list (tuple_of (word (codes "a") ∷ int 1 ∷ []) ∷ [])) two_objects))
+listed_items = refl
+
+listed_keys : of_dict_1 (codes "keys") [] (at 2 two_objects) ≡ done (list_value 2) (at 0 (with_object (of_list (word (codes "a") ∷ [])) two_objects))
+listed_keys = refl
+
+key_popped : turns 0 (of_dict_1 (codes "pop") (word (codes "a") ∷ [])) (int 1) (with_dict [])
+key_popped = refl
+
+another_popped : keeps 0 (of_dict_1 (codes "pop") (word (codes "b") ∷ none_value ∷ [])) none_value
+another_popped = refl
+
+no_key_to_pop : refused 0 (of_dict_1 (codes "pop") (word (codes "b") ∷ [])) (record (fault_at kind.KeyMissing first_place) { detail = codes "\"b\"" })
+no_key_to_pop = refl
+
+item_popped : turns 0 (of_dict_1 (codes "popitem") []) (tuple_of (word (codes "a") ∷ int 1 ∷ [])) (with_dict [])
+item_popped = refl
+
+default_set : turns 0 (of_dict_1 (codes "setdefault") (word (codes "b") ∷ int 2 ∷ [])) (int 2) (with_dict ((word (codes "a"), int 1) ∷ (word (codes "b"), int 2) ∷ []))
+default_set = refl
+
+default_left : keeps 0 (of_dict_1 (codes "setdefault") (word (codes "a") ∷ int 2 ∷ [])) (int 1)
+default_left = refl
+
+-- ---- more functions
+
+nothing_listed : call (codes "list") [] (at 0 []) ≡ done (list_value 0) (at 0 (with_object (of_list []) []))
+nothing_listed = refl
+
+none_listed : refuses (call (codes "list") (none_value ∷ [])) (fault_at kind.ValueKind first_place)
+none_listed = refl
+
+made_tuple : gives 4 (call (codes "tuple") (tuple_of (int 1 ∷ int 2 ∷ []) ∷ [])) (tuple_of (int 1 ∷ int 2 ∷ []))
+made_tuple = refl
+
+turned_round : call (codes "reversed") (tuple_of (int 1 ∷ int 2 ∷ []) ∷ []) (at 4 []) ≡ done (list_value 0) (at 0 (with_object (of_list (int 2 ∷ int 1 ∷ [])) []))
+turned_round = refl
+
+some_is_true : gives 2 (call (codes "any") (tuple_of (int 0 ∷ int 2 ∷ []) ∷ [])) (bool_value true)
+some_is_true = refl
+
+not_all_are_true : gives 2 (call (codes "all") (tuple_of (int 0 ∷ int 2 ∷ []) ∷ [])) (bool_value false)
+not_all_are_true = refl
+
+without_sign : gives 0 (call (codes "abs") (int_value (negsuc 4) ∷ [])) (int 5)
+without_sign = refl
+
+numbers_to : gives 0 (call (codes "range") (int 3 ∷ [])) (range_value (pos 0) (pos 3) (pos 1))
+numbers_to = refl
+
+no_step : refuses (call (codes "range") (int 0 ∷ int 3 ∷ int 0 ∷ [])) (fault_at kind.ValueKind first_place)
+no_step = refl
+
+no_bounds : refuses (call (codes "range") []) (fault_at kind.ArgBind first_place)
+no_bounds = refl
+
+has_upper : gives 0 (call (codes "hasattr") (word (codes "a") ∷ word (codes "upper") ∷ [])) (bool_value true)
+has_upper = refl
+
+has_no_title : gives 0 (call (codes "hasattr") (word (codes "a") ∷ word (codes "title") ∷ [])) (bool_value false)
+has_no_title = refl
+
+otherwise : gives 0 (call (codes "getattr") (word (codes "a") ∷ word (codes "title") ∷ int 1 ∷ [])) (int 1)
+otherwise = refl
+
+no_attribute : refuses (call (codes "getattr") (word (codes "a") ∷ word (codes "title") ∷ [])) (record (fault_at kind.KeyMissing first_place) { detail = codes "title" })
+no_attribute = refl

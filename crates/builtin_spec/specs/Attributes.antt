@@ -1,10 +1,12 @@
 -- The attributes of values: the fields of structs and modules, and methods, which are functions of the language that hold what they
 -- are of.
-use Rattle.std.specs.Prelude.{Bool, true, false, ◌||◌, List, [], ◌∷◌, Option, Some, None, bytes_eq, codes, is_some, if◌then◌else◌}
+use Rattle.std.specs.Prelude.{Bool, ◌||◌, Option, Some, None, bytes_eq, codes, is_some, if◌then◌else◌}
 use Rattle.ytt_base.specs.declared.fault.FaultKind.TheVariants as kind
 use Rattle.ytt_base.specs.declared.fault.Place.{Place}
 use Rattle.code_spec.specs.Code.{Name}
-use Rattle.code_spec.specs.Names.{is_among}
+use Rattle.builtin_spec.specs.Binding.{own_in}
+use Rattle.builtin_spec.specs.Dicts.{dict_methods}
+use Rattle.builtin_spec.specs.Lists.{list_methods}
 use Rattle.text_spec.specs.Methods.{method_in, text_methods}
 use Rattle.value_spec.specs.Binding.{field_of}
 use Rattle.value_spec.specs.Outcomes.{Computation, fail_with, give}
@@ -15,13 +17,12 @@ use Rattle.value_spec.specs.Values.{Value, text_value, struct_value, list_value,
 abbrev pub is_text_method : Name → Bool
 is_text_method x = bytes_eq x (codes "format") || is_some (method_in x text_methods)
 
-abbrev pub list_methods : List Name
-list_methods = codes "append" ∷ codes "clear" ∷ codes "extend" ∷ codes "index" ∷ codes "insert" ∷ codes "pop" ∷ codes "remove" ∷ []
+-- a method that a list has, and one that a dict has: the table is the same for each
+abbrev pub is_list_method : Name → Bool
+is_list_method x = is_some (own_in {H = Unit {0}} x (list_methods 0))
 
-abbrev pub dict_methods : List Name
-dict_methods =
-    codes "clear" ∷ codes "get" ∷ codes "items" ∷ codes "keys" ∷ codes "pop" ∷ codes "popitem" ∷ codes "setdefault" ∷ codes "update"
-    ∷ codes "values" ∷ []
+abbrev pub is_dict_method : Name → Bool
+is_dict_method x = is_some (own_in {H = Unit {0}} x (dict_methods 0)) || bytes_eq x (codes "update")
 
 -- ---- attributes
 
@@ -33,8 +34,8 @@ abbrev pub attribute_of : Value → Name → Option Value
 attribute_of (struct_value fs) x = field_of x fs
 attribute_of (module_value m fs) x = field_of x fs
 attribute_of (text_value t) x = method_if (is_text_method x) x (text_value t)
-attribute_of (list_value r) x = method_if (is_among x list_methods) x (list_value r)
-attribute_of (dict_value r) x = method_if (is_among x dict_methods) x (dict_value r)
+attribute_of (list_value r) x = method_if (is_list_method x) x (list_value r)
+attribute_of (dict_value r) x = method_if (is_dict_method x) x (dict_value r)
 attribute_of _ x = None
 
 -- an attribute, or KeyMissing with its name

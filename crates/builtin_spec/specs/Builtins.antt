@@ -1,15 +1,17 @@
 -- The language's own functions.
-use Rattle.std.specs.Prelude.{ℕ, ◌*◌, ℤ, pos, negsuc, suc, Bool, true, false, ◌&&◌, ◌||◌, List, [], ◌∷◌, length, reverse, Option, Some, None, bytes_eq, codes, is_some, if◌then◌else◌}
+use Rattle.std.specs.Prelude.{ℕ, ◌*◌, ℤ, pos, neg_ℤ, nat_le, Bool, true, false, ◌&&◌, ◌||◌, List, [], ◌∷◌, length, reverse, Option, Some, None, codes, is_some, if◌then◌else◌}
 use Rattle.ytt_base.specs.declared.fault.FaultKind.TheVariants as kind
 use Rattle.ytt_base.specs.declared.fault.Place.{Place}
+use Rattle.builtin_spec.specs.Attributes.{attribute_of, or_missing}
+use Rattle.builtin_spec.specs.Binding.{Own, is_given, own_in, taking}
 use Rattle.code_spec.specs.Code.{Name}
 use Rattle.operator_spec.specs.Operators.{int_of, tuple_of}
 use Rattle.text_spec.specs.Shown.{repr_of, str_of}
 use Rattle.text_spec.specs.Signatures.{value_at}
-use Rattle.value_spec.specs.Binding.{bound_values, parameters_named}
-use Rattle.value_spec.specs.Members.{count_in, members_in, truth_in}
+use Rattle.value_spec.specs.Members.{as_int, as_text, count_in, members_in, truth_in}
+use Rattle.value_spec.specs.Numbers.{is_negative, is_zero}
 use Rattle.value_spec.specs.Outcomes.{Computation, fail, fail_with, give, need, new_list, not_built, or_fail, paid_by, reads, ◌>>=◌}
-use Rattle.value_spec.specs.Values.{Value, none_value, bool_value, int_value, text_value, tuple_value, range_value, struct_value, fragment_value, list_value, dict_value, function_value, module_value, native_value, Values, no_values, Arguments, Store}
+use Rattle.value_spec.specs.Values.{Value, none_value, bool_value, int_value, text_value, tuple_value, range_value, struct_value, fragment_value, list_value, dict_value, function_value, module_value, native_value, values_in, Fields, no_fields, a_field, Arguments, arguments, Store}
 
 -- ---- of one value
 
@@ -46,44 +48,119 @@ truth_row v = reads (λ store. bool_value (truth_in store v))
 abbrev pub failure_row : {H : Type 0} → Place → Value → Computation H Value
 failure_row p v = str_of p v >>= λ t. fail_with kind.Failed p t
 
+-- ---- members
+
+abbrev pub members_or_none : Option (List Value) → List Value
+members_or_none None = []
+members_or_none (Some vs) = vs
+
+-- the members of a value, after so many times their number of steps; ValueKind where it has none to have
+abbrev pub members_paid : {H : Type 0} → (times : ℕ) → Place → Value → Computation H (List Value)
+members_paid n p v = do
+  u ← reads (λ store. is_some (members_in store v)) >>= need kind.ValueKind p
+  k ← reads (λ store. count_in store v)
+  paid_by (n * k) p (reads (λ store. members_or_none (members_in store v)))
+
+abbrev pub list_row : {H : Type 0} → Place → Value → Computation H Value
+list_row p v = members_paid 2 p v >>= new_list
+
+abbrev pub tuple_row : {H : Type 0} → Place → Value → Computation H Value
+tuple_row p v = members_paid 2 p v >>= λ vs. give (tuple_of vs)
+
+abbrev pub reversed_row : {H : Type 0} → Place → Value → Computation H Value
+reversed_row p v = members_paid 2 p v >>= λ vs. new_list (reverse vs)
+
+abbrev pub some_true : Store → List Value → Bool
+some_true store [] = false
+some_true store (v ∷ vs) = truth_in store v || some_true store vs
+
+abbrev pub all_true : Store → List Value → Bool
+all_true store [] = true
+all_true store (v ∷ vs) = truth_in store v && all_true store vs
+
+abbrev pub test_row : {H : Type 0} → (Store → List Value → Bool) → Place → Value → Computation H Value
+test_row test p v = members_paid 1 p v >>= λ vs. reads (λ store. bool_value (test store vs))
+
+-- ---- numbers
+
+abbrev pub absolute_row : {H : Type 0} → Place → Value → Computation H Value
+absolute_row p v = or_fail kind.ValueKind p (as_int v) >>= λ z. int_of p (if is_negative z then neg_ℤ z else z)
+
+abbrev pub range_by : {H : Type 0} → Place → (start stop step : ℤ) → Computation H Value
+range_by p a b d = if is_zero d then fail kind.ValueKind p else give (range_value a b d)
+
+-- its bounds and its step, by their number
+abbrev pub range_from : {H : Type 0} → Place → List ℤ → Computation H Value
+range_from p (b ∷ []) = range_by p (pos 0) b (pos 1)
+range_from p (a ∷ b ∷ []) = range_by p a b (pos 1)
+range_from p (a ∷ b ∷ d ∷ []) = range_by p a b d
+range_from p _ = fail kind.ArgBind p
+
+abbrev pub integer_in_front : Option ℤ → Option (List ℤ) → Option (List ℤ)
+integer_in_front (Some z) (Some zs) = Some (z ∷ zs)
+integer_in_front _ _ = None
+
+-- the integers that these are, if each is one
+abbrev pub all_integers : List Value → Option (List ℤ)
+all_integers [] = Some []
+all_integers (v ∷ vs) = integer_in_front (as_int v) (all_integers vs)
+
+-- one to three, and none by name
+abbrev pub range_arguments : List Value → Fields → Bool
+range_arguments vs no_fields = nat_le 1 (length vs) && nat_le (length vs) 3
+range_arguments vs (a_field x v fs) = false
+
+abbrev pub range_row : {H : Type 0} → Own H
+range_row p (arguments vs fs) = do
+  u ← need kind.ArgBind p (range_arguments (values_in vs) fs)
+  zs ← or_fail kind.ValueKind p (all_integers (values_in vs))
+  range_from p zs
+
+-- ---- attributes
+
+-- the text that a name is, or ValueKind
+abbrev pub name_then : {H : Type 0} → Place → Value → (Name → Computation H Value) → Computation H Value
+name_then p v f = or_fail kind.ValueKind p (as_text v) >>= f
+
+abbrev pub has_attribute_row : {H : Type 0} → Place → (of name : Value) → Computation H Value
+has_attribute_row p v x = name_then p x (λ t. give (bool_value (is_some (attribute_of v t))))
+
+-- an attribute, or another value where there is none and one is given
+abbrev pub attribute_or : {H : Type 0} → Place → Name → (given : Bool) → (otherwise : Value) → Option Value → Computation H Value
+attribute_or p x given d (Some v) = give v
+attribute_or p x true d None = give d
+attribute_or p x false d None = or_missing p x None
+
+abbrev pub get_attribute_row : {H : Type 0} → Place → (of name : Value) → (given : Bool) → (otherwise : Value) → Computation H Value
+get_attribute_row p v x given d = name_then p x (λ t. attribute_or p t given d (attribute_of v t))
+
 -- ---- the table
 
--- what a function takes: the names of what must be given, and of what may be, which is this where it isn't; and what it gives
-pub record Builtin (H : Type 0) : Type 0 where
-  pub needed : List Name
-  pub optional : List Name
-  pub otherwise : List Value
-  pub gives : Place → Value → Computation H Value
-
 -- of one value
-abbrev pub of_one : {H : Type 0} → (Place → Value → Computation H Value) → Builtin H
-of_one f = record { needed = codes "x" ∷ []; optional = []; otherwise = []; gives = f }
-
--- of one value, which is this where none is given
-abbrev pub of_one_or : {H : Type 0} → Value → (Place → Value → Computation H Value) → Builtin H
-of_one_or v f = record { needed = []; optional = codes "x" ∷ []; otherwise = v ∷ []; gives = f }
+abbrev pub of_one : {H : Type 0} → (Place → Value → Computation H Value) → Own H
+of_one f = taking (codes "x" ∷ []) [] (λ p vs. f p (value_at 0 vs))
 
 -- those that are built so far
-abbrev pub builtins : {H : Type 0} → List (Name × Builtin H)
+abbrev pub builtins : {H : Type 0} → List (Name × Own H)
 builtins =
     (codes "len", of_one length_row) ∷ (codes "str", of_one (λ p v. text_given (str_of p v))) ∷ (codes "repr", of_one (λ p v. text_given (repr_of p v)))
-    ∷ (codes "type", of_one (λ p v. give (text_value (type_name v)))) ∷ (codes "bool", of_one_or none_value (λ p v. truth_row v))
-    ∷ (codes "fail", of_one failure_row) ∷ []
-
-abbrev pub builtin_in : {H : Type 0} → Name → List (Name × Builtin H) → Option (Builtin H)
-builtin_in x [] = None
-builtin_in x (b ∷ bs) = if bytes_eq x b.0 then Some b.1 else builtin_in x bs
+    ∷ (codes "type", of_one (λ p v. give (text_value (type_name v)))) ∷ (codes "bool", taking [] (codes "x" ∷ []) (λ p vs. truth_row (value_at 0 vs)))
+    ∷ (codes "fail", of_one failure_row)
+    ∷ (codes "list", λ p args. taking [] (codes "x" ∷ []) (λ p vs. if is_given 0 (codes "x") args then list_row p (value_at 0 vs) else new_list []) p args)
+    ∷ (codes "tuple", λ p args. taking [] (codes "x" ∷ []) (λ p vs. if is_given 0 (codes "x") args then tuple_row p (value_at 0 vs) else give (tuple_of [])) p args)
+    ∷ (codes "reversed", of_one reversed_row)
+    ∷ (codes "any", of_one (test_row some_true)) ∷ (codes "all", of_one (test_row all_true))
+    ∷ (codes "abs", of_one absolute_row) ∷ (codes "range", range_row)
+    ∷ (codes "hasattr", taking (codes "x" ∷ codes "name" ∷ []) [] (λ p vs. has_attribute_row p (value_at 0 vs) (value_at 1 vs)))
+    ∷ (codes "getattr", λ p args. taking (codes "x" ∷ codes "name" ∷ []) (codes "default" ∷ []) (λ p vs. get_attribute_row p (value_at 0 vs) (value_at 1 vs) (is_given 2 (codes "default") args) (value_at 2 vs)) p args)
+    ∷ []
 
 -- ---- a call
 
--- the arguments are bound before
-abbrev pub builtin_row : {H : Type 0} → Place → Builtin H → Arguments → Computation H Value
-builtin_row p b args = bound_values p (parameters_named b.needed b.optional) b.otherwise args >>= λ vs. b.gives p (value_at 0 vs)
-
-abbrev pub row_of : {H : Type 0} → Place → Option (Builtin H) → Arguments → Computation H Value
+abbrev pub row_of : {H : Type 0} → Place → Option (Own H) → Arguments → Computation H Value
 row_of p None args = not_built p
-row_of p (Some b) args = builtin_row p b args
+row_of p (Some f) args = f p args
 
 -- a function of the language
 abbrev pub own_function : {H : Type 0} → Place → Name → Arguments → Computation H Value
-own_function p x args = row_of p (builtin_in x builtins) args
+own_function p x args = row_of p (own_in x builtins) args

@@ -2,14 +2,19 @@
 use Rattle.ytt_base.specs.declared.fault.FaultKind.TheVariants as kind
 use Rattle.ytt_base.specs.declared.fault.Place.{Place}
 use Rattle.code_spec.specs.Code.{Name}
-use Rattle.builtin_spec.specs.Builtins.{own_function}
+use Rattle.builtin_spec.specs.Binding.{own_in}
+use Rattle.builtin_spec.specs.Builtins.{own_function, row_of}
+use Rattle.builtin_spec.specs.Dicts.{dict_methods}
+use Rattle.builtin_spec.specs.Lists.{list_methods}
 use Rattle.text_spec.specs.Methods.{text_method}
 use Rattle.value_spec.specs.Outcomes.{Computation, fail, not_built}
 use Rattle.value_spec.specs.Values.{Value, text_value, list_value, dict_value, native_value, builtin, method, Arguments}
 
--- a method, of what it holds; those of lists and dicts aren't built yet
+-- a method, of what it holds; `update` of dicts isn't built yet
 abbrev pub own_method : {H : Type 0} → Place → Name → (of : Value) → Arguments → Computation H Value
 own_method p x (text_value t) args = text_method p x t args
+own_method p x (list_value r) args = row_of p (own_in x (list_methods r)) args
+own_method p x (dict_value r) args = row_of p (own_in x (dict_methods r)) args
 own_method p x _ args = not_built p
 
 -- a function or a method of the language; nothing else is one

@@ -1,5 +1,4 @@
 -- The whole table of operators: `%` with a text at its left fills the text, and all else is as without it.
-use Rattle.std.specs.Prelude.{List, ℕ}
 use Rattle.ytt_base.specs.declared.fault.Place.{Place}
 use Rattle.code_spec.specs.Code.{BinaryOperator, remainder}
 use Rattle.operator_spec.specs.Operators.{augment_row, binary_row}
