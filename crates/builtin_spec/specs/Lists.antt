@@ -7,7 +7,7 @@ use Rattle.code_spec.specs.Code.{Name}
 use Rattle.index_spec.specs.Index.{place_among}
 use Rattle.index_spec.specs.Slices.{is_bound}
 use Rattle.operator_spec.specs.Equality.{equality}
-use Rattle.operator_spec.specs.Operators.{extend_row}
+use Rattle.operator_spec.specs.Operators.{extend_row, int_of}
 use Rattle.text_spec.specs.Answers.{paid_operation}
 use Rattle.text_spec.specs.Methods.{place_of}
 use Rattle.text_spec.specs.Signatures.{value_at}
@@ -63,7 +63,7 @@ index_of_row p r x a b = do
   u ← need kind.ValueKind p (is_bound a && is_bound b)
   vs ← reads (list_at r)
   i ← equal_from (paid p) p x (members_between vs a b) (place_of (length vs) (bound_in (pos 0) a)) >>= or_fail kind.KeyMissing p
-  give (int_value (pos i))
+  int_of p (pos i)
 
 -- in front of the member at a place, or behind all
 abbrev pub insert_row : {H : Type 0} → Place → ℕ → (at member : Value) → Computation H Value
