@@ -1,10 +1,13 @@
 -- The values that the parameters of a call get are what the program holds, where its arguments and its defaults are.
-use Rattle.std.proofs.Common.{◌≡◌, Bool, true, false, ◌||◌, if◌then◌else◌, List, [], ◌∷◌, Option, Some, None, refl, bytes_eq}
+use Rattle.std.proofs.Common.{◌≡◌, ℕ, zero, suc, Bool, true, false, ◌||◌, if◌then◌else◌, List, [], ◌∷◌, Option, Some, None, refl, bytes_eq}
 use Rattle.ytt_base.specs.declared.fault.FaultKind.TheVariants as kind
 use Rattle.ytt_base.specs.declared.fault.Place.{Place}
+use Rattle.builtin_spec.specs.Binding.{Own, own_in, taking}
 use Rattle.code_spec.specs.Code.{Name, Parameters, no_parameters, required, defaulted, bare_star, starred_parameter, double_starred_parameter}
 use Rattle.star_spec.specs.Held.{HeldValue, HeldValues, HeldFields, HeldList, has_equal_key, HeldPairs, HeldArguments}
-use Rattle.value_spec.specs.Binding.{field_of, without_field, has_field, has_twice, or_default, Given, given, rest_given, in_front, rest_in_front, unless_named, bound, all_bound, text_pairs, value_given, values_given, bound_values}
+use Rattle.text_spec.specs.Signatures.{value_at}
+use Rattle.value_spec.specs.Binding.{field_of, without_field, has_field, has_twice, or_default, Given, given, rest_given, in_front, rest_in_front, unless_named, bound, all_bound, text_pairs, value_given, values_given, bound_values, none_for_each, parameters_named}
+use Rattle.value_spec.specs.Outcomes.{Computation}
 use Rattle.value_spec.specs.Values.{Value, text_value, tuple_value, dict_value, Values, no_values, a_value, Fields, no_fields, a_field, Arguments, arguments, of_dict}
 use Rattle.star_spec.proofs.Keeping.{IfFound, found_if, found_one, Keeps, keeps_then, keeps_give, keeps_or_fail, keeps_new_object}
 
@@ -114,3 +117,37 @@ values_keep (b ∷ bs) h = keeps_then (given_keeps b.1 h.0) (λ v k. keeps_then 
 
 pub bound_keeps : {H : Type 0} (p : Place) (ps : Parameters) (ds : List Value) (vs : Arguments) → HeldList ds → HeldArguments vs → Keeps {H = H} HeldList (bound_values p ps ds vs)
 bound_keeps p ps ds vs d h = keeps_then (keeps_or_fail kind.ArgBind p (all_bound ps ds vs) (λ bs e. found_one AllGiven (all_bound ps ds vs) bs (arguments_bound ps ds vs d h) e)) (λ bs k. values_keep bs k)
+
+-- ---- the language's own functions and methods
+
+pub nth_held : (n : ℕ) (vs : List Value) → HeldList vs → HeldValue (value_at n vs)
+nth_held n [] h = tt
+nth_held zero (v ∷ vs) h = h.0
+nth_held (suc n) (v ∷ vs) h = nth_held n vs h.1
+
+pub nones_held : (xs : List Name) → HeldList (none_for_each xs)
+nones_held [] = tt
+nones_held (x ∷ xs) = (tt, nones_held xs)
+
+-- one that keeps what the program holds
+pub record OwnKeeps {H : Type 0} (f : Own H) : Type 0 where
+  pub by : (p : Place) (vs : Arguments) → HeldArguments vs → Keeps HeldValue (f p vs)
+
+-- a table of such
+pub record AllKeep {H : Type 0} (fs : List (Name × Own H)) : Type 0 where
+  pub found : (x : Name) → IfFound OwnKeeps (own_in x fs)
+
+pub none_keep : {H : Type 0} → AllKeep {H = H} []
+none_keep = record { found = λ x. tt }
+
+-- one in front of a table
+infixr 4 ◌also◌
+pub ◌also◌ : {H : Type 0} {x : Name} {f : Own H} {fs : List (Name × Own H)} → OwnKeeps f → AllKeep fs → AllKeep ((x, f) ∷ fs)
+◌also◌ {x = x} {f = f} {fs = fs} h k = record { found = λ y. found_if OwnKeeps (bytes_eq y x) (Some f) (own_in y fs) h (k.found y) }
+
+pub taking_keeps : {H : Type 0} (xs ys : List Name) {f : Place → List Value → Computation H Value} → ((p : Place) (vs : List Value) → HeldList vs → Keeps HeldValue (f p vs)) → OwnKeeps (taking xs ys f)
+taking_keeps xs ys h = record { by = λ p args k. keeps_then (bound_keeps p (parameters_named xs ys) (none_for_each ys) args (nones_held ys) k) (h p) }
+
+-- one that looks at its arguments too
+pub seeing_keeps : {H : Type 0} {f : Arguments → Own H} → ((vs : Arguments) → OwnKeeps (f vs)) → OwnKeeps (λ p vs. f vs p vs)
+seeing_keeps h = record { by = λ p vs. (h vs).by p vs }

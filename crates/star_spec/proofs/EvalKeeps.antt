@@ -7,20 +7,21 @@ use Rattle.ytt_base.specs.declared.fault.Place.{Place}
 use Rattle.ytt_base.specs.Trees.{max_depth}
 use Rattle.code_spec.specs.Code as code
 use Rattle.code_spec.specs.Code.{Name, BinaryOperator, addition, Expr, Exprs, no_exprs, an_expr, OptionalExpr, absent, present, Entries, no_entries, an_entry, Clauses, no_clauses, for_clause, if_clause, Pieces, no_pieces, text_piece, expr_piece, Parameters, no_parameters, required, defaulted, bare_star, starred_parameter, double_starred_parameter}
+use Rattle.code_spec.specs.Names.{own_functions, is_among, target_names, clauses_names}
 use Rattle.star_spec.specs.Eval.{truth_of, members_of, need_key, display_pair, turn_pair, and_values, and_fields, with_values, with_fields, field_in_front, as_fields, spread_fields, built_so_far, eval, eval_all, eval_arguments, eval_optional, eval_entries, eval_pieces, comprehend, clauses_in_turn, default_values, assign_to, assign_each, augment_to}
 use Rattle.star_spec.specs.Flow.{Flow, on, out, Part, next_turn, turns, walk, over_members}
 use Rattle.star_spec.specs.Held.{HeldValue, HeldValues, HeldFields, HeldExpr, HeldExprs, HeldOptional, HeldEntries, HeldClauses, HeldPieces, HeldParameters, HeldList, HeldPairs, HeldIfAny, HeldArguments}
-use Rattle.value_spec.specs.Keys.{key_offence, place_of_key}
 use Rattle.star_spec.specs.Language.{Call, breaks, continues, returns}
-use Rattle.value_spec.specs.Members.{walked_in, truth_in}
 use Rattle.star_spec.specs.Names.{constant, box_of, with_box, with_boxes, value_or_unset, unbound, read_name, fill_box, write_name}
-use Rattle.code_spec.specs.Names.{own_functions, is_among, target_names, clauses_names}
+use Rattle.value_spec.specs.Keys.{key_offence, place_of_key}
+use Rattle.value_spec.specs.Members.{walked_in, truth_in}
 use Rattle.value_spec.specs.Outcomes.{Computation, ◌>>=◌}
 use Rattle.value_spec.specs.Store.{object_at, put_pair, with_contents, end_loop, box_at}
 use Rattle.value_spec.specs.Values.{Value, none_value, bool_value, int_value, text_value, tuple_value, dict_value, function_value, native_value, builtin, Values, no_values, values_from, Fields, no_fields, a_field, Arguments, arguments, Env, of_box, of_function}
-use Rattle.star_spec.proofs.BuiltinsKeep.{among_utf8, assignment_held, attribute_keeps, operator_held}
-use Rattle.star_spec.proofs.Keeping.{Keeps, Anything, keeps_then, keeps_give, keeps_fail, keeps_or_fail, keeps_ill_formed, keeps_need, keeps_paid, keeps_if, keeps_reads, keeps_new_object, object_held, box_held, change_held, loops_held, kept_finally}
+use Rattle.star_spec.proofs.AttributesKeep.{among_utf8, attribute_keeps}
+use Rattle.star_spec.proofs.BuiltinsKeep.{assignment_held, operator_held}
 use Rattle.star_spec.proofs.IndexKeeps.{index_keeps, slice_keeps, set_index_keeps}
+use Rattle.star_spec.proofs.Keeping.{Keeps, Anything, keeps_then, keeps_give, keeps_fail, keeps_or_fail, keeps_ill_formed, keeps_need, keeps_paid, keeps_if, keeps_reads, keeps_new_object, object_held, box_held, change_held, loops_held, kept_finally}
 use Rattle.star_spec.proofs.MembersHeld.{from_values, more_held, members_keep, pairs_keep, put_pair_held, new_list_keeps, new_dict_keeps}
 use Rattle.star_spec.proofs.RowsHeld.{unary_held, measured_keeps}
 use Rattle.star_spec.proofs.TextsKeep.{low_utf8}

@@ -16,9 +16,8 @@ use Rattle.index_spec.specs.KeyTexts.{integer_text}
 use Rattle.text_spec.proofs.Characters.{AreInner, IsHigh, each_character}
 use Rattle.text_spec.proofs.Filling.{AllPass, is_no_brace, is_plain, one_filled, one_formatted}
 use Rattle.star_spec.proofs.BindingsKeep.{field_held}
-use Rattle.star_spec.proofs.IndexKeeps.{member_held}
 use Rattle.star_spec.proofs.Keeping.{IfFound, Keeps, Anything, keeps_then, keeps_give, keeps_fail, keeps_need, keeps_paid, keeps_if, keeps_reads, keeps_weaker}
-use Rattle.star_spec.proofs.MembersHeld.{in_values}
+use Rattle.star_spec.proofs.MembersHeld.{in_values, member_held}
 use Rattle.star_spec.proofs.TextsKeep.{byte_utf8, digits_utf8, integer_utf8, repr_keeps, str_keeps}
 
 -- ---- characters, and what stands behind bytes of ASCII

@@ -11,7 +11,7 @@ use Rattle.value_spec.specs.Keys.{text_cost}
 use Rattle.value_spec.specs.Store.{put_pair, put_pairs}
 use Rattle.value_spec.specs.Values.{Value, fragment_value, child, Children, no_children, a_child, Body, one, map_of, list_of}
 use Rattle.star_spec.proofs.Keeping.{Keeps, Anything, keeps_then, keeps_give, keeps_paid, keeps_below}
-use Rattle.star_spec.proofs.MembersHeld.{put_pair_held, new_list_keeps, new_dict_keeps}
+use Rattle.star_spec.proofs.MembersHeld.{BothHeld, put_pair_held, new_list_keeps, new_dict_keeps}
 
 -- ---- steps
 
@@ -51,11 +51,6 @@ mutual
   body_keeps p n (list_of cs) = keeps_below p n (λ m. children_paid p m cs) (λ m e. children_keep p m cs)
 
 -- ---- fresh values
-
--- pairs of what the program holds, whose keys may stand twice
-abbrev pub BothHeld : List (Value × Value) → Type 0
-BothHeld [] = Unit {0}
-BothHeld (p ∷ ps) = HeldValue p.0 × HeldValue p.1 × BothHeld ps
 
 put_both_held : (ps ms : List (Value × Value)) → HeldPairs ps → BothHeld ms → HeldPairs (put_pairs ps ms)
 put_both_held ps [] h k = h

@@ -1,9 +1,6 @@
 -- An index and a slice give what the program holds, and a value in the place of a member leaves such a store.
-use Rattle.std.proofs.Common.{◌≡◌, ℕ, zero, suc, ◌+◌, ◌-◌, ◌<◌, nat_lt, Bool, true, false, if◌then◌else◌, List, [], ◌∷◌, length, slice_get, slice_set, Option, Some, None, option_and_then, FitsSigned, refl, subst, arith, ltb-true}
-use Rattle.std.proofs.lemmas.Int.{ints}
-use Rattle.std.proofs.Math.Nat.{suc-mul}
-use Rattle.std.specs.Int.{w128}
-use Rattle.std.specs.Prelude.{ℤ, pos, negsuc, ◌+ℤ◌, ◌*ℤ◌}
+use Rattle.std.proofs.Common.{◌≡◌, ℕ, zero, suc, ◌+◌, ◌-◌, ◌<◌, nat_lt, Bool, true, false, if◌then◌else◌, List, [], length, slice_get, Option, Some, None, option_and_then, refl, arith, ltb-true}
+use Rattle.std.specs.Prelude.{ℤ, pos, negsuc, ◌+ℤ◌}
 use Rattle.ytt_base.specs.declared.fault.FaultKind.TheVariants as kind
 use Rattle.ytt_base.specs.declared.fault.Place.{Place}
 use Rattle.ytt_base.specs.Trees.{Scalar}
@@ -13,17 +10,19 @@ use Rattle.index_spec.specs.KeyTexts.{key_text}
 use Rattle.index_spec.specs.Slices.{Cut, has_bounds, Places, places_of, place_count, and_more, picked, members_cut, text_slice, members_slice, give_tuple, cut_row, slice_row}
 use Rattle.operator_spec.specs.Equality.{named_values}
 use Rattle.operator_spec.specs.Operators.{tuple_of}
-use Rattle.star_spec.specs.Held.{HeldValue, HeldFields, HeldNumbers, HeldChildren, HeldBody, HeldList, HeldPairs, HeldIfAny, HeldContents}
-use Rattle.value_spec.specs.Keys.{text_cost, place_of_key}
+use Rattle.star_spec.specs.Held.{HeldValue, HeldFields, HeldChildren, HeldBody, HeldList}
+use Rattle.value_spec.specs.Keys.{text_cost}
 use Rattle.value_spec.specs.Members.{as_int, as_text}
-use Rattle.value_spec.specs.Numbers.{range_count, progression, at_least_zero}
-use Rattle.value_spec.specs.Outcomes.{Computation, fail, or_fail, acting}
-use Rattle.value_spec.specs.Store.{list_of_contents, pairs_of_contents, first_of, with_list, with_pairs, value_of_pair, value_at_place, value_of_key, put_pair, set_by, set_member, put_key, list_set, dict_put}
-use Rattle.value_spec.specs.Values.{Value, text_value, tuple_value, range_value, struct_value, fragment_value, list_value, dict_value, values_in, Fields, no_fields, a_field, child, Children, no_children, a_child, Body, Contents, of_list, of_dict, of_box, of_function, Object}
+use Rattle.value_spec.specs.Numbers.{range_count, at_least_zero}
+use Rattle.value_spec.specs.Outcomes.{Computation, fail, or_fail}
+use Rattle.value_spec.specs.Store.{value_of_key}
+use Rattle.value_spec.specs.Values.{Value, text_value, tuple_value, range_value, struct_value, fragment_value, list_value, dict_value, values_in, Fields, no_fields, a_field, child, Children, no_children, a_child, Body}
+use Rattle.star_spec.proofs.ActsKeep.{dict_put_keeps, list_set_keeps}
 use Rattle.star_spec.proofs.CutsHeld.{cut_keeps, bytes_keep}
-use Rattle.star_spec.proofs.FreshKeeps.{BothHeld, body_value_keeps}
-use Rattle.star_spec.proofs.Keeping.{IfFound, found_if, found_one, Keeps, Anything, keeps_then, keeps_give, keeps_fail, keeps_or_fail, keeps_need, keeps_paid, IfDid, ObjectHeld, did_unlocked, keeps_at_object, may_change_keeps}
-use Rattle.star_spec.proofs.MembersHeld.{in_values, from_values, list_keeps, pairs_keep, put_pair_held, new_list_keeps}
+use Rattle.star_spec.proofs.FreshKeeps.{body_value_keeps}
+use Rattle.star_spec.proofs.Keeping.{IfFound, found_if, found_one, Keeps, Anything, keeps_then, keeps_give, keeps_fail, keeps_or_fail, keeps_need, keeps_paid, may_change_keeps}
+use Rattle.star_spec.proofs.MembersHeld.{BothHeld, in_values, from_values, key_value_held, list_keeps, member_held, of_pairs, pairs_keep, new_list_keeps}
+use Rattle.star_spec.proofs.RangesHeld.{number_held}
 use Rattle.star_spec.proofs.RowsHeld.{keeps_one, measured_keeps}
 
 found_there : {A B : Type 0} (P : B → Type 0) (f : A → Option B) (o : Option A) → ((a : A) → IfFound P (f a)) → IfFound P (option_and_then f o)
@@ -32,17 +31,12 @@ found_there P f (Some a) h = h a
 
 -- ---- members
 
-pub member_held : (vs : List Value) (i : ℕ) → HeldList vs → IfFound HeldValue (slice_get vs i)
-member_held [] i h = tt
-member_held (v ∷ vs) zero h = h.0
-member_held (v ∷ vs) (suc i) h = member_held vs i h.1
-
 member_keeps : {H : Type 0} (p : Place) (vs : List Value) (z : ℤ) → HeldList vs → Keeps {H = H} HeldValue (member_at p vs z)
 member_keeps p vs z h =
     keeps_or_fail kind.IndexRange p (option_and_then (slice_get vs) (place_among (length vs) z))
     (λ v e. found_one HeldValue _ v (found_there HeldValue (slice_get vs) (place_among (length vs) z) (λ i. member_held vs i h)) e)
 
--- ---- places, and numbers of ranges
+-- ---- places
 
 place_below : (n : ℕ) (z : ℤ) → IfFound (λ i. i < n) (place_among n z)
 place_below n (pos i) = by (nat_lt i n) refl
@@ -58,23 +52,6 @@ place_below n (negsuc i) = by (nat_lt i n) refl
 
 place_keeps : {H : Type 0} (p : Place) (n : ℕ) (z : ℤ) → Keeps {H = H} (λ i. i < n) (or_fail kind.IndexRange p (place_among n z))
 place_keeps p n z = keeps_or_fail kind.IndexRange p (place_among n z) (λ i e. found_one (λ i. i < n) (place_among n z) i (place_below n z) e)
-
-times_next : (i : ℕ) (step : ℤ) → pos (suc i) *ℤ step ≡ step +ℤ (pos i *ℤ step)
-times_next i (pos k) = omega (arith, ints, suc-mul i k)
-times_next i (negsuc k) = omega (arith, ints, suc-mul i (suc k))
-
--- the same number, counted from the one behind the start
-from_next : (start step : ℤ) (i : ℕ) → (start +ℤ step) +ℤ (pos i *ℤ step) ≡ start +ℤ (pos (suc i) *ℤ step)
-from_next start step i = omega (arith, ints, times_next i step)
-
-first_number : (start step : ℤ) → start ≡ start +ℤ (pos 0 *ℤ step)
-first_number start (pos k) = omega (arith, ints)
-first_number start (negsuc k) = omega (arith, ints)
-
-number_held : (n : ℕ) (start step : ℤ) (i : ℕ) → i < n → HeldNumbers (progression n start step) → FitsSigned w128 (start +ℤ (pos i *ℤ step))
-number_held zero start step i below h = absurd (omega arith)
-number_held (suc n) start step zero below h = subst (FitsSigned w128) (first_number start step) h.0
-number_held (suc n) start step (suc i) below h = subst (FitsSigned w128) (from_next start step i) (number_held n (start +ℤ step) step i (omega arith) h.1)
 
 number_keeps : {H : Type 0} (p : Place) (a b d z : ℤ) → HeldValue (range_value a b d) → Keeps {H = H} HeldValue (number_at p a b d z)
 number_keeps p a b d z h =
@@ -92,24 +69,11 @@ found_keeps : {H : Type 0} (p : Place) (k : Value) (o : Option Value) → IfFoun
 found_keeps p k None h = keeps_fail kind.KeyMissing p (key_text k)
 found_keeps p k (Some v) h = keeps_give v h
 
-pair_value_held : (ps : List (Value × Value)) (i : ℕ) → BothHeld ps → IfFound HeldValue (value_of_pair (slice_get ps i))
-pair_value_held [] i h = tt
-pair_value_held (p ∷ ps) zero h = h.1
-pair_value_held (p ∷ ps) (suc i) h = pair_value_held ps i h.2
-
-at_place_held : (ps : List (Value × Value)) (o : Option ℕ) → BothHeld ps → IfFound HeldValue (value_at_place ps o)
-at_place_held ps None h = tt
-at_place_held ps (Some i) h = pair_value_held ps i h
-
 under_keeps : {H : Type 0} (p : Place) (k : Value) (ps : List (Value × Value)) → BothHeld ps → Keeps {H = H} HeldValue (value_under p k ps)
-under_keeps p k ps h = found_keeps p k (value_of_key k ps) (at_place_held ps (place_of_key k ps) h)
+under_keeps p k ps h = found_keeps p k (value_of_key k ps) (key_value_held k ps h)
 
 other_keeps : {H : Type 0} (p : Place) (k : Value) → Keeps {H = H} HeldValue (other_key p k)
 other_keeps p k = keeps_then (measured_keeps 5 p k) (λ u g. keeps_fail kind.KeyMissing p (key_text k))
-
-of_pairs : (ps : List (Value × Value)) → HeldPairs ps → BothHeld ps
-of_pairs [] h = tt
-of_pairs (p ∷ ps) h = (h.0, h.1, of_pairs ps h.3)
 
 of_fields : (fs : Fields) → HeldFields fs → BothHeld (named_values fs)
 of_fields no_fields h = tt
@@ -194,39 +158,6 @@ pub slice_keeps : {H : Type 0} (p : Place) (x : Value) (c : Cut) → HeldValue x
 slice_keeps p x c h = keeps_then (keeps_need kind.ValueKind p (has_bounds c)) (λ u t. cut_row_keeps p x c h)
 
 -- ---- a value in the place of a member
-
-set_held : (vs : List Value) (i : ℕ) (v : Value) → HeldValue v → HeldList vs → HeldList (slice_set vs i v)
-set_held [] i v h k = tt
-set_held (w ∷ ws) zero v h k = (h, k.1)
-set_held (w ∷ ws) (suc i) v h k = (k.0, set_held ws i v h k.1)
-
-first_held : (vs : List Value) → HeldList vs → HeldIfAny (first_of vs)
-first_held [] h = tt
-first_held (v ∷ vs) h = h.0
-
-list_set_held : (c : Contents) (i : ℕ) (v : Value) → HeldValue v → HeldContents c → HeldContents (with_list (slice_set (list_of_contents c) i v) c)
-list_set_held (of_list vs) i v h k = set_held vs i v h k
-list_set_held (of_dict ps) i v h k = k
-list_set_held (of_box None) i v h k = tt
-list_set_held (of_box (Some w)) i v h k = first_held (slice_set (w ∷ []) i v) (set_held (w ∷ []) i v h (k, tt))
-list_set_held (of_function f) i v h k = k
-
-set_by_held : (o : Object) (i : ℕ) (v : Value) (old : Option Value) → HeldValue v → HeldContents o.contents →
-    IfDid ObjectHeld (set_by o (list_of_contents o.contents) i v old)
-set_by_held o i v None h k = tt
-set_by_held o i v (Some w) h k = list_set_held o.contents i v h k
-
-list_set_keeps : {H : Type 0} (p : Place) (r i : ℕ) (v : Value) → HeldValue v → Keeps {H = H} Anything (acting p (list_set r i v))
-list_set_keeps p r i v h = keeps_at_object p r (set_member i v) (λ o k. did_unlocked _ o _ (set_by_held o i v (slice_get (list_of_contents o.contents) i) h k))
-
-key_put_held : (c : Contents) (k v : Value) → HeldValue k → HeldValue v → HeldContents c → HeldContents (with_pairs (put_pair k v (pairs_of_contents c)) c)
-key_put_held (of_list vs) k v key value h = h
-key_put_held (of_dict ps) k v key value h = put_pair_held k v ps key value h
-key_put_held (of_box w) k v key value h = h
-key_put_held (of_function f) k v key value h = h
-
-dict_put_keeps : {H : Type 0} (p : Place) (r : ℕ) (k v : Value) → HeldValue k → HeldValue v → Keeps {H = H} Anything (acting p (dict_put r k v))
-dict_put_keeps p r k v key value = keeps_at_object p r (put_key k v) (λ o h. did_unlocked _ o _ (key_put_held o.contents k v key value h))
 
 set_member_keeps : {H : Type 0} (p : Place) (r : ℕ) (z : ℤ) (v : Value) → HeldValue v → Keeps {H = H} Anything (set_member_at p r z v)
 set_member_keeps p r z v h = keeps_then (list_keeps r) (λ vs k. keeps_then (place_keeps p (length vs) z) (λ i below. list_set_keeps p r i v h))

@@ -105,26 +105,26 @@ object_held [] r h = tt
 object_held (o ∷ os) zero h = h.0
 object_held (o ∷ os) (suc r) h = object_held os r h.1
 
+pub contents_list : (c : Contents) → HeldContents c → HeldList (list_of_contents c)
+contents_list (of_list vs) h = h
+contents_list (of_dict ps) h = tt
+contents_list (of_box None) h = tt
+contents_list (of_box (Some v)) h = (h, tt)
+contents_list (of_function f) h = tt
+
 pub list_held : (o : Option Object) → HeldIfThere o → HeldList (list_in o)
 list_held None h = tt
-list_held (Some o) h = held_list o.contents h
-  where
-    held_list : (c : Contents) → HeldContents c → HeldList (list_of_contents c)
-    held_list (of_list vs) h = h
-    held_list (of_dict ps) h = tt
-    held_list (of_box None) h = tt
-    held_list (of_box (Some v)) h = (h, tt)
-    held_list (of_function f) h = tt
+list_held (Some o) h = contents_list o.contents h
+
+pub contents_pairs : (c : Contents) → HeldContents c → HeldPairs (pairs_of_contents c)
+contents_pairs (of_list vs) h = tt
+contents_pairs (of_dict ps) h = h
+contents_pairs (of_box v) h = tt
+contents_pairs (of_function f) h = tt
 
 pub pairs_held : (o : Option Object) → HeldIfThere o → HeldPairs (pairs_in o)
 pairs_held None h = tt
-pairs_held (Some o) h = held_pairs o.contents h
-  where
-    held_pairs : (c : Contents) → HeldContents c → HeldPairs (pairs_of_contents c)
-    held_pairs (of_list vs) h = tt
-    held_pairs (of_dict ps) h = h
-    held_pairs (of_box v) h = tt
-    held_pairs (of_function f) h = tt
+pairs_held (Some o) h = contents_pairs o.contents h
 
 pub box_held : (o : Option Object) → HeldIfThere o → HeldIfAny (box_in o)
 box_held None h = tt
@@ -175,22 +175,22 @@ pub loops_held : (f : ℕ → ℕ) (walk : Option ℕ) (store : Store) → HeldS
 loops_held f None store h = h
 loops_held f (Some r) store h = change_held (walked f) r store (λ x k. k) h
 
--- what an act leaves, if it is done
-abbrev pub IfDid : {S A : Type 0} → (S → Type 0) → Answer S A → Type 0
-IfDid P (did a s) = P s
-IfDid P (refused why) = Unit {0}
+-- what an act gives and what it leaves, if it is done
+abbrev pub IfDid : {S A : Type 0} → (A → Type 0) → (S → Type 0) → Answer S A → Type 0
+IfDid P Q (did a s) = P a × Q s
+IfDid P Q (refused why) = Unit {0}
 
-pub keeps_acting : {H A : Type 0} (p : Place) (act : Act Store A) → ((store : Store) → HeldStore store → IfDid HeldStore (act store)) → Keeps {H = H} Anything (acting p act)
-keeps_acting {H = H} {A = A} p act k = record { by = λ s held. kept_act (act s.store) s (k s.store held) held }
+keeps_acting : {H A : Type 0} (P : A → Type 0) (p : Place) (act : Act Store A) → ((store : Store) → HeldStore store → IfDid P HeldStore (act store)) → Keeps {H = H} P (acting p act)
+keeps_acting {H = H} {A = A} P p act k = record { by = λ s held. kept_act (act s.store) s (k s.store held) held }
   where
-    kept_act : (answer : Answer Store A) (s : State H) → IfDid HeldStore answer → HeldStore s.store → Kept Anything (after_act p answer s)
-    kept_act (did a store) s h held = (tt, h)
+    kept_act : (answer : Answer Store A) (s : State H) → IfDid P HeldStore answer → HeldStore s.store → Kept P (after_act p answer s)
+    kept_act (did a store) s h held = h
     kept_act (refused why) s h held = held
 
-pub did_unlocked : {S A : Type 0} (P : S → Type 0) (o : Object) (answer : Answer S A) → IfDid P answer → IfDid P (unlocked o answer)
-did_unlocked {S = S} {A = A} P o answer h = by_tests o.frozen (o.loops == 0)
+did_unlocked : {S A : Type 0} (P : A → Type 0) (Q : S → Type 0) (o : Object) (answer : Answer S A) → IfDid P Q answer → IfDid P Q (unlocked o answer)
+did_unlocked {S = S} {A = A} P Q o answer h = by_tests o.frozen (o.loops == 0)
   where
-    by_tests : (a b : Bool) → IfDid P (if a then refused frozen else if b then answer else refused iterating)
+    by_tests : (a b : Bool) → IfDid P Q (if a then refused frozen else if b then answer else refused iterating)
     by_tests true b = tt
     by_tests false true = h
     by_tests false false = tt
@@ -199,23 +199,24 @@ did_unlocked {S = S} {A = A} P o answer h = by_tests o.frozen (o.loops == 0)
 abbrev pub ObjectHeld : Object → Type 0
 ObjectHeld o = HeldContents o.contents
 
-put_back_held : {A : Type 0} (r : ℕ) (store : Store) (answer : Answer Object A) → HeldStore store → IfDid ObjectHeld answer → IfDid HeldStore (put_back r store answer)
-put_back_held r store (did a o) h k = set_held store r o h k
-put_back_held r store (refused why) h k = tt
+put_back_held : {A : Type 0} (P : A → Type 0) (r : ℕ) (store : Store) (answer : Answer Object A) → HeldStore store → IfDid P ObjectHeld answer → IfDid P HeldStore (put_back r store answer)
+put_back_held P r store (did a o) h k = (k.0, set_held store r o h k.1)
+put_back_held P r store (refused why) h k = tt
 
-found_held : {A : Type 0} (r : ℕ) (store : Store) (act : Act Object A) (o : Option Object) → HeldStore store → HeldIfThere o → ((x : Object) → HeldContents x.contents → IfDid ObjectHeld (act x)) → IfDid HeldStore (on_found r store act o)
-found_held r store act None h g k = tt
-found_held r store act (Some o) h g k = put_back_held r store (act o) h (k o g)
-
-pub keeps_at_object : {H A : Type 0} (p : Place) (r : ℕ) (act : Act Object A) → ((x : Object) → HeldContents x.contents → IfDid ObjectHeld (act x)) → Keeps {H = H} Anything (acting p (at_object r act))
-keeps_at_object p r act k = keeps_acting p (at_object r act) (λ store h. found_held r store act (object_at r store) h (object_held store r h) k)
+-- an act on what an object holds, where it may be changed now
+pub keeps_at_object : {H A : Type 0} (P : A → Type 0) (p : Place) (r : ℕ) (answer : Object → Answer Object A) → ((x : Object) → ObjectHeld x → IfDid P ObjectHeld (answer x)) → Keeps {H = H} P (acting p (at_object r (λ o. unlocked o (answer o))))
+keeps_at_object {A = A} P p r answer k = keeps_acting P p _ (λ store h. found_held store (object_at r store) h (object_held store r h))
+  where
+    found_held : (store : Store) (o : Option Object) → HeldStore store → HeldIfThere o → IfDid P HeldStore (on_found r store (λ x. unlocked x (answer x)) o)
+    found_held store None h g = tt
+    found_held store (Some o) h g = put_back_held P r store (unlocked o (answer o)) h (did_unlocked P ObjectHeld o (answer o) (k o g))
 
 pub may_change_keeps : {H : Type 0} (p : Place) (r : ℕ) → Keeps {H = H} Anything (acting p (may_change r))
-may_change_keeps p r = keeps_acting p (may_change r) (λ store h. may_held store (object_at r store) h)
+may_change_keeps p r = keeps_acting Anything p (may_change r) (λ store h. may_held store (object_at r store) h)
   where
-    may_held : (store : Store) (o : Option Object) → HeldStore store → IfDid HeldStore (may_change_object store o)
+    may_held : (store : Store) (o : Option Object) → HeldStore store → IfDid Anything HeldStore (may_change_object store o)
     may_held store None h = tt
-    may_held store (Some o) h = did_unlocked HeldStore o (did tt store) h
+    may_held store (Some o) h = did_unlocked Anything HeldStore o (did tt store) (tt, h)
 
 first_held : (n : ℕ) (store : Store) → HeldStore store → HeldStore (take n store)
 first_held zero store h = tt

@@ -1,15 +1,15 @@
--- Members of values, pairs of dicts, and acts on lists: what is held stays so.
-use Rattle.std.proofs.Common.{◌≡◌, ℤ, Bool, true, false, ◌||◌, if◌then◌else◌, List, [], ◌∷◌, ◌++◌, map, slice_get, slice_set, ℕ, zero, suc, Option, Some, None, refl, ap, ◌∙◌}
+-- Members of values, pairs of dicts, and new lists and dicts: what is held stays so.
+use Rattle.std.proofs.Common.{◌≡◌, ℤ, Bool, true, false, ◌||◌, if◌then◌else◌, List, [], ◌∷◌, ◌++◌, map, take, drop, remove, slice_get, slice_set, ℕ, zero, suc, Option, Some, None, refl, ap, ◌∙◌}
 use Rattle.ytt_base.specs.declared.fault.FaultKind.TheVariants as kind
 use Rattle.ytt_base.specs.declared.fault.Place.{Place}
 use Rattle.code_spec.specs.Options.{further}
-use Rattle.star_spec.specs.Held.{HeldValue, HeldValues, HeldNumbers, HeldList, has_equal_key, HeldPairs, HeldContents, HeldStore}
+use Rattle.star_spec.specs.Held.{HeldValue, HeldValues, HeldNumbers, HeldList, has_equal_key, HeldPairs, HeldStore}
 use Rattle.value_spec.specs.Keys.{same_key, place_of_key}
 use Rattle.value_spec.specs.Members.{keys_in, members_in}
-use Rattle.value_spec.specs.Outcomes.{or_fail, ◌>>=◌, reads, new_list, new_dict, acting}
-use Rattle.value_spec.specs.Store.{list_of_contents, with_list, extend_members, object_at, list_at, pairs_at, with_value, with_pair, put_pair, put_pairs, list_extend}
-use Rattle.value_spec.specs.Values.{Value, int_value, tuple_value, range_value, list_value, dict_value, Values, no_values, a_value, values_in, values_from, Contents, of_list, of_dict, of_box, of_function, Store}
-use Rattle.star_spec.proofs.Keeping.{IfFound, found_one, Keeps, Anything, keeps_then, keeps_give, keeps_or_fail, keeps_reads, keeps_new_object, object_held, list_held, pairs_held, keeps_at_object, did_unlocked}
+use Rattle.value_spec.specs.Outcomes.{or_fail, ◌>>=◌, reads, new_list, new_dict}
+use Rattle.value_spec.specs.Store.{object_at, list_at, pairs_at, with_value, with_pair, put_pair, put_pairs, value_of_pair, value_at_place, value_of_key}
+use Rattle.value_spec.specs.Values.{Value, int_value, tuple_value, range_value, list_value, dict_value, Values, no_values, a_value, values_in, values_from, of_list, of_dict, Store}
+use Rattle.star_spec.proofs.Keeping.{IfFound, found_one, Keeps, keeps_then, keeps_give, keeps_or_fail, keeps_reads, keeps_new_object, object_held, list_held, pairs_held}
 
 -- ---- lists of values
 
@@ -24,6 +24,21 @@ from_values (v ∷ vs) h = (h.0, from_values vs h.1)
 pub more_held : (vs ws : List Value) → HeldList vs → HeldList ws → HeldList (vs ++ ws)
 more_held [] ws h k = k
 more_held (v ∷ vs) ws h k = (h.0, more_held vs ws h.1 k)
+
+pub first_members : (n : ℕ) (vs : List Value) → HeldList vs → HeldList (take n vs)
+first_members zero vs h = tt
+first_members (suc n) [] h = tt
+first_members (suc n) (v ∷ vs) h = (h.0, first_members n vs h.1)
+
+pub last_members : (n : ℕ) (vs : List Value) → HeldList vs → HeldList (drop n vs)
+last_members zero vs h = h
+last_members (suc n) [] h = tt
+last_members (suc n) (v ∷ vs) h = last_members n vs h.1
+
+pub member_held : (vs : List Value) (i : ℕ) → HeldList vs → IfFound HeldValue (slice_get vs i)
+member_held [] i h = tt
+member_held (v ∷ vs) zero h = h.0
+member_held (v ∷ vs) (suc i) h = member_held vs i h.1
 
 numbers_held : (zs : List ℤ) → HeldNumbers zs → HeldList (map int_value zs)
 numbers_held [] h = tt
@@ -55,13 +70,13 @@ pairs_keep r = keeps_reads (pairs_at r) (λ store h. pairs_held (object_at r sto
 abbrev Avoids : Value → List (Value × Value) → Type 0
 Avoids k ps = has_equal_key k ps ≡ false
 
+no_either : (a b c : Bool) → (a || b) ≡ false → (b ≡ false → c ≡ false) → (a || c) ≡ false
+no_either true b c h k = cc
+no_either false b c h k = k h
+
 appended_avoids : (x k v : Value) (ps : List (Value × Value)) → has_equal_key x ps ≡ false → same_key x k ≡ false → has_equal_key x (ps ++ (k, v) ∷ []) ≡ false
 appended_avoids x k v [] h e = ap (λ b. b || false) e
 appended_avoids x k v (p ∷ ps) h e = no_either (same_key x p.0) (has_equal_key x ps) (has_equal_key x (ps ++ (k, v) ∷ [])) h (λ g. appended_avoids x k v ps g e)
-  where
-    no_either : (a b c : Bool) → (a || b) ≡ false → (b ≡ false → c ≡ false) → (a || c) ≡ false
-    no_either true b c h k = cc
-    no_either false b c h k = k h
 
 not_there : (k : Value) (p : Value × Value) (ps : List (Value × Value)) → (if same_key p.0 k then Some 0 else further (place_of_key k ps)) ≡ None → (same_key p.0 k ≡ false) × (place_of_key k ps ≡ None)
 not_there k p ps h = by_test (same_key p.0 k) (place_of_key k ps) h
@@ -100,21 +115,48 @@ pub put_pairs_held : (ps ms : List (Value × Value)) → HeldPairs ps → HeldPa
 put_pairs_held ps [] h k = h
 put_pairs_held ps (m ∷ ms) h k = put_pairs_held (put_pair m.0 m.1 ps) ms (put_pair_held m.0 m.1 ps k.0 k.1 h) k.3
 
--- ---- new objects, and members behind those of a list
+-- without the pair at a place
+cut_avoids : (x : Value) (ps : List (Value × Value)) (i : ℕ) → has_equal_key x ps ≡ false → has_equal_key x (remove ps i) ≡ false
+cut_avoids x [] zero e = e
+cut_avoids x [] (suc i) e = e
+cut_avoids x (p ∷ ps) zero e = no_second (same_key x p.0) (has_equal_key x ps) e where
+  no_second : (a b : Bool) → (a || b) ≡ false → b ≡ false
+  no_second true b e = cc
+  no_second false b e = e
+cut_avoids x (p ∷ ps) (suc i) e = no_either (same_key x p.0) (has_equal_key x ps) (has_equal_key x (remove ps i)) e (cut_avoids x ps i)
+
+pub cut_held : (ps : List (Value × Value)) (i : ℕ) → HeldPairs ps → HeldPairs (remove ps i)
+cut_held [] zero h = tt
+cut_held [] (suc i) h = tt
+cut_held (p ∷ ps) zero h = h.3
+cut_held (p ∷ ps) (suc i) h = (h.0, h.1, cut_avoids p.0 ps i h.2, cut_held ps i h.3)
+
+-- ---- the value of a key
+
+-- pairs of what the program holds, whose keys may stand twice
+abbrev pub BothHeld : List (Value × Value) → Type 0
+BothHeld [] = Unit {0}
+BothHeld (p ∷ ps) = HeldValue p.0 × HeldValue p.1 × BothHeld ps
+
+pub of_pairs : (ps : List (Value × Value)) → HeldPairs ps → BothHeld ps
+of_pairs [] h = tt
+of_pairs (p ∷ ps) h = (h.0, h.1, of_pairs ps h.3)
+
+pair_value_held : (ps : List (Value × Value)) (i : ℕ) → BothHeld ps → IfFound HeldValue (value_of_pair (slice_get ps i))
+pair_value_held [] i h = tt
+pair_value_held (p ∷ ps) zero h = h.1
+pair_value_held (p ∷ ps) (suc i) h = pair_value_held ps i h.2
+
+pub key_value_held : (k : Value) (ps : List (Value × Value)) → BothHeld ps → IfFound HeldValue (value_of_key k ps)
+key_value_held k ps h = by (place_of_key k ps) where
+  by : (o : Option ℕ) → IfFound HeldValue (value_at_place ps o)
+  by None = tt
+  by (Some i) = pair_value_held ps i h
+
+-- ---- new objects
 
 pub new_list_keeps : {H : Type 0} (vs : List Value) → HeldList vs → Keeps {H = H} HeldValue (new_list vs)
 new_list_keeps vs h = keeps_then (keeps_new_object (of_list vs) h) (λ r u. keeps_give (list_value r) tt)
 
 pub new_dict_keeps : {H : Type 0} (ps : List (Value × Value)) → HeldPairs ps → Keeps {H = H} HeldValue (new_dict ps)
 new_dict_keeps ps h = keeps_then (keeps_new_object (of_dict ps) h) (λ r u. keeps_give (dict_value r) tt)
-
-extended_held : (c : Contents) (vs : List Value) → HeldContents c → HeldList vs → HeldContents (with_list (list_of_contents c ++ vs) c)
-extended_held (of_list ws) vs h k = more_held ws vs h k
-extended_held (of_dict ps) vs h k = h
-extended_held (of_box None) [] h k = tt
-extended_held (of_box None) (v ∷ vs) h k = k.0
-extended_held (of_box (Some w)) vs h k = h
-extended_held (of_function f) vs h k = h
-
-pub extend_keeps : {H : Type 0} (p : Place) (r : ℕ) (vs : List Value) → HeldList vs → Keeps {H = H} Anything (acting p (list_extend r vs))
-extend_keeps p r vs h = keeps_at_object p r (extend_members vs) (λ o k. did_unlocked _ o _ (extended_held o.contents vs k h))

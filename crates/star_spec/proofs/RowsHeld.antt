@@ -10,18 +10,19 @@ use Rattle.ytt_base.specs.declared.fault.FaultKind.{FaultKind}
 use Rattle.ytt_base.specs.declared.fault.FaultKind.TheVariants as kind
 use Rattle.code_spec.specs.Code.{UnaryOperator, negation, positive, inversion, logical_not, BinaryOperator, addition, subtraction, multiplication, floor_division, remainder, bit_and, bit_or, bit_xor, shift_left, shift_right, equal, unequal, less, greater, at_most, at_least, contained, not_contained}
 use Rattle.operator_spec.specs.Equality.{equal_texts, equal_pairs, equal_found, all_found, named_values, equal_scalars, and_then, equal_trees, equal_elements, equal_entries, Inside, equal_by, inside_at, equality, among}
+use Rattle.operator_spec.specs.Operators.{if_one, if_both, int_of, copies, repeated, tuple_of, cost_in, not_row, join_texts, join_tuples, join_lists, repeat_text, repeat_tuple, repeat_list, repeat_row, new_keys, join_dicts, union_row, number_of_range, extend_row, augment_row, unary_row, sum_row, difference_row, product_row, divided, bits_row, shifted, shift_row, is_part, part_of_text, contained_in, answered, denied, compared, binary_row}
+use Rattle.operator_spec.specs.Order.{Comparison, is_below, is_above, rank, are_comparable, each_sized, measured_by, measured_within, measured, order, comparison}
 use Rattle.star_spec.specs.Held.{HeldValue, HeldList}
 use Rattle.value_spec.specs.Built.{body_tree, fragment_body}
 use Rattle.value_spec.specs.Keys.{text_cost}
 use Rattle.value_spec.specs.Members.{as_int, as_text, as_tuple, as_list, as_dict, numbers_of, truth_in}
 use Rattle.value_spec.specs.Numbers.{range_count, at_least_zero, fits, complement, floor_quotient, floor_remainder, is_negative, is_zero, shifted_left, shifted_right}
-use Rattle.operator_spec.specs.Operators.{if_one, if_both, int_of, copies, repeated, tuple_of, cost_in, not_row, join_texts, join_tuples, join_lists, repeat_text, repeat_tuple, repeat_list, repeat_row, new_keys, join_dicts, union_row, number_of_range, extend_row, augment_row, unary_row, sum_row, difference_row, product_row, divided, bits_row, shifted, shift_row, is_part, part_of_text, contained_in, answered, denied, compared, binary_row}
-use Rattle.operator_spec.specs.Order.{Comparison, is_below, is_above, rank, are_comparable, each_sized, measured_by, measured_within, measured, order, comparison}
 use Rattle.value_spec.specs.Outcomes.{Computation, give, fail, not_built}
 use Rattle.value_spec.specs.Store.{value_of_key, put_pairs}
 use Rattle.value_spec.specs.Values.{Value, none_value, bool_value, int_value, text_value, tuple_value, range_value, struct_value, fragment_value, list_value, dict_value, function_value, module_value, native_value, values_in}
+use Rattle.star_spec.proofs.ActsKeep.{list_extend_keeps}
 use Rattle.star_spec.proofs.Keeping.{Keeps, Anything, keeps_then, keeps_give, keeps_fail, keeps_need, keeps_paid, keeps_steps, keeps_if, keeps_below, keeps_reads, may_change_keeps}
-use Rattle.star_spec.proofs.MembersHeld.{in_values, from_values, more_held, members_keep, list_keeps, pairs_keep, put_pairs_held, new_list_keeps, new_dict_keeps, extend_keeps}
+use Rattle.star_spec.proofs.MembersHeld.{in_values, from_values, more_held, members_keep, list_keeps, pairs_keep, put_pairs_held, new_list_keeps, new_dict_keeps}
 
 -- ---- what is read of operands
 
@@ -48,7 +49,7 @@ tuple_held _ vs e h = cc
 
 -- ---- integers and texts
 
-fits_signed : (z : ℤ) → fits z ≡ true → FitsSigned w128 z
+pub fits_signed : (z : ℤ) → fits z ≡ true → FitsSigned w128 z
 fits_signed (pos n) h = record { sfits = ltb-true _ _ h }
 fits_signed (negsuc n) h = record { sfits = ltb-true _ _ h }
 
@@ -243,7 +244,7 @@ inside_keeps (suc n) p =
       trees = trees_keep p (suc n);
     }
 
-equality_keeps : {H : Type 0} (p : Place) (a b : Value) → Keeps {H = H} Anything (equality p a b)
+pub equality_keeps : {H : Type 0} (p : Place) (a b : Value) → Keeps {H = H} Anything (equality p a b)
 equality_keeps p a b = equal_keeps (inside_at max_depth p) p a b (inside_keeps max_depth p)
 
 among_keeps : {H : Type 0} (p : Place) (v : Value) (vs : List Value) → Keeps {H = H} Anything (among p v vs)
@@ -317,11 +318,11 @@ binary_held p not_contained a b h k = denied_held (contained_in p a b) (containe
 
 -- ---- `+=` and kin
 
-extended_held : {H : Type 0} (p : Place) (r : ℕ) (v : Value) → HeldValue v → Keeps {H = H} HeldValue (extend_row p r v)
+pub extended_held : {H : Type 0} (p : Place) (r : ℕ) (v : Value) → HeldValue v → Keeps {H = H} HeldValue (extend_row p r v)
 extended_held p r v h =
     keeps_then (may_change_keeps p r) (λ u t.
     keeps_then (members_keep p v h) (λ ws k.
-    keeps_then (list_keeps r) (λ vs g. keeps_paid (length vs + length ws) p (keeps_then (extend_keeps p r ws k) (λ u t. keeps_give (list_value r) tt)))))
+    keeps_then (list_keeps r) (λ vs g. keeps_paid (length vs + length ws) p (keeps_then (list_extend_keeps p r ws k) (λ u t. keeps_give (list_value r) tt)))))
 
 pub augmented_held : {H : Type 0} (p : Place) (o : BinaryOperator) (a b : Value) → HeldValue a → HeldValue b → Keeps {H = H} HeldValue (augment_row p o a b)
 augmented_held p addition a b h k = keeps_one HeldValue (as_list a) (λ r. extend_row p r b) (sum_row p a b) (λ r e. extended_held p r b k) (sum_held p a b h k)
