@@ -6,6 +6,7 @@ use Rattle.ytt_base.specs.declared.fault.Fault.{Fault}
 use Rattle.ytt_base.specs.declared.fault.Place.{Place}
 use Rattle.ytt_base.specs.declared.fault.Stop.{Stop}
 use Rattle.ytt_base.specs.Outcomes.{fault_at, fault_of}
+use Rattle.builtin_spec.specs.Calls.{own_row}
 use Rattle.code_spec.specs.Blocks.{Ops}
 use Rattle.code_spec.specs.Allowed.{parameter_names}
 use Rattle.code_spec.specs.Code.{Name}
@@ -15,10 +16,10 @@ use Rattle.star_functions.specs.View.{code_of}
 use Rattle.star_functions.specs.declared.function.FunctionCode.{FunctionCode}
 use Rattle.star_functions.specs.declared.functions.Functions.{Functions}
 use Rattle.star_spec.specs.Binding.{scope_of_call}
-use Rattle.star_spec.specs.Calls.{Code, apply, call_with_natives, enter_code, function_call, no_natives, names_of, parameters_of, too_deep}
+use Rattle.star_spec.specs.Calls.{Code, apply, call_by_kind, call_with_natives, enter_code, function_call, native_call, no_keys, no_natives, names_of, parameters_of, too_deep, with_keys}
 use Rattle.star_spec.specs.Eval.{starlark}
 use Rattle.star_spec.specs.Flow.{Flow}
-use Rattle.star_spec.specs.Language.{Call}
+use Rattle.star_spec.specs.Language.{Call, Keyed, without_keys}
 use Rattle.star_calls.specs.Scope.{GivesScope}
 use Rattle.star_resolve.specs.Frames.{added}
 use Rattle.star_steps.specs.Meets.{state_in}
@@ -35,7 +36,7 @@ use Rattle.star_values.specs.Objects.{env_in}
 use Rattle.star_values.specs.Owns.{OwnsEnv, Grows}
 use Rattle.star_values.specs.declared.object.NamedBox.{NamedBox}
 use Rattle.template_meaning.specs.Calls.{bottom, enter_ops, level_of}
-use Rattle.value_spec.specs.Outcomes.{Computation, Ending, State, bad, fail, or_fail, or_ill_formed, then_do, ◌>>=◌}
+use Rattle.value_spec.specs.Outcomes.{Computation, Ending, State, bad, done, fail, give, or_fail, or_ill_formed, then_do, ◌>>=◌}
 use Rattle.value_spec.specs.Store.{function_at}
 use Rattle.value_spec.specs.Values as plain
 use Rattle.value_spec.specs.Values.{Arguments, Function, function_value, native_value, builtin, method, host_native, replacement}
@@ -44,7 +45,7 @@ use Rattle.star_eval.specs.declared.frame.Control.{Control}
 use Rattle.star_eval.specs.declared.frame.Control.TheVariants as control
 use Rattle.star_eval.specs.declared.frame.Frame.TheVariants as frame
 use Rattle.star_eval.specs.declared.frame.Machine.{Machine}
-use Rattle.star_eval.specs.Calling.{calls_at, native_refusal, table_of}
+use Rattle.star_eval.specs.Calling.{calls_at, table_of}
 use Rattle.star_eval.specs.Doing.{Nodes}
 use Rattle.star_eval.specs.Frames.{Goes, Opened, around_flow, around_value}
 use Rattle.star_eval.specs.Meets.{Here, state_of}
@@ -59,11 +60,24 @@ module _ (f : Call Here) (p : Place) (vs : Arguments) (s : State Here) where
   by_function zero r = refl
   by_function (suc n) r = refl
 
-  by_native : (n : ℕ) (x : plain.Native) → call_with_natives starlark no_natives f n p (native_value x) vs s ≡ bad (fault_at (native_refusal (native_value x)) p) s
-  by_native zero (builtin x) = refl
-  by_native (suc n) (builtin x) = refl
-  by_native zero (method x v) = refl
-  by_native (suc n) (method x v) = refl
+  -- a value that is given goes on as it is
+  unkeyed : (e : Ending Here plain.Value) (k : Keyed → Computation Here plain.Value) → ((v : plain.Value) → k (without_keys v) ≡ give v) → then_do (then_do e (λ v. give (without_keys v))) k ≡ e
+  unkeyed (done v t) k h = ap (λ m. m t) (h v)
+  unkeyed (bad d t) k h = refl
+
+  -- the call by which keys would be asked for
+  abbrev for_keys : ℕ → Call Here
+  for_keys zero = call_by_kind starlark f (native_call no_natives f zero) no_keys
+  for_keys (suc n) = call_by_kind starlark f (native_call no_natives (call_with_natives starlark no_natives f n) (suc n)) no_keys
+
+  own : (x : plain.Native) (call : Call Here) → then_do (then_do (own_row p (native_value x) vs s) (λ v. give (without_keys v))) (with_keys starlark call p (native_value x) vs) ≡ own_row p (native_value x) vs s
+  own x call = unkeyed (own_row p (native_value x) vs s) (with_keys starlark call p (native_value x) vs) (λ v. refl)
+
+  by_native : (n : ℕ) (x : plain.Native) → call_with_natives starlark no_natives f n p (native_value x) vs s ≡ own_row p (native_value x) vs s
+  by_native zero (builtin x) = own (builtin x) (for_keys zero)
+  by_native (suc n) (builtin x) = own (builtin x) (for_keys (suc n))
+  by_native zero (method x v) = own (method x v) (for_keys zero)
+  by_native (suc n) (method x v) = own (method x v) (for_keys (suc n))
   by_native zero (host_native x held) = refl
   by_native (suc n) (host_native x held) = refl
   by_native zero (replacement v) = refl
@@ -87,7 +101,7 @@ module _ (file : ℕ) (fs : Functions) (p : Place) (vs : Arguments) (s : State H
   nothing_called zero v h = by_nothing too_deep s.steps v h
   nothing_called (suc d) v h = by_nothing (function_call starlark ops_names (enter_ops starlark) (table_of file fs) (apply starlark no_natives ops_names (enter_ops starlark) (table_of file fs) d)) s.steps v h
 
-  pub native_called : (d : ℕ) (x : plain.Native) → calls_at file fs d p (native_value x) vs s ≡ bad (fault_at (native_refusal (native_value x)) p) s
+  pub native_called : (d : ℕ) (x : plain.Native) → calls_at file fs d p (native_value x) vs s ≡ own_row p (native_value x) vs s
   unfolding calls_at
   native_called zero x = by_native too_deep p vs s s.steps x
   native_called (suc d) x = by_native (function_call starlark ops_names (enter_ops starlark) (table_of file fs) (apply starlark no_natives ops_names (enter_ops starlark) (table_of file fs) d)) p vs s s.steps x
@@ -122,10 +136,6 @@ module _ (file : ℕ) (fs : Functions) (p : Place) (vs : Arguments) (s : State H
   pub found : (d r : ℕ) (g : Function) (c : FunctionCode) → (d ≡ 0 → ⊥) → function_at r s.store ≡ Some g → code_with g.number fs ≡ Some c → calls_at file fs d p (function_value r) vs s ≡
       (scope_of_call p (parameters_of (code_of file c)) (names_of ops_names (code_of file c)) g.defaults vs g.env >>= λ env. enter_code starlark (enter_ops starlark) (calls_at file fs (d - 1)) (code_of file c) env) s
   found d r g c z h some = called d r g z h ∙ ap (λ o. Entered (d - 1) g (option_map (code_of file) o)) some
-
-pub native_called_by : (a : View) (file : ℕ) (fs : Functions) (p : Place) (vs : Arguments) (s : State Here) (d : ℕ) (v : held_value.Value) (r : Ref) → v ≡ value.Native r →
-    calls_at file fs d p (value_of a v) vs s ≡ bad (fault_at (native_refusal (value_of a v)) p) s
-native_called_by a file fs p vs s d v r is = subst (λ v. calls_at file fs d p (value_of a v) vs s ≡ bad (fault_at (native_refusal (value_of a v)) p) s) (sym is) (native_called file fs p vs s d _)
 
 -- the scope of a call, by the parameters of its code
 pub scope_given : (file n r : ℕ) (g : Function) (code : FunctionCode) (params : List Param) (fresh : List Name) (p : Place) (vs : Arguments) (a b : View) (result : Result (List NamedBox) Stop) →

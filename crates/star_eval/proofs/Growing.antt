@@ -128,6 +128,7 @@ module _ (a b : View) (file : ℕ) (g : Grows a b) where
       ((owns_kept a b h g w.0, k.0), λ i. plain.argument p (value_kept a b h g w.0 i) (form_of f) (exprs_of file es.now) (k.1 i))
   in_value_kept (in_value.Default m ps vs) w = (owns_all_kept a b vs g w, ap (plain.default_of (making_of m) (parameters_of file ps.now)) (values_kept a b vs g w))
   in_value_kept (in_value.First p cs x) w = let k = bag_kept x w in (k.0, ap (plain.first_members p (clauses_of file cs.now)) k.1)
+  in_value_kept (in_value.Attribute p x) w = (tt, refl)
   in_value_kept (in_value.Unbuilt p) w = (tt, refl)
 
   in_statement_kept : (f : held_statement.InStatement) → OwnsInStatement a f → OwnsInStatement b f × (statement_frame b file f ≡ statement_frame a file f)

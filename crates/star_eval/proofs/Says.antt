@@ -9,7 +9,7 @@ use Rattle.code_spec.specs.Program.{NodePart, node_start, node_note, node_key, n
 use Rattle.index_spec.specs.Index.{index_row, set_index_row}
 use Rattle.index_spec.specs.Slices.{slice_row}
 use Rattle.node_build.specs.Parts.{noting}
-use Rattle.operator_spec.specs.Operators.{augment_row}
+use Rattle.builtin_spec.specs.Operators.{assignment_row}
 use Rattle.star_calls.specs.Arguments.{both, none_given}
 use Rattle.star_spec.specs.Eval.{assign_to, augment_to, built_so_far, clauses_in_turn, comprehend, eval, eval_arguments, eval_optional, members_of, starlark, truth_of, turn_pair}
 use Rattle.star_spec.specs.Flow.{Flow, on, out, Part, over_members, plain as as_part, worded}
@@ -123,21 +123,21 @@ module _ (c : Setting) where
 
   -- behind what is indexed
   index_changed : (o : plain.BinaryOperator) (q r : Place) (j e : plain.Expr) (x : Value) (k : Nodes) →
-      ((evaluated c j >>= λ y. index_row r x y >>= λ old. evaluated c e >>= λ v. augment_row q o old v >>= λ w. set_index_row r x y w) >>= λ u. give (on k))
+      ((evaluated c j >>= λ y. index_row r x y >>= λ old. evaluated c e >>= λ v. assignment_row q o old v >>= λ w. set_index_row r x y w) >>= λ u. give (on k))
       ≡ (evaluated c j >>= λ y. index_row r x y >>= λ old. evaluated c e >>= λ v. changed_at q o r x y old v k)
   index_changed o q r j e x k =
-      chained (evaluated c j) (λ y. index_row r x y >>= λ old. evaluated c e >>= λ v. augment_row q o old v >>= λ w. set_index_row r x y w) (λ u. give (on k))
-      ∙ (λ i. evaluated c j >>= λ y. chained (index_row r x y) (λ old. evaluated c e >>= λ v. augment_row q o old v >>= λ w. set_index_row r x y w) (λ u. give (on k)) i)
-      ∙ (λ i. evaluated c j >>= λ y. index_row r x y >>= λ old. chained (evaluated c e) (λ v. augment_row q o old v >>= λ w. set_index_row r x y w) (λ u. give (on k)) i)
-      ∙ (λ i. evaluated c j >>= λ y. index_row r x y >>= λ old. evaluated c e >>= λ v. chained (augment_row q o old v) (λ w. set_index_row r x y w) (λ u. give (on k)) i)
+      chained (evaluated c j) (λ y. index_row r x y >>= λ old. evaluated c e >>= λ v. assignment_row q o old v >>= λ w. set_index_row r x y w) (λ u. give (on k))
+      ∙ (λ i. evaluated c j >>= λ y. chained (index_row r x y) (λ old. evaluated c e >>= λ v. assignment_row q o old v >>= λ w. set_index_row r x y w) (λ u. give (on k)) i)
+      ∙ (λ i. evaluated c j >>= λ y. index_row r x y >>= λ old. chained (evaluated c e) (λ v. assignment_row q o old v >>= λ w. set_index_row r x y w) (λ u. give (on k)) i)
+      ∙ (λ i. evaluated c j >>= λ y. index_row r x y >>= λ old. evaluated c e >>= λ v. chained (assignment_row q o old v) (λ w. set_index_row r x y w) (λ u. give (on k)) i)
 
   augmented_says : (p : Place) (o : plain.BinaryOperator) (q : Place) (x e : plain.Expr) (k : Nodes) → augmented c o q x e k ≡ (augment_to c.call p o q x e c.env >>= λ u. give (on k))
   augmented_says p o q (plain.name r x) e k = sym (
-      chained (read_name r x (box_of x c.env)) (λ old. evaluated c e >>= λ v. augment_row q o old v >>= λ w. write_name r x w (box_of x c.env)) (λ u. give (on k))
-      ∙ (λ i. read_name r x (box_of x c.env) >>= λ old. chained (evaluated c e) (λ v. augment_row q o old v >>= λ w. write_name r x w (box_of x c.env)) (λ u. give (on k)) i)
-      ∙ (λ i. read_name r x (box_of x c.env) >>= λ old. evaluated c e >>= λ v. chained (augment_row q o old v) (λ w. write_name r x w (box_of x c.env)) (λ u. give (on k)) i))
+      chained (read_name r x (box_of x c.env)) (λ old. evaluated c e >>= λ v. assignment_row q o old v >>= λ w. write_name r x w (box_of x c.env)) (λ u. give (on k))
+      ∙ (λ i. read_name r x (box_of x c.env) >>= λ old. chained (evaluated c e) (λ v. assignment_row q o old v >>= λ w. write_name r x w (box_of x c.env)) (λ u. give (on k)) i)
+      ∙ (λ i. read_name r x (box_of x c.env) >>= λ old. evaluated c e >>= λ v. chained (assignment_row q o old v) (λ w. write_name r x w (box_of x c.env)) (λ u. give (on k)) i))
   augmented_says p o q (plain.index r a j) e k = sym (
-      chained (evaluated c a) (λ x. evaluated c j >>= λ y. index_row r x y >>= λ old. evaluated c e >>= λ v. augment_row q o old v >>= λ w. set_index_row r x y w) (λ u. give (on k))
+      chained (evaluated c a) (λ x. evaluated c j >>= λ y. index_row r x y >>= λ old. evaluated c e >>= λ v. assignment_row q o old v >>= λ w. set_index_row r x y w) (λ u. give (on k))
       ∙ (λ i. evaluated c a >>= λ x. index_changed o q r j e x k i))
   augmented_says p o q x e k = refl
 

@@ -11,7 +11,9 @@ use Rattle.code_spec.specs.Program.{NodePart, node_start, node_note, node_key, n
 use Rattle.index_spec.specs.Index.{index_row, set_index_row}
 use Rattle.index_spec.specs.Slices.{Cut, slice_row}
 use Rattle.node_build.specs.Parts.{ending, keying, noting, taking, valuing}
-use Rattle.operator_spec.specs.Operators.{augment_row, binary_row, unary_row}
+use Rattle.builtin_spec.specs.Attributes.{attribute_row}
+use Rattle.builtin_spec.specs.Operators.{assignment_row, operator_row}
+use Rattle.operator_spec.specs.Operators.{unary_row}
 use Rattle.star_calls.specs.Arguments.{Form, and_argument, both, by_name, none_given, positional, star, two_stars}
 use Rattle.star_spec.specs.Eval.{assign_each, assign_to, built_so_far, clauses_in_turn, comprehend, count_exprs, default_values, eval, eval_all, eval_arguments, eval_entries, eval_pieces, members_of, starlark, truth_of, turn_pair}
 use Rattle.star_spec.specs.Flow.{Flow, on, out, Part, over_members}
@@ -20,7 +22,7 @@ use Rattle.star_spec.specs.Names.{box_of, read_name, with_boxes, write_name}
 use Rattle.star_eval.specs.Meets.{Here}
 use Rattle.star_tree.specs.Whole.{Entry}
 use Rattle.template_meaning.specs.Run.{Node, node_part, on_top, opened, run, runs}
-use Rattle.value_spec.specs.Outcomes.{Computation, give, ill_formed, need, new_dict, new_list, new_object, not_built, paid, ◌>>=◌}
+use Rattle.value_spec.specs.Outcomes.{Computation, give, ill_formed, need, new_dict, new_list, new_object, paid, ◌>>=◌}
 use Rattle.value_spec.specs.Values.{Arguments, Env, function_value, int_value, none_value, of_function, text_value, tuple_value, Value, values_from}
 
 abbrev pub Nodes : Type 0
@@ -210,7 +212,7 @@ acted c p (plain.list q es) = all_evaluated c es >>= new_list
 acted c p (plain.tuple q es) = all_evaluated c es >>= λ vs. give (tuple_value (values_from vs))
 acted c p (plain.dict q es) = entries_done c p es []
 acted c p (plain.unary q o a) = evaluated c a >>= unary_row p o
-acted c p (plain.binary q o a b) = evaluated c a >>= λ x. evaluated c b >>= binary_row p o x
+acted c p (plain.binary q o a b) = evaluated c a >>= λ x. evaluated c b >>= operator_row p o x
 acted c p (plain.conjunction q a b) = evaluated c a >>= λ x. truth_of x >>= λ holds. if holds then evaluated c b else give x
 acted c p (plain.disjunction q a b) = evaluated c a >>= λ x. truth_of x >>= λ holds. if holds then give x else evaluated c b
 acted c p (plain.conditional q d a b) = evaluated c d >>= λ x. truth_of x >>= λ holds. if holds then evaluated c a else evaluated c b
@@ -220,7 +222,7 @@ acted c p (plain.starred q e) = ill_formed
 acted c p (plain.double_starred q e) = ill_formed
 acted c p (plain.index q a i) = evaluated c a >>= λ x. evaluated c i >>= index_row p x
 acted c p (plain.slice q a i j k) = evaluated c a >>= λ x. bound_then c i (λ y. bound_then c j (λ z. bound_then c k (λ w. slice_row p x (cut y z w))))
-acted c p (plain.attribute q a x) = evaluated c a >>= λ v. not_built p
+acted c p (plain.attribute q a x) = evaluated c a >>= λ v. attribute_row p v x
 acted c p (plain.lambda q n ps e) = making c (record { place = p; name = codes "lambda"; number = n }) ps []
 acted c p (plain.list_comprehension q e cs) = comprehended c p cs (values_bag e [])
 acted c p (plain.dict_comprehension q k v cs) = comprehended c p cs (pairs_bag k v [])
@@ -234,7 +236,7 @@ concluded m k = m >>= λ u. give (on k)
 
 -- what an operation gives for what a value had at an index goes there, at the end of a statement
 abbrev pub changed_at : {K : Type 0} → (operator_place : Place) → BinaryOperator → Place → (indexed index old value : Value) → Part Here K
-changed_at q o r x y old v k = augment_row q o old v >>= λ w. concluded (set_index_row r x y w) k
+changed_at q o r x y old v k = assignment_row q o old v >>= λ w. concluded (set_index_row r x y w) k
 
 -- the same with the value of an expression, which is worked out behind what was there
 abbrev pub augmented_in : {K : Type 0} → Setting → (operator_place : Place) → BinaryOperator → Place → (indexed index : Value) → Expr → (old : Value) → Part Here K
@@ -242,7 +244,7 @@ augmented_in c q o r x y e old k = evaluated c e >>= λ v. changed_at q o r x y 
 
 -- the parts of the target, what it had, then the value, and then what both give
 abbrev pub augmented : {K : Type 0} → Setting → BinaryOperator → (operator_place : Place) → (target value : Expr) → Part Here K
-augmented c o q (plain.name r x) e k = read_name r x (box_of x c.env) >>= λ old. evaluated c e >>= λ v. augment_row q o old v >>= λ w. write_name r x w (box_of x c.env) >>= λ u. give (on k)
+augmented c o q (plain.name r x) e k = read_name r x (box_of x c.env) >>= λ old. evaluated c e >>= λ v. assignment_row q o old v >>= λ w. write_name r x w (box_of x c.env) >>= λ u. give (on k)
 augmented c o q (plain.index r a i) e k = evaluated c a >>= λ x. evaluated c i >>= λ y. index_row r x y >>= λ old. augmented_in c q o r x y e old k
 augmented c o q _ e k = ill_formed
 

@@ -99,6 +99,7 @@ value_frame a file (in_value.Callee p es) = plain.callee p (exprs_of file es.now
 value_frame a file (in_value.Argument p g f es given) = plain.argument p (value_of a g) (form_of f) (exprs_of file es.now) (arguments_in a.held given)
 value_frame a file (in_value.Default k ps vs) = plain.default_of (making_of k) (parameters_of file ps.now) (values_of a vs)
 value_frame a file (in_value.First p cs b) = plain.first_members p (clauses_of file cs.now) (bag_of a file b)
+value_frame a file (in_value.Attribute p x) = plain.attribute_of p x.now
 value_frame a file (in_value.Unbuilt p) = plain.unbuilt p
 
 abbrev pub statement_frame : View → (file : ℕ) → held_statement.InStatement → plain.InStatement

@@ -8,7 +8,9 @@ use Rattle.code_spec.specs.Program.{ItemKind}
 use Rattle.value_spec.specs.Outcomes.{Computation, Ending, finally, give, ill_formed, new_list, not_built, on_store, then_do, ◌>>=◌}
 use Rattle.value_spec.specs.Store.{begin_loop, end_loop}
 use Rattle.value_spec.specs.Values.{Arguments, Env, Value, none_value, tuple_value, values_from}
-use Rattle.operator_spec.specs.Operators.{augment_row, binary_row, unary_row}
+use Rattle.builtin_spec.specs.Attributes.{attribute_row}
+use Rattle.builtin_spec.specs.Operators.{assignment_row, operator_row}
+use Rattle.operator_spec.specs.Operators.{unary_row}
 use Rattle.index_spec.specs.Index.{index_row, set_index_row}
 use Rattle.index_spec.specs.Slices.{slice_row}
 use Rattle.star_calls.specs.Arguments.{Form, none_given}
@@ -54,6 +56,7 @@ pub data InValue : Type 0 where
   argument : Place → (function : Value) → Form → Exprs → (before : Arguments) → InValue
   default_of : Making → Parameters → (before : List Value) → InValue
   first_members : Place → Clauses → Bag → InValue
+  attribute_of : Place → Name → InValue
   unbuilt : Place → InValue
 
 -- a value in a statement, or in a node
@@ -110,8 +113,8 @@ abbrev pub with_none : Computation Here Here → Computation Here Value
 with_none m = m >>= λ u. give none_value
 
 abbrev pub value_goes : Setting → InValue → Value → Computation Here Value
-value_goes c (right p o b) x = evaluated c b >>= binary_row p o x
-value_goes c (operate p o x) y = binary_row p o x y
+value_goes c (right p o b) x = evaluated c b >>= operator_row p o x
+value_goes c (operate p o x) y = operator_row p o x y
 value_goes c (operate_on p o) x = unary_row p o x
 value_goes c (member g es before) v = all_evaluated c es >>= λ ws. gathered g (before ++ v ∷ ws)
 value_goes c (and_then b) x = truth_of x >>= λ holds. if holds then evaluated c b else give x
@@ -132,12 +135,13 @@ value_goes c (callee p es) g = arguments_then c es none_given (c.call p g)
 value_goes c (argument p g form es before) v = argument_then c form es before (c.call p g) v
 value_goes c (default_of k ps before) v = making c k ps (before ++ v ∷ [])
 value_goes c (first_members p cs b) v = first_done c p cs b v
+value_goes c (attribute_of p x) v = attribute_row p v x
 value_goes c (unbuilt p) v = not_built p
 
 abbrev pub statement_goes : Setting → InStatement → Value → Part Here Nodes
 statement_goes c discard v k = give (on k)
 statement_goes c (assign_to p x) v k = assigned c p x v >>= λ u. give (on k)
-statement_goes c (augment q o p x old) v k = augment_row q o old v >>= λ w. write_name p x w (box_of x c.env) >>= λ u. give (on k)
+statement_goes c (augment q o p x old) v k = assignment_row q o old v >>= λ w. write_name p x w (box_of x c.env) >>= λ u. give (on k)
 statement_goes c (augment_of q o r i e) x k = evaluated c i >>= λ y. index_row r x y >>= λ old. augmented_in c q o r x y e old k
 statement_goes c (augment_at q o r x e) y k = index_row r x y >>= λ old. augmented_in c q o r x y e old k
 statement_goes c (augment_index q o r x y old) v k = changed_at q o r x y old v k

@@ -1,7 +1,7 @@
 // Assignments.
 ghost use Rattle.std.specs.Prelude.{◌≡◌, IfOk};
 ghost use Rattle.index_spec.specs.Index.{index_row, set_index_row};
-ghost use Rattle.operator_spec.specs.Operators.{augment_row};
+ghost use Rattle.builtin_spec.specs.Operators.{assignment_row};
 ghost use Rattle.star_spec.specs.Names.{box_of, write_name};
 ghost use Rattle.star_tree.specs.Whole.{binary_operator_of, expr_of, exprs_of};
 ghost use Rattle.star_values.specs.Owns.{Owns};
@@ -132,9 +132,9 @@ pub(crate) fn augmented<'p>(
     requires sound { Sound m.old }
     requires old { Owns (arena_in m.old) old }
     requires value { Owns (arena_in m.old) value }
-    ensures { GoesToFlow result m.new m.old (λ s. then_do (augment_row place (binary_operator_of op) (value_of (arena_in m.old) old) (value_of (arena_in m.old) value) s) (λ w. concluded (write_name at name.now w (box_of name.now (env_of m.old))) (nodes_in m.old))) }
+    ensures { GoesToFlow result m.new m.old (λ s. then_do (assignment_row place (binary_operator_of op) (value_of (arena_in m.old) old) (value_of (arena_in m.old) value) s) (λ w. concluded (write_name at name.now w (box_of name.now (env_of m.old))) (nodes_in m.old))) }
 {
-    match star_ops::augment(
+    match star_builtins::augment(
         &mut m.session.arena,
         &mut m.session.work,
         op,
@@ -206,7 +206,7 @@ pub(crate) fn augmented_at<'p>(
     ensures { GoesToFlow result m.new m.old (changed_at place (binary_operator_of op) at (value_of (arena_in m.old) indexed.0) (value_of (arena_in m.old) indexed.1) (value_of (arena_in m.old) old) (value_of (arena_in m.old) value) (nodes_in m.old)) }
 {
     let session = &mut m.session;
-    match star_ops::augment(&mut session.arena, &mut session.work, op, old, value, place) {
+    match star_builtins::augment(&mut session.arena, &mut session.work, op, old, value, place) {
         Ok(changed) => index_gets(m, at, indexed, changed),
         Err(Stop::Fault(fault)) => Ok(Control::Left(fault)),
         Err(Stop::Memory) => Err(Memory),

@@ -13,14 +13,15 @@ ghost use Rattle.star_values.specs.declared.value.Value.TheVariants as value;
 ghost use Rattle.template_meaning.specs.Calls.{enter_ops, level_of};
 ghost use Rattle.value_spec.specs.Values.{function_value};
 ghost use Rattle.star_eval.specs.declared.frame.Control.TheVariants as control;
-ghost use Rattle.star_eval.specs.Calling.{calls_at, native_refusal};
+ghost use Rattle.star_eval.specs.Calling.{calls_at};
 ghost use Rattle.star_eval.specs.Frames.{Goes, GoesToValue, Opened, ResultGiven, inside};
 ghost use Rattle.star_eval.specs.View.{OwnsCaller, OwnsFlow, Sound, arena_in, caller_of, setting_of, waiting_in};
 
 use crate::frame::{Caller, Control, Flow, Frame, Machine};
-use crate::machine::{failed, ill_formed};
+use crate::machine::{failed, ill_formed, settle};
 use node_build::Builder;
-use object_arena::{Answerer, Arena, Boxes, CallArgs, Ref, Shape, Value};
+use object_arena::{Boxes, CallArgs, Ref, Value};
+use star_builtins::own_call;
 use star_calls::call_scope;
 use star_functions::FunctionCode;
 use star_tree::ItemKind;
@@ -43,10 +44,7 @@ pub(crate) fn call<'p>(
 {
     match function {
         Value::Func(function) => call_function(m, place, function, args),
-        Value::Native(native) => {
-            let kind = native_refusal(&m.session.arena, native);
-            Ok(failed(m, kind, place))
-        }
+        Value::Native(native) => call_native(m, place, native, args),
         Value::None
         | Value::Bool(_)
         | Value::Int(_)
@@ -61,17 +59,25 @@ pub(crate) fn call<'p>(
     }
 }
 
-/// Why a native isn't called: the language's own aren't built yet, and no host knows any other.
-fn native_refusal(arena: &Arena, native: Ref) -> FaultKind
-    requires { Owns (seen arena.now) (value.Native native) }
-    ensures { result ≡ native_refusal (value_of (seen arena.now) (value.Native native)) }
+/// A call of a native: the language's own answer it, and no host knows any other.
+fn call_native<'p>(
+    m: &mut Machine<'p>,
+    place: Place,
+    native: Ref,
+    args: CallArgs,
+) -> Result<Control<'p>, Memory>
+    requires sound { Sound m.old }
+    requires native { Owns (arena_in m.old) (value.Native native) }
+    requires args { OwnsArguments (arena_in m.old) args }
+    ensures { GoesToValue result m.new m.old ((setting_of m.old).call place (value_of (arena_in m.old) (value.Native native)) (arguments_in (arena_in m.old).held args)) }
 {
-    match arena.shape(native) {
-        Shape::Native(Answerer::Language, _, _) => FaultKind::NotBuilt,
-        Shape::Native(Answerer::Host, _, _) => FaultKind::ValueKind,
-        Shape::Replacement(_) => FaultKind::ValueKind,
-        _ => unreachable!(),
-    }
+    settle(own_call(
+        &mut m.session.arena,
+        &mut m.session.work,
+        native,
+        args,
+        place,
+    ))
 }
 
 /// A call of a function. Where no more calls may stand in one another, it is `Depth`.

@@ -1,6 +1,8 @@
 // Expressions.
 ghost use Rattle.std.specs.Prelude.{◌≡◌, ◌++◌, [], codes, IfOk, option_map, ℕ};
-ghost use Rattle.operator_spec.specs.Operators.{binary_row, unary_row};
+ghost use Rattle.builtin_spec.specs.Attributes.{attribute_row};
+ghost use Rattle.builtin_spec.specs.Operators.{operator_row};
+ghost use Rattle.operator_spec.specs.Operators.{unary_row};
 ghost use Rattle.star_spec.specs.Names.{box_of, read_name};
 ghost use Rattle.star_tree.specs.Listed.{clauses_of, pieces_of};
 ghost use Rattle.star_tree.specs.Whole.{binary_operator_of, expr_of, exprs_of, parameters_of, unary_operator_of};
@@ -119,8 +121,8 @@ fn act<'p>(m: &mut Machine<'p>, place: Place, expr: &'p Expr) -> Result<Control<
             let frame = Frame::Value(InValue::Callee(place, args.as_slice()));
             push(m, frame, Control::Eval(function.get()))
         }
-        Expr::Dot(_, a, _) => {
-            let frame = Frame::Value(InValue::Unbuilt(place));
+        Expr::Dot(_, a, name) => {
+            let frame = Frame::Value(InValue::Attribute(place, name));
             push(m, frame, Control::Eval(a.get()))
         }
         Expr::Lambda(_, number, params, _) => lambda(m, place, *number, params.as_slice()),
@@ -240,11 +242,30 @@ fn literal<'p>(m: &mut Machine<'p>, text: &Text) -> Result<Control<'p>, Memory>
 }
 
 /// The value of a name.
-fn variable<'p>(m: &Machine<'p>, place: Place, name: &Text) -> Result<Control<'p>, Memory>
-    requires { Sound m.now }
-    ensures { GoesToValue result m.now m.now (read_name place name.now (box_of name.now (env_of m.now))) }
+fn variable<'p>(m: &mut Machine<'p>, place: Place, name: &Text) -> Result<Control<'p>, Memory>
+    requires { Sound m.old }
+    ensures { GoesToValue result m.new m.old (read_name place name.now (box_of name.now (env_of m.old))) }
 {
-    settle(read(&m.session, m.scope.as_slice(), place, name))
+    settle(read(&mut m.session, m.scope.as_slice(), place, name))
+}
+
+/// The attribute of a value.
+pub(crate) fn attribute<'p>(
+    m: &mut Machine<'p>,
+    place: Place,
+    name: &Text,
+    value: Value,
+) -> Result<Control<'p>, Memory>
+    requires sound { Sound m.old }
+    requires value { Owns (arena_in m.old) value }
+    ensures { GoesToValue result m.new m.old (attribute_row place (value_of (arena_in m.old) value) name.now) }
+{
+    settle(star_builtins::attribute(
+        &mut m.session.arena,
+        value,
+        name,
+        place,
+    ))
 }
 
 /// What these expressions are gathered into.
@@ -327,9 +348,9 @@ pub(crate) fn operated<'p>(
     requires sound { Sound m.old }
     requires left { Owns (arena_in m.old) left }
     requires right { Owns (arena_in m.old) right }
-    ensures { GoesToValue result m.new m.old (binary_row place (binary_operator_of op) (value_of (arena_in m.old) left) (value_of (arena_in m.old) right)) }
+    ensures { GoesToValue result m.new m.old (operator_row place (binary_operator_of op) (value_of (arena_in m.old) left) (value_of (arena_in m.old) right)) }
 {
-    settle(star_ops::binary(
+    settle(star_builtins::binary(
         &mut m.session.arena,
         &mut m.session.work,
         op,

@@ -100,6 +100,8 @@ pub(crate) enum InValue<'p> {
     Default(Making<'p>, &'p [Param], Values),
     /// The first members of a comprehension of these clauses.
     First(Place, &'p Items<Clause>, Bag<'p>),
+    /// The attribute of the value.
+    Attribute(Place, &'p Text),
     /// What isn't built yet.
     Unbuilt(Place),
 }

@@ -13,7 +13,7 @@ use crate::assign::{augment_at, augmented, augmented_at, name_gets, next_target}
 use crate::calls::restore;
 use crate::comprehensions::{first, give_element};
 use crate::dicts::pair;
-use crate::eval::{gather, operated, operated_on};
+use crate::eval::{attribute, gather, operated, operated_on};
 use crate::frame::{Control, Flow, Frame, InStatement, InValue, Machine};
 use crate::functions::make_function;
 use crate::indexes::give_index;
@@ -113,6 +113,7 @@ fn give_value<'p>(
             make_function(m, making, rest, defaults)
         }
         InValue::First(place, clauses, bag) => first(m, place, clauses, bag, value),
+        InValue::Attribute(place, name) => attribute(m, place, name, value),
         InValue::Unbuilt(place) => Ok(failed(m, FaultKind::NotBuilt, place)),
     }
 }

@@ -11,7 +11,7 @@ ghost use Rattle.star_eval.specs.Scope.{OwnsBox, position_of};
 
 use crate::session::Session;
 use object_arena::{Arena, NamedBox, Ref, Value};
-use star_steps::refusal;
+use star_builtins::own_function;
 use star_tree::names::is_own_function;
 use ytt_base::fault::{Fault, FaultKind, Place, Stop};
 use ytt_base::text::Text;
@@ -44,9 +44,9 @@ fn refused(kind: FaultKind, place: Place, name: &Text) -> Result<Value, Stop>
     }))
 }
 
-/// A name that has no box: one of the language's that is a value, or `NotBuilt` for one of its functions, or `NameUnknown`.
-fn unbound(arena: &Arena, place: Place, name: &Text) -> Result<Value, Stop>
-    ensures { (a : View) (n : ℕ) → Gives (unbound place name.now (constant name.now) (state_in a n)) result a a n }
+/// A name that has no box: one of the language's that is a value, or one of its functions, or `NameUnknown`.
+fn unbound(arena: &mut Arena, place: Place, name: &Text) -> Result<Value, Stop>
+    ensures { (n : ℕ) → Gives (unbound place name.now (constant name.now) (state_in (seen arena.old) n)) result (seen arena.old) (seen arena.new) n }
 {
     match name.as_str() {
         "None" => Ok(Value::None),
@@ -54,7 +54,7 @@ fn unbound(arena: &Arena, place: Place, name: &Text) -> Result<Value, Stop>
         "False" => Ok(Value::Bool(false)),
         other => {
             if is_own_function(other) {
-                Err(refusal(arena, FaultKind::NotBuilt, place))
+                Ok(own_function(arena, name)?)
             } else {
                 refused(FaultKind::NameUnknown, place, name)
             }
@@ -64,16 +64,16 @@ fn unbound(arena: &Arena, place: Place, name: &Text) -> Result<Value, Stop>
 
 /// The value of a name: that of its box, or `NameUnset` where the box has none; without a box as `unbound` says.
 pub(crate) fn read(
-    session: &Session,
+    session: &mut Session,
     scope: &[NamedBox],
     place: Place,
     name: &Text,
 ) -> Result<Value, Stop>
-    requires { OwnsEnv (seen session.now.arena) scope.now }
-    ensures { GivesFrom (read_name place name.now (box_of name.now (env_in (seen session.now.arena).held scope.now))) result session.now session.now }
+    requires { OwnsEnv (seen session.old.arena) scope.now }
+    ensures { GivesFrom (read_name place name.now (box_of name.now (env_in (seen session.old.arena).held scope.now))) result session.new session.old }
 {
     match find(&session.arena, scope, name) {
-        None => unbound(&session.arena, place, name),
+        None => unbound(&mut session.arena, place, name),
         Some(at) => match session.arena.boxed(at) {
             None => refused(FaultKind::NameUnset, place, name),
             Some(value) => Ok(value),

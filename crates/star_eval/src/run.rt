@@ -227,7 +227,7 @@ fn augment_name<'p>(
     requires { Sound m.old }
     ensures { GoesToFlow result m.new m.old (augmented (setting_of m.old) (binary_operator_of op) place (plain.name at name.now) (expr_of m.old.code.file expr.now) (nodes_in m.old)) }
 {
-    match read(&m.session, m.scope.as_slice(), at, name) {
+    match read(&mut m.session, m.scope.as_slice(), at, name) {
         Ok(old) => within(m, InStatement::Augment(place, op, at, name, old), expr),
         Err(Stop::Fault(fault)) => Ok(Control::Left(fault)),
         Err(Stop::Memory) => Err(Memory),

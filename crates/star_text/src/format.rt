@@ -37,8 +37,8 @@ pub(crate) enum Met {
 
 // ---- the argument of a field
 
-/// The argument of this name, if there is one.
-fn named_value(named: &[NamedValue], name: &str) -> Option<Value>
+/// The first value of this name, if there is one.
+pub fn named_value(named: &[NamedValue], name: &str) -> Option<Value>
     ensures value { (a : View) → option_in a.held result ≡ field_of name.now (fields_in a.held named.now) }
     ensures owned { (a : View) → OwnsFields a named.now → OwnsOption a result }
 {

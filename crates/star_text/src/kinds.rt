@@ -76,7 +76,7 @@ pub(crate) fn read_operands<'a>(
 }
 
 /// An argument, or None where there are fewer.
-fn argument(arena: &Arena, values: &[Value], place: usize) -> Value
+pub fn argument(arena: &Arena, values: &[Value], place: usize) -> Value
     requires { OwnsAll (seen arena.now) values.now }
     ensures value { value_of (seen arena.now) result ≡ value_at place (values_of (seen arena.now) values.now) }
     ensures owns { Owns (seen arena.now) result }

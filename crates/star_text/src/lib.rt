@@ -20,5 +20,9 @@ mod searches;
 mod table;
 
 pub use costs::{Count, pay_operation};
+pub use format::named_value;
+pub use kinds::argument;
 pub use method::text_method;
 pub use percent::text_percent;
+pub use searches::place_of;
+pub use table::has_method;

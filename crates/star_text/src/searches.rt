@@ -34,7 +34,7 @@ pub(crate) fn search<'a>(
 }
 
 /// A number as a place among so many: from the end where it is negative, and no further than the ends.
-fn place_of(count: usize, number: i128) -> usize
+pub fn place_of(count: usize, number: i128) -> usize
     ensures value { result ≡ place_of count number }
     ensures bound { result ≤ count }
 {

@@ -1,5 +1,5 @@
 // The table of the methods: which one a name is, what it takes, and as what.
-ghost use Rattle.std.specs.Prelude.{◌≡◌, map as each, option_map};
+ghost use Rattle.std.specs.Prelude.{◌≡◌, ◌||◌, bytes_eq, codes, is_some, map as each, option_map};
 ghost use Rattle.text_spec.specs.Methods.{method_in, text_methods};
 ghost use Rattle.star_text.specs.View.{kinds_of, method_of};
 
@@ -95,6 +95,13 @@ pub(crate) fn method_named(name: &str) -> Option<TextMethod>
         "isupper" => Some(TextMethod::Ask(Test::Upper)),
         _ => None,
     }
+}
+
+/// Whether texts have a method of this name, `format` among them.
+pub fn has_method(name: &str) -> bool
+    ensures { result ≡ (bytes_eq name.now (codes "format") || is_some (method_in name.now text_methods)) }
+{
+    name == "format" || method_named(name).is_some()
 }
 
 /// The parameters of a method: those that must be given, and those that may be; and as what each is read.

@@ -1,6 +1,6 @@
 use Rattle.std.proofs.Common.{◌≡◌, Err, subst, sym, ap, ◌∙◌}
 use Rattle.ytt_base.specs.declared.fault.Stop.{Stop}
-use Rattle.operator_spec.specs.Operators.{augment_row}
+use Rattle.builtin_spec.specs.Operators.{assignment_row}
 use Rattle.star_spec.specs.Names.{box_of, write_name}
 use Rattle.star_steps.specs.Meets.{Meets}
 use Rattle.star_tree.specs.Whole.{binary_operator_of}
@@ -37,7 +37,7 @@ returns-in-Err-Fault c =
     let s : Session = record { arena = c.augment.new.arena; work = c.augment.new.work } in
     let k = kept m s c.augment.ensures.row.grows c.requires.sound in
     let x = c.args.name.now in
-    let row = augment_row {H = Here} c.args.place (binary_operator_of c.args.op) (value_of (arena_in m) c.args.old) (value_of (arena_in m) c.args.value) in
+    let row = assignment_row {H = Here} c.args.place (binary_operator_of c.args.op) (value_of (arena_in m) c.args.old) (value_of (arena_in m) c.args.value) in
     let refused : row (state_of m.session) ≡ bad c.in-Err-Fault.fault (state_of s) = subst (λ (e : Stop). Meets (value_of (arena_of s)) (Err e) (state_of s) (row (state_of m.session))) c.in-Err-Fault.field-0-is c.in-Err-Fault.ensures.row.meaning in
     rw (c.in-Err-Fault.field-0-is) (record {
       same = (λ i. unwind_flow (k.setting i) (k.waiting i) (bad c.in-Err-Fault.fault (state_of s)))

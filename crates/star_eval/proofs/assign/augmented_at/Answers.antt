@@ -1,7 +1,7 @@
 use Rattle.std.proofs.Common.{◌≡◌, Err, subst, sym, ap, ◌∙◌}
 use Rattle.ytt_base.specs.declared.fault.Stop.{Stop}
 use Rattle.index_spec.specs.Index.{set_index_row}
-use Rattle.operator_spec.specs.Operators.{augment_row}
+use Rattle.builtin_spec.specs.Operators.{assignment_row}
 use Rattle.star_steps.specs.Meets.{Meets}
 use Rattle.star_tree.specs.Whole.{binary_operator_of}
 use Rattle.star_values.proofs.Growing.{owns_kept, value_kept}
@@ -48,7 +48,7 @@ returns-in-Err-Fault c =
     let a = arena_in m in
     let s : Session = record { arena = c.augment.new.arena; work = c.augment.new.work } in
     let k = kept m s c.augment.ensures.row.grows c.requires.sound in
-    let row = augment_row {H = Here} c.args.place (binary_operator_of c.args.op) (value_of a c.args.old) (value_of a c.args.value) in
+    let row = assignment_row {H = Here} c.args.place (binary_operator_of c.args.op) (value_of a c.args.old) (value_of a c.args.value) in
     let refused : row (state_of m.session) ≡ bad c.in-Err-Fault.fault (state_of s) = subst (λ (e : Stop). Meets (value_of (arena_of s)) (Err e) (state_of s) (row (state_of m.session))) c.in-Err-Fault.field-0-is c.in-Err-Fault.ensures.row.meaning in
     rw (c.in-Err-Fault.field-0-is) (record {
       same = (λ i. unwind_flow (k.setting i) (k.waiting i) (bad c.in-Err-Fault.fault (state_of s)))

@@ -2,23 +2,12 @@ use Rattle.std.proofs.Common.{◌≡◌, false, rules, ap, sym, ◌∙◌}
 use Rattle.ytt_base.specs.declared.fault.FaultKind.TheVariants as kind
 use Rattle.ytt_base.specs.Outcomes.{fault_at}
 use Rattle.star_values.specs.View.{arguments_in, value_of}
-use Rattle.star_eval.specs.Calling.{calls_at, native_refusal}
+use Rattle.star_eval.specs.Calling.{calls_at}
 use Rattle.star_eval.specs.Meets.{state_of}
 use Rattle.star_eval.specs.View.{arena_in}
 use Rattle.star_eval.specs.declared.frame.Control.TheVariants as control
-use Rattle.star_eval.proofs.Calling.{is_called, native_called_by, nothing_called, refused}
+use Rattle.star_eval.proofs.Calling.{is_called, nothing_called, refused}
 use Rattle.star_eval.proofs.calls.call.Goals as goal
-
-pub returns-in-Native : goal.returns-in-Native
-returns-in-Native c =
-    let m = c.args.m.now in
-    let a = arena_in m in
-    let p = c.args.place in
-    let v = value_of a c.args.function in
-    let vs = arguments_in a.held c.args.args in
-    refused m (calls_at m.code.file m.code.functions m.depth p v vs) (fault_at (native_refusal v) p) c.failed.result c.requires.sound
-    (c.failed.ensures ∙ ap (λ k. control.Failed (fault_at k p)) (c.native_refusal-kind.ensures ∙ ap (λ x. native_refusal (value_of a x)) (sym c.in-Native.is)))
-    (native_called_by a m.code.file m.code.functions p vs (state_of m.session) m.depth c.args.function c.in-Native.native c.in-Native.is)
 
 pub returns-in-None : goal.returns-in-None
 returns-in-None c =
@@ -27,5 +16,5 @@ returns-in-None c =
     let v = value_of a c.args.function in
     let vs = arguments_in a.held c.args.args in
     let other : is_called v ≡ false = search (rules, c.in-None.is) in
-    refused m (calls_at m.code.file m.code.functions m.depth c.args.place v vs) (fault_at kind.ValueKind c.args.place) c.failed-in-None.result c.requires.sound c.failed-in-None.ensures
+    refused m (calls_at m.code.file m.code.functions m.depth c.args.place v vs) (fault_at kind.ValueKind c.args.place) c.failed.result c.requires.sound c.failed.ensures
     (nothing_called m.code.file m.code.functions c.args.place vs (state_of m.session) m.depth v other)

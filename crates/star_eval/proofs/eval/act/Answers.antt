@@ -1,7 +1,7 @@
 use Rattle.std.proofs.Common.{◌≡◌, sym, ap, ◌∙◌}
 use Rattle.ytt_base.specs.Outcomes.{place_at}
 use Rattle.code_spec.specs.Code as plain
-use Rattle.operator_spec.specs.Operators.{binary_row}
+use Rattle.builtin_spec.specs.Operators.{operator_row}
 use Rattle.star_tree.proofs.Forms.{expr_of-Binary, expr_of-Index, expr_of-Slice}
 use Rattle.star_tree.specs.Listed.{optional_of}
 use Rattle.star_tree.specs.Whole.{binary_operator_of, expr_of}
@@ -22,7 +22,7 @@ returns-in-Binary c =
     let b = c.in-Binary in
     let is : expr_of m.code.file c.args.expr.now ≡ plain.binary (place_at m.code.file b.field-0) (binary_operator_of b.op) (expr_of m.code.file b.a) (expr_of m.code.file b.b) = ap (expr_of m.code.file) b.is ∙ expr_of-Binary m.code.file b.field-0 b.op b.a b.b in
     goes _ c.push-in-Binary.result c.push-in-Binary.new.m
-    ((λ i. around_value m (waiting_in m) (then_do (evaluated (setting_of m) (expr_of m.code.file (c.get-in-Binary-2.ensures i)) s) (λ x. evaluated (setting_of m) (expr_of m.code.file (c.get-in-Binary.ensures i)) >>= binary_row c.args.place (binary_operator_of b.op) x)))
+    ((λ i. around_value m (waiting_in m) (then_do (evaluated (setting_of m) (expr_of m.code.file (c.get-in-Binary-2.ensures i)) s) (λ x. evaluated (setting_of m) (expr_of m.code.file (c.get-in-Binary.ensures i)) >>= operator_row c.args.place (binary_operator_of b.op) x)))
     ∙ sym (ap (λ e. around_value m (waiting_in m) (acted (setting_of m) c.args.place e s)) is))
     c.push-in-Binary.ensures
 

@@ -9,5 +9,5 @@ use Rattle.star_eval.proofs.eval.variable.Goals as goal
 pub returns : goal.returns
 returns c =
     let m = c.args.m.now in
-    gives_on m m.session c.requires (read_name c.args.place c.args.name.now (box_of c.args.name.now (env_of m))) c.read.result c.settle.result
-    (subst (λ scope. GivesFrom (read_name c.args.place c.args.name.now (box_of c.args.name.now (env_in (arena_in m).held scope))) c.read.result m.session m.session) c.as_slice.ensures c.read.ensures) c.settle.ensures
+    gives_on m c.read.new.session c.requires (read_name c.args.place c.args.name.now (box_of c.args.name.now (env_of m))) c.read.result c.settle.result
+    (subst (λ scope. GivesFrom (read_name c.args.place c.args.name.now (box_of c.args.name.now (env_in (arena_in m).held scope))) c.read.result c.read.new.session m.session) c.as_slice.ensures c.read.ensures) c.settle.ensures

@@ -1,0 +1,7 @@
+mod Bound
+mod Changing
+mod Found
+mod Given
+mod Keying
+mod Listing
+mod Ranges
