@@ -1,5 +1,5 @@
 -- Methods that change a list or a dict: they are refused where it can't be changed; what is paid is followed by what changes.
-use Rattle.std.proofs.Common.{◌≡◌, ℕ, List, [], ◌∷◌, Result, Ok, Err, IfOk, refl, sym, ap, subst, ◌∙◌}
+use Rattle.std.proofs.Common.{◌≡◌, ℕ, List, Result, Ok, Err, IfOk, refl, sym, ap, subst, ◌∙◌}
 use Rattle.ytt_base.specs.declared.fault.Place.{Place}
 use Rattle.ytt_base.specs.declared.fault.Stop.{Stop}
 use Rattle.builtin_spec.specs.Lists.{changing}
@@ -15,7 +15,7 @@ use Rattle.star_values.specs.declared.object.ArenaStop.TheVariants as arena_stop
 use Rattle.star_values.specs.declared.value.Value.{Value}
 use Rattle.star_values.specs.declared.value.Value.TheVariants as value
 use Rattle.text_spec.specs.Answers.{paid_operation}
-use Rattle.value_spec.specs.Outcomes.{Computation, Ending, State, after_act, done, fail, give, refusal_kind, then_do}
+use Rattle.value_spec.specs.Outcomes.{Computation, Ending, after_act, done, fail, give, refusal_kind, then_do}
 use Rattle.value_spec.specs.Store.{Answer, Refusal, did, frozen, index_range, iterating, key_missing, may_change, refused}
 use Rattle.value_spec.specs.Values as plain
 

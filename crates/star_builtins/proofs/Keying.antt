@@ -1,5 +1,5 @@
 -- Rows of a dict whose key's size was taken.
-use Rattle.std.proofs.Common.{◌≡◌, ℕ, Bool, List, [], ◌∷◌, Option, Result, Ok, Err, refl, sym, ap, subst, ◌∙◌}
+use Rattle.std.proofs.Common.{◌≡◌, ℕ, Bool, List, ◌∷◌, Option, Result, Ok, Err, refl, sym, ap, subst, ◌∙◌}
 use Rattle.ytt_base.specs.declared.fault.Place.{Place}
 use Rattle.ytt_base.specs.declared.fault.Stop.{Stop}
 use Rattle.ytt_base.specs.declared.fault.Stop.TheVariants as stop
@@ -7,13 +7,13 @@ use Rattle.ytt_base.specs.declared.text.Memory.{Memory}
 use Rattle.builtin_spec.specs.Dicts.{first_taken, pair_value, pop_key_row, popitem_row, taken_or, value_in}
 use Rattle.object_arena.specs.Made.{Makes}
 use Rattle.operator_spec.specs.Order.{key_sized}
-use Rattle.star_steps.specs.Meets.{Gives, Meets, as_is, state_in}
+use Rattle.star_steps.specs.Meets.{Gives, state_in}
 use Rattle.star_steps.proofs.Meeting.{meets_same, meets_stop}
 use Rattle.star_values.proofs.Growing.{grows_then}
 use Rattle.star_values.specs.Owns.{Grows}
 use Rattle.star_values.specs.View.{View, value_of}
 use Rattle.star_values.specs.declared.value.Value.{Value}
-use Rattle.value_spec.specs.Outcomes.{Computation, Ending, acting, after_act, done, give, then_do, ◌>>=◌}
+use Rattle.value_spec.specs.Outcomes.{Ending, acting, after_act, done, give, then_do, ◌>>=◌}
 use Rattle.value_spec.specs.Store.{dict_remove, did, may_change, pairs_at, value_of_key}
 use Rattle.value_spec.specs.Values as plain
 

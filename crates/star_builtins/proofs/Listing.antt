@@ -1,5 +1,5 @@
 -- Methods of lists: the first member that equals a value, and what their rows come to.
-use Rattle.std.proofs.Common.{◌≡◌, ℕ, suc, ◌-◌, nat_le, ◌+◌, ◌<◌, ◌^◌, ◌+ℤ◌, FitsSigned, to_z, of_z, unwrap_or, ◌&&◌, arith, rules, ℤ, pos, slice_get, get_or, length, map, option_map, take, drop, subst, Bool, true, false, if◌then◌else◌, List, [], ◌∷◌, Option, Some, None, Result, Err, refl, sym, ap, ◌∙◌}
+use Rattle.std.proofs.Common.{◌≡◌, ℕ, suc, ◌-◌, nat_le, ◌+◌, ◌<◌, ◌^◌, ◌+ℤ◌, FitsSigned, to_z, of_z, unwrap_or, ◌&&◌, arith, rules, ℤ, pos, slice_get, get_or, length, option_map, take, drop, subst, Bool, true, if◌then◌else◌, List, [], ◌∷◌, Option, Some, None, Result, Err, refl, sym, ap, ◌∙◌}
 use Rattle.ytt_base.specs.declared.fault.FaultKind.TheVariants as kind
 use Rattle.ytt_base.specs.declared.fault.Place.{Place}
 use Rattle.ytt_base.specs.declared.fault.Stop.{Stop}

@@ -118,13 +118,7 @@ fn method_of(arena: &Arena, name: &Text, on: Value) -> Result<Own, Memory>
 /// What a call of one of the language's own functions or methods gives, each refusal at the place: `ArgBind` of arguments that don't
 /// fit, `ValueKind` of a value of another kind and of what is none of the language's own, `NotBuilt` of what isn't built yet, and
 /// what the function or the method itself refuses.
-pub fn own_call(
-    arena: &mut Arena,
-    work: &mut Work,
-    native: Ref,
-    args: CallArgs,
-    at: Place,
-) -> Given
+pub fn own_call(arena: &mut Arena, work: &mut Work, native: Ref, args: CallArgs, at: Place) -> Given
     requires native { Owns (seen arena.old) (value.Native native) }
     requires args { OwnsArguments (seen arena.old) args }
     ensures row { Gives (own_row at (value_of (seen arena.old) (value.Native native)) (arguments_in (seen arena.old).held args) (state_in (seen arena.old) work.old.steps)) result (seen arena.old) (seen arena.new) work.new.steps }
@@ -133,22 +127,14 @@ pub fn own_call(
     match own_of(arena, native)? {
         Own::Bound(bound) => call(arena, work, bound, args, at),
         Own::Range => range(arena, &args, at),
-        Own::OfText(name, text) => {
-            text_method(arena, work, Value::Text(text), &name, args, at)
-        }
+        Own::OfText(name, text) => { text_method(arena, work, Value::Text(text), &name, args, at) }
         Own::Unbuilt => Err(refusal(arena, FaultKind::NotBuilt, at)),
         Own::Other => Err(refusal(arena, FaultKind::ValueKind, at)),
     }
 }
 
 /// What a call gives whose arguments are bound before: `ArgBind` where they don't fit.
-fn call(
-    arena: &mut Arena,
-    work: &mut Work,
-    bound: Bound,
-    args: CallArgs,
-    at: Place,
-) -> Given
+fn call(arena: &mut Arena, work: &mut Work, bound: Bound, args: CallArgs, at: Place) -> Given
     requires bound { OwnsBound (seen arena.old) bound }
     requires args { OwnsArguments (seen arena.old) args }
     ensures row { Gives (taken_by bound at (arguments_in (seen arena.old).held args) (state_in (seen arena.old) work.old.steps)) result (seen arena.old) (seen arena.new) work.new.steps }

@@ -260,12 +260,7 @@ pub(crate) fn attribute<'p>(
     requires value { Owns (arena_in m.old) value }
     ensures { GoesToValue result m.new m.old (attribute_row place (value_of (arena_in m.old) value) name.now) }
 {
-    settle(star_builtins::attribute(
-        &mut m.session.arena,
-        value,
-        name,
-        place,
-    ))
+    settle(star_builtins::attribute(&mut m.session.arena, value, name, place))
 }
 
 /// What these expressions are gathered into.

@@ -19,6 +19,5 @@ pub use changes::set_index;
 pub use indexes::index;
 pub use key_text::{Shown, closed, push_integer, push_quoted};
 pub use keys::missing;
-pub use places::place_among;
 pub use slices::slice;
 pub use texts::append;

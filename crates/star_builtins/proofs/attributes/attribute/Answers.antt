@@ -2,7 +2,6 @@ use Rattle.std.proofs.Common.{◌≡◌, None, ap, rules, sym, ◌∙◌}
 use Rattle.builtin_spec.specs.Attributes.{attribute_of, attribute_row, or_missing}
 use Rattle.star_steps.proofs.Meeting.{gives_same}
 use Rattle.star_steps.proofs.Names.{seen, state_in, value_of}
-use Rattle.star_values.specs.View.{fields_in}
 use Rattle.value_spec.specs.Binding.{field_of}
 use Rattle.star_builtins.proofs.attributes.attribute.Goals as goal
 

@@ -1,4 +1,4 @@
-use Rattle.std.proofs.Common.{◌≡◌, ap, sym, ◌∙◌}
+use Rattle.std.proofs.Common.{ap, sym, ◌∙◌}
 use Rattle.star_steps.proofs.Meeting.{gives_same}
 use Rattle.star_steps.proofs.Names.{seen, state_in}
 use Rattle.star_values.specs.View.{arguments_in}

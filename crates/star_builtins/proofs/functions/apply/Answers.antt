@@ -1,6 +1,6 @@
 use Rattle.std.proofs.Common.{ap, ◌∙◌}
 use Rattle.star_steps.proofs.Meeting.{gives_same}
-use Rattle.star_steps.proofs.Names.{seen, state_in, value_of, values_of}
+use Rattle.star_steps.proofs.Names.{seen, state_in, values_of}
 use Rattle.builtin_spec.specs.Builtins.{length_row}
 use Rattle.star_builtins.specs.View.{function_gives}
 use Rattle.std.proofs.Common.{sym}

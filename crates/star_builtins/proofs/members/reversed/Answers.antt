@@ -1,7 +1,7 @@
 use Rattle.std.proofs.Common.{◌≡◌, ap, reverse, sym, ◌∙◌}
 use Rattle.indexmap.proofs.ReorderLemmas.{map-reverse}
 use Rattle.star_steps.proofs.Meeting.{gives_same}
-use Rattle.star_steps.proofs.Names.{new_list, seen, state_in, then_do, values_of}
+use Rattle.star_steps.proofs.Names.{new_list, seen, then_do, values_of}
 use Rattle.star_builtins.proofs.Found.{listed}
 use Rattle.star_builtins.proofs.members.reversed.Goals as goal
 

@@ -1,6 +1,6 @@
 use Rattle.std.proofs.Common.{◌≡◌, ap, length, pos, sym, ◌∙◌}
 use Rattle.star_steps.proofs.Meeting.{gives_same}
-use Rattle.star_steps.proofs.Names.{length-map, seen, state_in, value_of, values_of}
+use Rattle.star_steps.proofs.Names.{length-map, seen, state_in, values_of}
 use Rattle.value_spec.specs.Values.{int_value}
 use Rattle.star_builtins.specs.View.{of_integers}
 use Rattle.star_builtins.proofs.Ranges.{of_one, of_others, of_three, of_two, refused}

@@ -1,4 +1,4 @@
-use Rattle.std.proofs.Common.{◌≡◌, List, [], Some, ℤ, subst, sym}
+use Rattle.std.proofs.Common.{[], Some, ℤ, subst, sym}
 use Rattle.ytt_base.specs.declared.fault.FaultKind.TheVariants as kind
 use Rattle.builtin_spec.specs.Builtins.{integer_in_front, range_by, range_from}
 use Rattle.star_steps.proofs.Meeting.{gives_same}

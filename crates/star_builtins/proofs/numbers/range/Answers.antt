@@ -1,4 +1,4 @@
-use Rattle.std.proofs.Common.{◌≡◌, ap, sym, ◌∙◌}
+use Rattle.std.proofs.Common.{sym, ◌∙◌}
 use Rattle.builtin_spec.specs.Builtins.{range_row}
 use Rattle.star_steps.proofs.Meeting.{gives_same}
 use Rattle.star_steps.proofs.Names.{seen, state_in, values_from, values_of}
