@@ -89,7 +89,7 @@ truth_of_text = refl
 asked_for : refuses (call (codes "fail") (word (codes "no") ∷ [])) (record (fault_at kind.Failed first_place) { detail = codes "no" })
 asked_for = refl
 
-not_yet : refuses (call (codes "zip") []) (fault_at kind.NotBuilt first_place)
+not_yet : refuses (call (codes "sorted") []) (fault_at kind.NotBuilt first_place)
 not_yet = refl
 
 -- ---- operators
@@ -245,3 +245,30 @@ otherwise = refl
 
 no_attribute : refuses (call (codes "getattr") (word (codes "a") ∷ word (codes "title") ∷ [])) (record (fault_at kind.KeyMissing first_place) { detail = codes "title" })
 no_attribute = refl
+
+with_numbers : call (codes "enumerate") (tuple_of (int 7 ∷ int 8 ∷ []) ∷ int 3 ∷ []) (at 4 []) ≡ done (list_value 0) (at 0 (with_object (of_list (tuple_of (int 3 ∷ int 7 ∷ []) ∷ tuple_of (int 4 ∷ int 8 ∷ []) ∷ [])) []))
+with_numbers = refl
+
+two_at_a_time : call (codes "zip") (tuple_of (int 1 ∷ int 2 ∷ int 3 ∷ []) ∷ tuple_of (int 4 ∷ int 5 ∷ []) ∷ []) (at 7 []) ≡ done (list_value 0) (at 0 (with_object (of_list (tuple_of (int 1 ∷ int 4 ∷ []) ∷ tuple_of (int 2 ∷ int 5 ∷ []) ∷ [])) []))
+two_at_a_time = refl
+
+none_zipped : call (codes "zip") [] (at 0 []) ≡ done (list_value 0) (at 0 (with_object (of_list []) []))
+none_zipped = refl
+
+read_number : gives 0 (call (codes "int") (word (codes "-12") ∷ [])) (int_value (negsuc 11))
+read_number = refl
+
+read_in_base : gives 0 (call (codes "int") (word (codes "zZ") ∷ int 36 ∷ [])) (int 1295)
+read_in_base = refl
+
+no_prefix : refuses (call (codes "int") (word (codes "-0x1") ∷ int 16 ∷ [])) (fault_at kind.ValueKind first_place)
+no_prefix = refl
+
+no_digits : refuses (call (codes "int") (word (codes "+") ∷ [])) (fault_at kind.ValueKind first_place)
+no_digits = refl
+
+base_for_integer : refuses (call (codes "int") (int 5 ∷ int 10 ∷ [])) (fault_at kind.ValueKind first_place)
+base_for_integer = refl
+
+truth_as_integer : gives 0 (call (codes "int") (bool_value true ∷ [])) (int 1)
+truth_as_integer = refl

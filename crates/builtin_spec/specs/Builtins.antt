@@ -1,15 +1,19 @@
 -- The language's own functions.
-use Rattle.std.specs.Prelude.{ℕ, ◌*◌, ℤ, pos, neg_ℤ, nat_le, Bool, true, false, ◌&&◌, ◌||◌, List, [], ◌∷◌, length, reverse, Option, Some, None, codes, is_some, if◌then◌else◌}
+use Rattle.std.specs.Prelude.{ℕ, zero, suc, ◌+◌, ◌-◌, ◌*◌, min, ◌==◌, ℤ, pos, neg_ℤ, ◌+ℤ◌, nat_le, nat_lt, Bool, true, false, ◌&&◌, ◌||◌, List, [], ◌∷◌, length, reverse, drop, map as each, Option, Some, None, option_map, codes, is_some, if◌then◌else◌}
 use Rattle.ytt_base.specs.declared.fault.FaultKind.TheVariants as kind
 use Rattle.ytt_base.specs.declared.fault.Place.{Place}
 use Rattle.builtin_spec.specs.Attributes.{attribute_of, or_missing}
 use Rattle.builtin_spec.specs.Binding.{Own, is_given, own_in, taking}
 use Rattle.code_spec.specs.Code.{Name}
 use Rattle.operator_spec.specs.Operators.{int_of, tuple_of}
+use Rattle.builtin_spec.specs.Lists.{bound_in}
+use Rattle.index_spec.specs.Slices.{is_bound}
+use Rattle.text_spec.specs.Answers.{paid_operation}
+use Rattle.text_spec.specs.Classes.{is_all, is_digit, is_letter, lower_byte}
 use Rattle.text_spec.specs.Shown.{repr_of, str_of}
 use Rattle.text_spec.specs.Signatures.{value_at}
 use Rattle.value_spec.specs.Members.{as_int, as_text, count_in, members_in, truth_in}
-use Rattle.value_spec.specs.Numbers.{is_negative, is_zero}
+use Rattle.value_spec.specs.Numbers.{fits, is_negative, is_zero}
 use Rattle.value_spec.specs.Outcomes.{Computation, fail, fail_with, give, need, new_list, not_built, or_fail, paid_by, reads, ◌>>=◌}
 use Rattle.value_spec.specs.Values.{Value, none_value, bool_value, int_value, text_value, tuple_value, range_value, struct_value, fragment_value, list_value, dict_value, function_value, module_value, native_value, values_in, Fields, no_fields, a_field, Arguments, arguments, Store}
 
@@ -81,7 +85,94 @@ all_true store (v ∷ vs) = truth_in store v && all_true store vs
 abbrev pub test_row : {H : Type 0} → (Store → List Value → Bool) → Place → Value → Computation H Value
 test_row test p v = members_paid 1 p v >>= λ vs. reads (λ store. bool_value (test store vs))
 
+-- the members with their numbers, in tuples
+abbrev pub numbered : ℤ → List Value → List Value
+numbered z [] = []
+numbered z (v ∷ vs) = tuple_of (int_value z ∷ v ∷ []) ∷ numbered (z +ℤ pos 1) vs
+
+-- the number of the last of so many, if there is one, has 128 bits
+abbrev pub last_fits : ℤ → List Value → Bool
+last_fits z [] = true
+last_fits z (v ∷ vs) = fits (z +ℤ pos (length vs))
+
+-- a new list of the members with their numbers, from 0 or from a start on
+abbrev pub enumerate_row : {H : Type 0} → Place → (of start : Value) → Computation H Value
+enumerate_row p v start = do
+  u ← need kind.ValueKind p (is_bound start)
+  vs ← members_paid 2 p v
+  w ← need kind.IntOverflow p (last_fits (bound_in (pos 0) start) vs)
+  new_list (numbered (bound_in (pos 0) start) vs)
+
+-- ---- several values
+
+abbrev pub sum_of : List ℕ → ℕ
+sum_of [] = 0
+sum_of (n ∷ ns) = n + sum_of ns
+
+abbrev pub least_of : List ℕ → ℕ
+least_of [] = 0
+least_of (n ∷ []) = n
+least_of (n ∷ m ∷ ns) = min n (least_of (m ∷ ns))
+
+-- the first member of each that has one
+abbrev pub firsts : List (List Value) → List Value
+firsts [] = []
+firsts ([] ∷ vss) = firsts vss
+firsts ((v ∷ vs) ∷ vss) = v ∷ firsts vss
+
+-- so many tuples, each of the next member of each
+abbrev pub zipped : ℕ → List (List Value) → List Value
+zipped zero vss = []
+zipped (suc n) vss = tuple_of (firsts vss) ∷ zipped n (each (drop 1) vss)
+
+abbrev pub all_have_members : Store → List Value → Bool
+all_have_members store [] = true
+all_have_members store (v ∷ vs) = is_some (members_in store v) && all_have_members store vs
+
+-- it takes a step for each member of its operands and of the list that it gives
+abbrev pub zip_row : {H : Type 0} → Own H
+zip_row p (arguments vs (a_field x v fs)) = fail kind.ArgBind p
+zip_row p (arguments vs no_fields) = do
+  u ← reads (λ store. all_have_members store (values_in vs)) >>= need kind.ValueKind p
+  ns ← reads (λ store. each (count_in store) (values_in vs))
+  ws ← paid_by (sum_of ns + least_of ns) p (reads (λ store. zipped (least_of ns) (each (λ v. members_or_none (members_in store v)) (values_in vs))))
+  new_list ws
+
 -- ---- numbers
+
+-- what a byte is as a digit; 36 where it is none
+abbrev pub digit_of : ℕ → ℕ
+digit_of b = if is_digit b then b - 48 else if is_letter b then lower_byte b - 87 else 36
+
+abbrev pub number_of : (base so_far : ℕ) → List ℕ → ℕ
+number_of base n [] = n
+number_of base n (b ∷ t) = number_of base (n * base + digit_of b) t
+
+abbrev pub digits_read : (base : ℕ) → List ℕ → Option ℕ
+digits_read base t = if is_all (λ b. nat_lt (digit_of b) base) t then Some (number_of base 0 t) else None
+
+-- digits behind a sign, or without one
+abbrev pub integer_read : (base : ℕ) → List ℕ → Option ℤ
+integer_read base [] = None
+integer_read base (b ∷ t) =
+    if b == 45 then option_map (λ n. neg_ℤ (pos n)) (digits_read base t)
+    else if b == 43 then option_map pos (digits_read base t)
+    else option_map pos (digits_read base (b ∷ t))
+
+abbrev pub read_row : {H : Type 0} → Place → (base : ℕ) → List ℕ → Computation H Value
+read_row p base t = paid_operation p (text_value t ∷ []) 0 0 (or_fail kind.ValueKind p (integer_read base t) >>= int_of p)
+
+abbrev pub base_of : Value → Option ℕ
+base_of (int_value (pos n)) = if nat_le 2 n && nat_le n 36 then Some n else None
+base_of _ = None
+
+-- a text in a base, which is 10 where none is given; an integer, or a bool as 0 or 1
+abbrev pub integer_row : {H : Type 0} → Place → (of : Value) → (given : Bool) → (base : Value) → Computation H Value
+integer_row p (text_value t) true b = or_fail kind.ValueKind p (base_of b) >>= λ base. read_row p base t
+integer_row p (text_value t) false b = read_row p 10 t
+integer_row p (int_value z) false b = give (int_value z)
+integer_row p (bool_value c) false b = give (int_value (pos (if c then 1 else 0)))
+integer_row p _ given b = fail kind.ValueKind p
 
 abbrev pub absolute_row : {H : Type 0} → Place → Value → Computation H Value
 absolute_row p v = or_fail kind.ValueKind p (as_int v) >>= λ z. int_of p (if is_negative z then neg_ℤ z else z)
@@ -151,6 +242,8 @@ builtins =
     ∷ (codes "reversed", of_one reversed_row)
     ∷ (codes "any", of_one (test_row some_true)) ∷ (codes "all", of_one (test_row all_true))
     ∷ (codes "abs", of_one absolute_row) ∷ (codes "range", range_row)
+    ∷ (codes "enumerate", taking (codes "x" ∷ []) (codes "start" ∷ []) (λ p vs. enumerate_row p (value_at 0 vs) (value_at 1 vs))) ∷ (codes "zip", zip_row)
+    ∷ (codes "int", λ p args. taking (codes "x" ∷ []) (codes "base" ∷ []) (λ p vs. integer_row p (value_at 0 vs) (is_given 1 (codes "base") args) (value_at 1 vs)) p args)
     ∷ (codes "hasattr", taking (codes "x" ∷ codes "name" ∷ []) [] (λ p vs. has_attribute_row p (value_at 0 vs) (value_at 1 vs)))
     ∷ (codes "getattr", λ p args. taking (codes "x" ∷ codes "name" ∷ []) (codes "default" ∷ []) (λ p vs. get_attribute_row p (value_at 0 vs) (value_at 1 vs) (is_given 2 (codes "default") args) (value_at 2 vs)) p args)
     ∷ []
