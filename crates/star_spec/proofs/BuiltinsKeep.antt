@@ -1,33 +1,35 @@
 -- What the language's own functions and methods, and operators give is what the program holds.
-use Rattle.std.proofs.Common.{◌*◌, ℕ, pos, Bool, true, false, if◌then◌else◌, is_some, List, [], ◌∷◌, length, Option, Some, None, IsUtf8, codes, refl, sym, subst, FitsSigned, reverse, ℤ}
+use Rattle.std.proofs.Common.{◌≡◌, ◌+◌, ◌*◌, ℕ, zero, suc, pos, Bool, true, false, if◌then◌else◌, is_some, List, [], ◌∷◌, length, Option, Some, None, IsUtf8, codes, refl, sym, subst, FitsSigned, reverse, ℤ, map, drop, arith}
+use Rattle.std.proofs.lemmas.Int.{ints}
 use Rattle.std.proofs.lemmas.List.{reverse-append}
 use Rattle.std.specs.Int.{w128}
-use Rattle.std.specs.Prelude.{neg_ℤ}
+use Rattle.std.specs.Prelude.{neg_ℤ, ◌+ℤ◌}
 use Rattle.ytt_base.specs.declared.fault.FaultKind.TheVariants as kind
 use Rattle.ytt_base.specs.declared.fault.Place.{Place}
 use Rattle.builtin_spec.specs.Attributes.{attribute_of}
 use Rattle.builtin_spec.specs.Binding.{Own, is_given, own_in}
-use Rattle.builtin_spec.specs.Builtins.{builtins, failure_row, length_row, row_of, text_given, truth_row, type_name, members_or_none, members_paid, list_row, tuple_row, some_true, all_true, reversed_row, test_row, absolute_row, range_by, range_from, integer_in_front, all_integers, range_arguments, range_row, name_then, has_attribute_row, attribute_or, get_attribute_row, of_one}
+use Rattle.builtin_spec.specs.Builtins.{builtins, failure_row, length_row, row_of, text_given, truth_row, type_name, members_or_none, members_paid, list_row, tuple_row, some_true, all_true, reversed_row, test_row, numbered, last_fits, enumerate_row, sum_of, least_of, firsts, zipped, all_have_members, zip_row, integer_read, read_row, base_of, integer_row, absolute_row, range_by, range_from, integer_in_front, all_integers, range_arguments, range_row, name_then, has_attribute_row, attribute_or, get_attribute_row, of_one}
 use Rattle.builtin_spec.specs.Calls.{own_method, own_row}
 use Rattle.builtin_spec.specs.Dicts.{dict_methods}
-use Rattle.builtin_spec.specs.Lists.{list_methods}
+use Rattle.builtin_spec.specs.Lists.{bound_in, list_methods}
 use Rattle.builtin_spec.specs.Operators.{assignment_row, filled_or, operator_row}
 use Rattle.code_spec.specs.Code.{Name, BinaryOperator, remainder}
+use Rattle.index_spec.specs.Slices.{is_bound}
 use Rattle.operator_spec.specs.Operators.{augment_row, binary_row, tuple_of}
-use Rattle.star_spec.specs.Held.{HeldValue, HeldList, HeldArguments, HeldNumbers}
+use Rattle.star_spec.specs.Held.{HeldValue, HeldList, HeldArguments, HeldNumbers, HeldStore}
 use Rattle.text_spec.specs.Signatures.{value_at}
 use Rattle.value_spec.specs.Members.{as_text, count_in, members_in, truth_in, as_int}
-use Rattle.value_spec.specs.Numbers.{is_negative, is_zero}
+use Rattle.value_spec.specs.Numbers.{fits, is_negative, is_zero}
 use Rattle.value_spec.specs.Outcomes.{◌>>=◌, Computation, reads, need}
-use Rattle.value_spec.specs.Values.{Value, none_value, bool_value, int_value, text_value, tuple_value, range_value, struct_value, fragment_value, list_value, dict_value, function_value, module_value, native_value, builtin, method, values_in, Arguments, arguments, Store}
+use Rattle.value_spec.specs.Values.{Value, none_value, bool_value, int_value, text_value, tuple_value, range_value, struct_value, fragment_value, list_value, dict_value, function_value, module_value, native_value, builtin, method, values_in, no_fields, a_field, Arguments, arguments, Store}
 use Rattle.star_spec.proofs.AttributesKeep.{attribute_held}
 use Rattle.star_spec.proofs.BindingsKeep.{◌also◌, AllKeep, none_keep, OwnKeeps, nth_held, seeing_keeps, taking_keeps}
 use Rattle.star_spec.proofs.DictsKeep.{dict_methods_keep}
-use Rattle.star_spec.proofs.FillingKeeps.{percent_keeps}
-use Rattle.star_spec.proofs.Keeping.{IfFound, found_one, Keeps, Anything, keeps_then, keeps_give, keeps_fail, keeps_need, keeps_if, keeps_or_fail, keeps_reads, keeps_paid}
+use Rattle.star_spec.proofs.FillingKeeps.{paid_keeps, percent_keeps}
+use Rattle.star_spec.proofs.Keeping.{IfFound, found_one, Keeps, Anything, keeps_then, keeps_give, keeps_fail, keeps_need, keeps_if, keeps_or_fail, keeps_reads, keeps_paid, needed}
 use Rattle.star_spec.proofs.ListsKeep.{list_methods_keep}
-use Rattle.star_spec.proofs.MembersHeld.{from_values, in_values, members_held, new_list_keeps, more_held}
-use Rattle.star_spec.proofs.RangesHeld.{range_held}
+use Rattle.star_spec.proofs.MembersHeld.{from_values, in_values, last_members, members_held, new_list_keeps, more_held}
+use Rattle.star_spec.proofs.RangesHeld.{between_fits, range_held}
 use Rattle.star_spec.proofs.RowsHeld.{augmented_held, binary_held, int_of_held, fits_signed}
 use Rattle.star_spec.proofs.TextMethodsKeep.{method_keeps}
 use Rattle.star_spec.proofs.TextsKeep.{low_utf8, repr_keeps, str_keeps}
@@ -96,7 +98,73 @@ reversed_keeps p v h = keeps_then (members_paid_keeps 2 p v h) (λ vs k. new_lis
 test_keeps : {H : Type 0} (test : Store → List Value → Bool) (p : Place) (v : Value) → HeldValue v → Keeps {H = H} HeldValue (test_row test p v)
 test_keeps test p v h = keeps_then (members_paid_keeps 1 p v h) (λ vs k. keeps_reads (λ store. bool_value (test store vs)) (λ store g. tt))
 
+-- where the first number and the last have 128 bits, each has
+numbered_held : (z : ℤ) (vs : List Value) → FitsSigned w128 z → last_fits z vs ≡ true → HeldList vs → HeldList (numbered z vs)
+numbered_held z [] f e h = tt
+numbered_held z (v ∷ []) f e h = ((f, (h.0, tt)), tt)
+numbered_held z (v ∷ w ∷ vs) f e h =
+    let same : z +ℤ pos (suc (length vs)) ≡ (z +ℤ pos 1) +ℤ pos (length vs) = omega (arith, ints) in
+    let next : FitsSigned w128 (z +ℤ pos 1) = between_fits z (z +ℤ pos 1) (z +ℤ pos (suc (length vs))) (omega (arith, ints)) (omega (arith, ints)) f (fits_signed _ e) in
+    ((f, (h.0, tt)), numbered_held (z +ℤ pos 1) (w ∷ vs) next (subst (λ y. fits y ≡ true) same e) h.1)
+
+start_held : (v : Value) → HeldValue v → FitsSigned w128 (bound_in (pos 0) v)
+start_held (int_value z) h = h
+start_held _ h = fits_signed (pos 0) refl
+
+enumerate_keeps : {H : Type 0} (p : Place) (v start : Value) → HeldValue v → HeldValue start → Keeps {H = H} HeldValue (enumerate_row p v start)
+enumerate_keeps p v start h k =
+    keeps_then (keeps_need kind.ValueKind p (is_bound start)) (λ u t.
+    keeps_then (members_paid_keeps 2 p v h) (λ vs g.
+    keeps_then (needed kind.IntOverflow p (last_fits (bound_in (pos 0) start) vs)) (λ u e.
+    new_list_keeps (numbered (bound_in (pos 0) start) vs) (numbered_held (bound_in (pos 0) start) vs (start_held start k) e g))))
+
+-- ---- several values
+
+-- the values of several lists are held
+abbrev AllHeld : List (List Value) → Type 0
+AllHeld [] = Unit {0}
+AllHeld (vs ∷ vss) = HeldList vs × AllHeld vss
+
+-- what is taken of each, and the tuples of it
+firsts_held : (vss : List (List Value)) → AllHeld vss → HeldList (firsts vss)
+firsts_held [] h = tt
+firsts_held ([] ∷ vss) h = firsts_held vss h.1
+firsts_held ((v ∷ vs) ∷ vss) h = (h.0.0, firsts_held vss h.1)
+
+behind_held : (vss : List (List Value)) → AllHeld vss → AllHeld (map (drop 1) vss)
+behind_held [] h = tt
+behind_held (vs ∷ vss) h = (last_members 1 vs h.0, behind_held vss h.1)
+
+zipped_held : (n : ℕ) (vss : List (List Value)) → AllHeld vss → HeldList (zipped n vss)
+zipped_held zero vss h = tt
+zipped_held (suc n) vss h = (from_values (firsts vss) (firsts_held vss h), zipped_held n (map (drop 1) vss) (behind_held vss h))
+
+all_members_held : (store : Store) (vs : List Value) → HeldStore store → HeldList vs → AllHeld (map (λ v. members_or_none (members_in store v)) vs)
+all_members_held store [] g h = tt
+all_members_held store (v ∷ vs) g h = (members_or_held (members_in store v) (members_held store v g h.0), all_members_held store vs g h.1)
+
+zip_keeps : {H : Type 0} → OwnKeeps (zip_row {H = H})
+zip_keeps {H = H} = record { by = by } where
+  by : (p : Place) (args : Arguments) → HeldArguments args → Keeps {H = H} HeldValue (zip_row p args)
+  by p (arguments vs (a_field x v fs)) h = keeps_fail kind.ArgBind p []
+  by p (arguments vs no_fields) h =
+      keeps_then (keeps_then {P = Anything} (keeps_reads (λ store. all_have_members store (values_in vs)) (λ store g. tt)) (λ b t. keeps_need kind.ValueKind p b)) (λ u t.
+      keeps_then {P = Anything} (keeps_reads (λ store. map (count_in store) (values_in vs)) (λ store g. tt)) (λ ns t.
+      keeps_then (keeps_paid (sum_of ns + least_of ns) p
+      (keeps_reads (λ store. zipped (least_of ns) (map (λ v. members_or_none (members_in store v)) (values_in vs))) (λ store g. zipped_held (least_of ns) _ (all_members_held store (values_in vs) g (in_values vs h.0))))) new_list_keeps))
+
 -- ---- numbers
+
+read_keeps : {H : Type 0} (p : Place) (base : ℕ) (t : List ℕ) → Keeps {H = H} HeldValue (read_row p base t)
+read_keeps p base t = paid_keeps p (text_value t ∷ []) 0 0 (keeps_then {P = Anything} (keeps_or_fail kind.ValueKind p (integer_read base t) (λ z e. tt)) (λ z u. int_of_held p z))
+
+integer_keeps : {H : Type 0} (p : Place) (v : Value) (given : Bool) (b : Value) → HeldValue v → Keeps {H = H} HeldValue (integer_row p v given b)
+integer_keeps p (text_value t) true b h = keeps_then {P = Anything} (keeps_or_fail kind.ValueKind p (base_of b) (λ n e. tt)) (λ n u. read_keeps p n t)
+integer_keeps p (text_value t) false b h = read_keeps p 10 t
+integer_keeps p (int_value z) false b h = keeps_give (int_value z) h
+integer_keeps p (bool_value true) false b h = keeps_give (int_value (pos 1)) (fits_signed (pos 1) refl)
+integer_keeps p (bool_value false) false b h = keeps_give (int_value (pos 0)) (fits_signed (pos 0) refl)
+integer_keeps p v given b h = keeps_fail kind.ValueKind p []
 
 absolute_keeps : {H : Type 0} (p : Place) (v : Value) → Keeps {H = H} HeldValue (absolute_row p v)
 absolute_keeps p v = keeps_then {P = Anything} (keeps_or_fail kind.ValueKind p (as_int v) (λ z e. tt)) (λ z t. int_of_held p (if is_negative z then neg_ℤ z else z))
@@ -165,6 +233,9 @@ builtins_keep =
     one_keeps _ (test_keeps all_true) also
     one_keeps _ (λ p v h. absolute_keeps p v) also
     range_keeps also
+    taking_keeps (codes "x" ∷ []) (codes "start" ∷ []) (λ p vs h. enumerate_keeps p (value_at 0 vs) (value_at 1 vs) (nth_held 0 vs h) (nth_held 1 vs h)) also
+    zip_keeps also
+    seeing_keeps (λ args. taking_keeps (codes "x" ∷ []) (codes "base" ∷ []) (λ p vs h. integer_keeps p (value_at 0 vs) (is_given 1 (codes "base") args) (value_at 1 vs) (nth_held 0 vs h))) also
     taking_keeps (codes "x" ∷ codes "name" ∷ []) [] (λ p vs h. has_attribute_keeps p (value_at 0 vs) (value_at 1 vs)) also
     seeing_keeps (λ args. taking_keeps (codes "x" ∷ codes "name" ∷ []) (codes "default" ∷ []) (λ p vs h. get_attribute_keeps p (value_at 0 vs) (value_at 1 vs) (is_given 2 (codes "default") args) (value_at 2 vs) (nth_held 0 vs h) (nth_held 2 vs h))) also
     none_keep

@@ -10,13 +10,13 @@ use Rattle.text_spec.specs.Answers.{paid_operation, operation_cost}
 use Rattle.text_spec.specs.Fields.{Met, none_met, by_turn, by_number, Which, next_one, numbered, named, no_which, Field, argument_for, at_place, begins, cut_at, field_filled, field_in, format, formatted, found, is_shown, onto_first, opened, values_of_fields}
 use Rattle.text_spec.specs.Percent.{Conversion, by_str, by_repr, by_decimal, by_base, percent_sign, of_float, no_conversion, at_end, by_conversion, by_next, conversion_of, converted, filled, in_base, integer_by, percent_row, text_before, values_for}
 use Rattle.value_spec.specs.Binding.{field_of, has_twice}
-use Rattle.value_spec.specs.Outcomes.{Computation, fail, fail_with, need}
+use Rattle.value_spec.specs.Outcomes.{Computation, fail, fail_with}
 use Rattle.value_spec.specs.Values.{Value, int_value, text_value, tuple_value, Values, values_in, Fields, Arguments, arguments}
 use Rattle.index_spec.specs.KeyTexts.{integer_text}
 use Rattle.text_spec.proofs.Characters.{AreInner, IsHigh, each_character}
 use Rattle.text_spec.proofs.Filling.{AllPass, is_no_brace, is_plain, one_filled, one_formatted}
 use Rattle.star_spec.proofs.BindingsKeep.{field_held}
-use Rattle.star_spec.proofs.Keeping.{IfFound, Keeps, Anything, keeps_then, keeps_give, keeps_fail, keeps_need, keeps_paid, keeps_if, keeps_reads, keeps_weaker}
+use Rattle.star_spec.proofs.Keeping.{IfFound, Keeps, Anything, keeps_then, keeps_give, keeps_fail, keeps_need, keeps_paid, keeps_if, keeps_reads, keeps_weaker, needed}
 use Rattle.star_spec.proofs.MembersHeld.{in_values, member_held}
 use Rattle.star_spec.proofs.TextsKeep.{byte_utf8, digits_utf8, integer_utf8, repr_keeps, str_keeps}
 
@@ -203,10 +203,6 @@ shown_writes : (c : Conversion) → is_shown c ≡ true → Writes c
 shown_writes (by_base base capitals) e = cc
 shown_writes c e = tt
 
-needed : {H : Type 0} (p : Place) (b : Bool) → Keeps {H = H} (λ u. b ≡ true) (need kind.ValueKind p b)
-needed p true = keeps_give tt refl
-needed p false = keeps_fail kind.ValueKind p []
-
 module _ (H : Type 0) (p : Place) (vs : Values) (fs : Fields) (values : HeldValues vs) (fields : HeldFields fs) where
   place_keeps : (n : ℕ) (met : Met) → Keeps {H = H} FirstHeld (at_place p n met (values_in vs))
   place_keeps n met = found_keeps (fail kind.IndexRange p) (slice_get (values_in vs) n) met (member_held (values_in vs) n (in_values vs values)) (keeps_fail kind.IndexRange p [])
@@ -223,7 +219,7 @@ module _ (H : Type 0) (p : Place) (vs : Values) (fs : Fields) (values : HeldValu
 
   field_keeps : (met : Met) (f : Field) → Keeps {H = H} FirstUtf8 (field_filled p vs fs met f)
   field_keeps met f =
-      keeps_then (needed p (is_shown f.conversion)) (λ u e. keeps_then (argument_keeps met f.which) (λ v h. keeps_then (converted_keeps p f.conversion v.0 (shown_writes f.conversion e) h) (λ t w. keeps_give (t, v.1) w)))
+      keeps_then (needed kind.ValueKind p (is_shown f.conversion)) (λ u e. keeps_then (argument_keeps met f.which) (λ v h. keeps_then (converted_keeps p f.conversion v.0 (shown_writes f.conversion e) h) (λ t w. keeps_give (t, v.1) w)))
 
   -- what is made of this text, whichever kinds of fields were met
   abbrev Formats : List ℕ → Type 0

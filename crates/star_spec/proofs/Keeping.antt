@@ -64,6 +64,11 @@ pub keeps_need : {H : Type 0} (k : FaultKind) (p : Place) (b : Bool) → Keeps {
 keeps_need k p true = keeps_give tt tt
 keeps_need k p false = keeps_fail k p []
 
+-- what is needed holds then
+pub needed : {H : Type 0} (k : FaultKind) (p : Place) (b : Bool) → Keeps {H = H} (λ u. b ≡ true) (need k p b)
+needed k p true = keeps_give tt refl
+needed k p false = keeps_fail k p []
+
 kept_taken : {H : Type 0} (b : Bool) (n : ℕ) (p : Place) (s : State H) → HeldStore s.store → Kept Anything (take_if b n p s)
 kept_taken true n p s h = (tt, h)
 kept_taken false n p s h = h

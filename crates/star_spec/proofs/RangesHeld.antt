@@ -47,7 +47,7 @@ comes_before (pos n) k i h below = omega (arith, ints, suc-mul i k, mul-le-mul_r
 comes_before (negsuc n) k i h below = absurd (omega arith)
 
 -- a number between two of 128 bits has 128 bits
-between_fits : (a z b : ℤ) → a ≤ℤ z → z ≤ℤ b → FitsSigned w128 a → FitsSigned w128 b → FitsSigned w128 z
+pub between_fits : (a z b : ℤ) → a ≤ℤ z → z ≤ℤ b → FitsSigned w128 a → FitsSigned w128 b → FitsSigned w128 z
 between_fits (pos a) (pos z) (pos b) h k f g = record { sfits = omega (arith, ints, g.sfits) }
 between_fits (pos a) (pos z) (negsuc b) h k f g = absurd (omega (arith, ints))
 between_fits (pos a) (negsuc z) b h k f g = absurd (omega (arith, ints))
