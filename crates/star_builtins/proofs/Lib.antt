@@ -5,3 +5,6 @@ mod Given
 mod Keying
 mod Listing
 mod Ranges
+mod Reading
+mod Sequencing
+mod Tables

@@ -1,3 +1,5 @@
 pub mod Changes
 pub mod Listing
+pub mod Reading
+pub mod Turns
 pub mod View

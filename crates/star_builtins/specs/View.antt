@@ -3,7 +3,7 @@ use Rattle.std.specs.Prelude.{ℕ, Bool, true, false, List, [], ◌∷◌, codes
 use Rattle.ytt_base.specs.declared.fault.FaultKind.TheVariants as kind
 use Rattle.ytt_base.specs.declared.fault.Place.{Place}
 use Rattle.builtin_spec.specs.Binding.{Own, is_given, taking}
-use Rattle.builtin_spec.specs.Builtins.{absolute_row, all_integers, all_true, failure_row, get_attribute_row, has_attribute_row, length_row, list_row, range_from, range_row, reversed_row, some_true, test_row, text_given, truth_row, tuple_row, type_name}
+use Rattle.builtin_spec.specs.Builtins.{absolute_row, all_integers, all_true, enumerate_row, failure_row, get_attribute_row, has_attribute_row, integer_row, length_row, list_row, range_from, range_row, reversed_row, some_true, test_row, text_given, truth_row, tuple_row, type_name, zip_row}
 use Rattle.builtin_spec.specs.Calls.{own_method}
 use Rattle.builtin_spec.specs.Dicts.{get_row, listing_row, pair_value, pop_key_row, popitem_row, setdefault_row}
 use Rattle.builtin_spec.specs.Lists.{append_row, clear_row, extending_row, index_of_row, insert_row, pop_row, remove_row}
@@ -48,6 +48,8 @@ abbrev pub function_may_have : Builtin → List Name
 function_may_have which.Bool = one
 function_may_have which.List = one
 function_may_have which.Tuple = one
+function_may_have which.Int = codes "base" ∷ []
+function_may_have which.Enumerate = codes "start" ∷ []
 function_may_have which.GetAttr = codes "default" ∷ []
 function_may_have b = []
 
@@ -88,6 +90,7 @@ optional_of (bound.OfDict m r) = dict_method_may_have m
 abbrev pub given_to_function : Builtin → Arguments → Bool
 given_to_function which.List args = is_given 0 (codes "x") args
 given_to_function which.Tuple args = is_given 0 (codes "x") args
+given_to_function which.Int args = is_given 1 (codes "base") args
 given_to_function which.GetAttr args = is_given 2 (codes "default") args
 given_to_function b args = false
 
@@ -110,7 +113,7 @@ was_given (bound.OfDict m r) args = given_to_dict_method m args
 abbrev pub of_integers : Place → (from to step : plain.Value) → Computation Here plain.Value
 of_integers p a b d = or_fail kind.ValueKind p (all_integers (a ∷ b ∷ d ∷ [])) >>= range_from p
 
--- what a function gives for the values of its parameters; `range` has none
+-- what a function gives for the values of its parameters; `range` and `zip` have none
 abbrev pub function_gives : Builtin → (given : Bool) → Place → List plain.Value → Computation Here plain.Value
 function_gives which.Len given p vs = length_row p (value_at 0 vs)
 function_gives which.Str given p vs = text_given (str_of p (value_at 0 vs))
@@ -125,6 +128,9 @@ function_gives which.Any given p vs = test_row some_true p (value_at 0 vs)
 function_gives which.All given p vs = test_row all_true p (value_at 0 vs)
 function_gives which.Abs given p vs = absolute_row p (value_at 0 vs)
 function_gives which.Range given p vs = not_built p
+function_gives which.Int given p vs = integer_row p (value_at 0 vs) given (value_at 1 vs)
+function_gives which.Enumerate given p vs = enumerate_row p (value_at 0 vs) (value_at 1 vs)
+function_gives which.Zip given p vs = not_built p
 function_gives which.HasAttr given p vs = has_attribute_row p (value_at 0 vs) (value_at 1 vs)
 function_gives which.GetAttr given p vs = get_attribute_row p (value_at 0 vs) (value_at 1 vs) given (value_at 2 vs)
 
@@ -162,8 +168,13 @@ abbrev pub is_range : Builtin → Bool
 is_range which.Range = true
 is_range b = false
 
+abbrev pub is_zip : Builtin → Bool
+is_zip which.Zip = true
+is_zip b = false
+
 abbrev pub builtin_of : Builtin → Own Here
 builtin_of which.Range = range_row
+builtin_of which.Zip = zip_row
 builtin_of b = taken_by (bound.Function b)
 
 abbrev pub list_method_of : ℕ → ListMethod → Own Here
@@ -175,6 +186,7 @@ dict_method_of r m p args = taking (dict_method_needs m) (dict_method_may_have m
 abbrev pub called : View → held_own.Own → Own Here
 called a (own.Bound b) = taken_by b
 called a own.Range = range_row
+called a own.Zip = zip_row
 called a (own.OfText x r) = λ p args. own_method p x (value_of a (value.Text r)) args
 called a own.Unbuilt = λ p args. not_built p
 called a own.Other = λ p args. fail kind.ValueKind p

@@ -9,12 +9,13 @@ ghost use Rattle.star_values.specs.View.{View, arguments_in};
 ghost use Rattle.star_values.specs.declared.value.Value.TheVariants as value;
 ghost use Rattle.value_spec.specs.Values.{Arguments, builtin, native_value};
 ghost use Rattle.ytt_base.specs.declared.fault.Place.{Place};
-ghost use Rattle.star_builtins.specs.View.{OwnsBound, OwnsOwn, called, gives_of, is_range, taken_by};
+ghost use Rattle.star_builtins.specs.View.{OwnsBound, OwnsOwn, called, gives_of, is_range, is_zip, taken_by};
 
 use crate::dicts::apply_to_dict;
 use crate::functions::apply;
 use crate::lists::apply_to_list;
 use crate::numbers::range;
+use crate::sequences::zip;
 use crate::table::{
     Bound, Builtin, builtin_named, dict_method_named, list_method_named, parameters_of, was_given,
 };
@@ -25,12 +26,13 @@ use star_text::text_method;
 use ytt_base::fault::{FaultKind, Place};
 use ytt_base::text::{Memory, Text};
 
-/// What is called: what binds its arguments to parameters; `range`; a method of a text, by its name; what isn't built yet; or none of
+/// What is called: what binds its arguments to parameters; `range` or `zip`; a method of a text, by its name; what isn't built yet; or none of
 /// the language's own.
 #[derive(Drop)]
 pub(crate) enum Own {
     Bound(Bound),
     Range,
+    Zip,
     OfText(Text, Ref),
     Unbuilt,
     Other,
@@ -69,10 +71,21 @@ fn function_of(name: &str) -> Own
         Some(builtin) => {
             if is_range(builtin) {
                 Own::Range
+            } else if is_zip(builtin) {
+                Own::Zip
             } else {
                 Own::Bound(Bound::Function(builtin))
             }
         }
+    }
+}
+
+fn is_zip(builtin: Builtin) -> bool
+    ensures { result ≡ is_zip builtin }
+{
+    match builtin {
+        Builtin::Zip => true,
+        _ => false,
     }
 }
 
@@ -127,6 +140,7 @@ pub fn own_call(arena: &mut Arena, work: &mut Work, native: Ref, args: CallArgs,
     match own_of(arena, native)? {
         Own::Bound(bound) => call(arena, work, bound, args, at),
         Own::Range => range(arena, &args, at),
+        Own::Zip => zip(arena, &mut work.steps, &args, at),
         Own::OfText(name, text) => { text_method(arena, work, Value::Text(text), &name, args, at) }
         Own::Unbuilt => Err(refusal(arena, FaultKind::NotBuilt, at)),
         Own::Other => Err(refusal(arena, FaultKind::ValueKind, at)),

@@ -7,8 +7,10 @@ ghost use Rattle.text_spec.specs.Shown.{repr_of, str_of};
 ghost use Rattle.star_builtins.specs.View.{function_gives};
 
 use crate::attributes::{get_attribute, has_attribute};
+use crate::integers::integer_of;
 use crate::members::{all, any, list, reversed, tuple};
 use crate::numbers::absolute;
+use crate::sequences::enumerate;
 use crate::table::Builtin;
 use object_arena::{Arena, Value, Work};
 use star_ops::{member_count, truth};
@@ -18,7 +20,7 @@ use star_text::argument;
 use ytt_base::fault::{Fault, FaultKind, Place, Stop};
 use ytt_base::text::Text;
 
-/// What a function gives for the values of its parameters. `range` has none.
+/// What a function gives for the values of its parameters. `range` and `zip` have none.
 pub(crate) fn apply(
     arena: &mut Arena,
     work: &mut Work,
@@ -48,7 +50,15 @@ pub(crate) fn apply(
         Builtin::Any => any(arena, &mut work.steps, value, at),
         Builtin::All => all(arena, &mut work.steps, value, at),
         Builtin::Abs => absolute(arena, work, value, at),
-        Builtin::Range => Err(refusal(arena, FaultKind::NotBuilt, at)),
+        Builtin::Range | Builtin::Zip => Err(refusal(arena, FaultKind::NotBuilt, at)),
+        Builtin::Int => {
+            let base = argument(arena, values, 1);
+            integer_of(arena, &mut work.steps, value, given, base, at)
+        }
+        Builtin::Enumerate => {
+            let start = argument(arena, values, 1);
+            enumerate(arena, &mut work.steps, value, start, at)
+        }
         Builtin::HasAttr => has_attribute(arena, value, argument(arena, values, 1), at),
         Builtin::GetAttr => {
             let name = argument(arena, values, 1);

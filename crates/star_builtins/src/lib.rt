@@ -10,10 +10,12 @@ mod calls;
 mod changes;
 mod dicts;
 mod functions;
+mod integers;
 mod lists;
 mod members;
 mod numbers;
 mod operators;
+mod sequences;
 mod table;
 
 pub use attributes::attribute;

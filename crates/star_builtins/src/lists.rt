@@ -80,7 +80,7 @@ fn extend(arena: &mut Arena, work: &mut Work, list: Ref, more: Value, at: Place)
 }
 
 /// A bound of a search: None, or an integer.
-fn bound(value: Value) -> Option<Option<i128>>
+pub(crate) fn bound(value: Value) -> Option<Option<i128>>
     ensures { (a : View) → IsBound result (value_of a value) }
 {
     match value {

@@ -14,7 +14,7 @@ use ytt_base::fault::{FaultKind, Place, Stop};
 use ytt_base::text::Memory;
 
 /// Whether a value has members to go through.
-fn has_members(value: Value) -> bool
+pub(crate) fn has_members(value: Value) -> bool
     ensures { result ≡ is_iterable value }
 {
     matches!(
@@ -38,7 +38,7 @@ fn pay_times(arena: &Arena, steps: &mut u64, times: u128, count: u128, at: Place
 }
 
 /// The members of a value, after so many times their number of steps; `ValueKind` where it has none to have.
-fn members_paid(
+pub(crate) fn members_paid(
     arena: &Arena,
     steps: &mut u64,
     value: Value,

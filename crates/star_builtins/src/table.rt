@@ -27,6 +27,9 @@ pub(crate) enum Builtin {
     All,
     Abs,
     Range,
+    Int,
+    Enumerate,
+    Zip,
     HasAttr,
     GetAttr,
 }
@@ -56,7 +59,7 @@ pub(crate) enum DictMethod {
     Values,
 }
 
-/// A function but `range`, or a method of a list or a dict: what binds its arguments to parameters.
+/// A function but `range` and `zip`, or a method of a list or a dict: what binds its arguments to parameters.
 #[derive(Clone, Copy)]
 pub(crate) enum Bound {
     Function(Builtin),
@@ -82,6 +85,9 @@ pub(crate) fn builtin_named(name: &str) -> Option<Builtin>
         "all" => Some(Builtin::All),
         "abs" => Some(Builtin::Abs),
         "range" => Some(Builtin::Range),
+        "int" => Some(Builtin::Int),
+        "enumerate" => Some(Builtin::Enumerate),
+        "zip" => Some(Builtin::Zip),
         "hasattr" => Some(Builtin::HasAttr),
         "getattr" => Some(Builtin::GetAttr),
         _ => None,
@@ -164,7 +170,10 @@ fn function_takes(builtin: Builtin) -> Takes
         | Builtin::Any
         | Builtin::All
         | Builtin::Abs
-        | Builtin::Range => taking(&["x"], &[]),
+        | Builtin::Range
+        | Builtin::Zip => taking(&["x"], &[]),
+        Builtin::Int => taking(&["x"], &["base"]),
+        Builtin::Enumerate => taking(&["x"], &["start"]),
     }
 }
 
@@ -202,6 +211,7 @@ pub(crate) fn was_given(bound: Bound, args: &CallArgs) -> bool
     match bound {
         Bound::Function(Builtin::List) => is_given(args, 0, "x"),
         Bound::Function(Builtin::Tuple) => is_given(args, 0, "x"),
+        Bound::Function(Builtin::Int) => is_given(args, 1, "base"),
         Bound::Function(Builtin::GetAttr) => is_given(args, 2, "default"),
         Bound::OfList(ListMethod::Pop, _) => is_given(args, 0, "i"),
         Bound::OfDict(DictMethod::Pop, _) => is_given(args, 1, "d"),
