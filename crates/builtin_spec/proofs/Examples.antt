@@ -1,17 +1,18 @@
 -- Attributes, calls and operators whose answers and steps are computed.
-use Rattle.std.proofs.Common.{◌≡◌, ℕ, pos, negsuc, true, false, List, [], ◌∷◌, refl, codes}
+use Rattle.std.proofs.Common.{◌≡◌, ℕ, pos, negsuc, Bool, true, false, List, [], ◌∷◌, refl, codes}
 use Rattle.std.specs.Fmt.{digits}
 use Rattle.ytt_base.specs.declared.fault.FaultKind.TheVariants as kind
 use Rattle.ytt_base.specs.declared.fault.Fault.{Fault}
 use Rattle.ytt_base.specs.Outcomes.{fault_at, first_place}
 use Rattle.code_spec.specs.Code.{Name, remainder}
 use Rattle.builtin_spec.specs.Attributes.{attribute_row}
-use Rattle.builtin_spec.specs.Calls.{own_row}
+use Rattle.builtin_spec.specs.Calls.{asked_row, own_row}
 use Rattle.builtin_spec.specs.Operators.{operator_row}
+use Rattle.builtin_spec.specs.Sorting.{Keyed, Wanted, asks_keys, wanted_row, without_keys}
 use Rattle.operator_spec.specs.Operators.{tuple_of}
 use Rattle.value_spec.specs.Outcomes.{State, done, bad, Computation}
 use Rattle.value_spec.specs.Store.{object, with_object}
-use Rattle.value_spec.specs.Values.{Value, none_value, bool_value, int_value, text_value, range_value, list_value, dict_value, native_value, builtin, method, values_from, no_fields, a_field, arguments, Store, of_list, of_dict, struct_value}
+use Rattle.value_spec.specs.Values.{Value, none_value, bool_value, int_value, text_value, range_value, list_value, dict_value, native_value, builtin, method, values_from, no_fields, a_field, Fields, arguments, Store, of_list, of_dict, struct_value}
 
 abbrev at : ℕ → Store → State (Unit {0})
 at n store = record { store = store; steps = n; host = tt }
@@ -88,9 +89,6 @@ truth_of_text = refl
 
 asked_for : refuses (call (codes "fail") (word (codes "no") ∷ [])) (record (fault_at kind.Failed first_place) { detail = codes "no" })
 asked_for = refl
-
-not_yet : refuses (call (codes "sorted") []) (fault_at kind.NotBuilt first_place)
-not_yet = refl
 
 -- ---- operators
 
@@ -272,3 +270,130 @@ base_for_integer = refl
 
 truth_as_integer : gives 0 (call (codes "int") (bool_value true ∷ [])) (int 1)
 truth_as_integer = refl
+
+-- ---- order
+
+-- a call that may ask for keys, with arguments by position and by name
+abbrev asks : Name → List Value → Fields → Computation (Unit {0}) Keyed
+asks x vs fs = asked_row first_place (native_value (builtin x)) (arguments (values_from vs) fs)
+
+-- with so many steps, which are all taken, it gives a new list of these
+abbrev sorts : ℕ → Computation (Unit {0}) Keyed → List Value → Type 0
+sorts n m vs = m (at n []) ≡ done (without_keys (list_value 0)) (at 0 (with_object (of_list vs) []))
+
+-- it gives this
+abbrev finds : ℕ → Computation (Unit {0}) Keyed → Value → Type 0
+finds n m v = m (at n []) ≡ done (without_keys v) (at 0 [])
+
+abbrev doubts : ℕ → Computation (Unit {0}) Keyed → Fault → Type 0
+doubts n m f = m (at n []) ≡ bad f (at n [])
+
+abbrev three : Value
+three = tuple_of (int 2 ∷ int 3 ∷ int 1 ∷ [])
+
+abbrev wanted : (first_alone descending : Bool) → Wanted
+wanted a d = record { first_alone = a; descending = d }
+
+rising : sorts 6 (asks (codes "sorted") (three ∷ []) no_fields) (int 1 ∷ int 2 ∷ int 3 ∷ [])
+rising = refl
+
+falling : sorts 6 (asks (codes "sorted") (three ∷ none_value ∷ bool_value true ∷ []) no_fields) (int 3 ∷ int 2 ∷ int 1 ∷ [])
+falling = refl
+
+sorted_nothing : sorts 0 (asks (codes "sorted") (tuple_of [] ∷ []) no_fields) []
+sorted_nothing = refl
+
+key_asked : asks (codes "sorted") (three ∷ []) (a_field (codes "key") (native_value (builtin (codes "abs"))) no_fields) (at 0 []) ≡
+    done (asks_keys (wanted false false) (native_value (builtin (codes "abs"))) (int 2 ∷ int 3 ∷ int 1 ∷ [])) (at 0 [])
+key_asked = refl
+
+no_key_function : doubts 9 (asks (codes "sorted") (three ∷ int 1 ∷ []) no_fields) (fault_at kind.ValueKind first_place)
+no_key_function = refl
+
+no_flag : doubts 9 (asks (codes "sorted") (three ∷ none_value ∷ int 1 ∷ []) no_fields) (fault_at kind.ValueKind first_place)
+no_flag = refl
+
+two_kinds : doubts 9 (asks (codes "sorted") (tuple_of (int 2 ∷ word (codes "a") ∷ []) ∷ []) no_fields) (fault_at kind.ValueKind first_place)
+two_kinds = refl
+
+no_order : doubts 9 (asks (codes "sorted") (tuple_of (none_value ∷ []) ∷ []) no_fields) (fault_at kind.ValueKind first_place)
+no_order = refl
+
+-- where the keys are equal members stay in their order, the greatest first too
+equal_rising : wanted_row {H = Unit {0}} first_place (wanted false false) (int 7 ∷ int 8 ∷ int 9 ∷ []) (int 1 ∷ int 0 ∷ int 1 ∷ []) (at 6 []) ≡ done (list_value 0) (at 0 (with_object (of_list (int 8 ∷ int 7 ∷ int 9 ∷ [])) []))
+equal_rising = refl
+
+equal_falling : wanted_row {H = Unit {0}} first_place (wanted false true) (int 7 ∷ int 8 ∷ int 9 ∷ []) (int 1 ∷ int 0 ∷ int 1 ∷ []) (at 6 []) ≡ done (list_value 0) (at 0 (with_object (of_list (int 7 ∷ int 9 ∷ int 8 ∷ [])) []))
+equal_falling = refl
+
+first_greatest : wanted_row {H = Unit {0}} first_place (wanted true true) (int 7 ∷ int 8 ∷ int 9 ∷ []) (int 0 ∷ int 1 ∷ int 1 ∷ []) (at 3 []) ≡ done (int 8) (at 0 [])
+first_greatest = refl
+
+least : finds 3 (asks (codes "min") (three ∷ []) no_fields) (int 1)
+least = refl
+
+greatest_of_two : finds 2 (asks (codes "max") (int 2 ∷ int 3 ∷ []) no_fields) (int 3)
+greatest_of_two = refl
+
+least_of_none : doubts 9 (asks (codes "min") (tuple_of [] ∷ []) no_fields) (fault_at kind.ValueKind first_place)
+least_of_none = refl
+
+nothing_given : doubts 9 (asks (codes "min") [] no_fields) (fault_at kind.ArgBind first_place)
+nothing_given = refl
+
+-- `min` takes no argument by name but its key
+other_name : doubts 9 (asks (codes "min") (three ∷ []) (a_field (codes "reverse") none_value no_fields)) (fault_at kind.ArgBind first_place)
+other_name = refl
+
+long_range : doubts 2 (asks (codes "max") (range_value (pos 0) (pos 3) (pos 1) ∷ []) (a_field (codes "key") (native_value (builtin (codes "abs"))) no_fields)) (fault_at kind.Steps first_place)
+long_range = refl
+
+-- 20 bytes are of the size 1, which is taken before the members are counted
+sized_key : finds 2 (asks (codes "min") (tuple_of (word (codes "aaaaaaaaaaaaaaaaaaaa") ∷ []) ∷ []) no_fields) (word (codes "aaaaaaaaaaaaaaaaaaaa"))
+sized_key = refl
+
+-- ---- pairs that are put into a dict
+
+abbrev a : Value
+a = word (codes "a")
+
+abbrev b : Value
+b = word (codes "b")
+
+-- what `update` and `dict` take: a pair of "b" and 2, and "a" by name
+abbrev one_pair : List Value
+one_pair = tuple_of (tuple_of (b ∷ int 2 ∷ []) ∷ []) ∷ []
+
+abbrev a_named : Fields
+a_named = a_field (codes "a") (int 9) no_fields
+
+-- a key that is there keeps its place
+updated : own_row first_place (native_value (method (codes "update") (dict_value 1))) (arguments (values_from one_pair) a_named) (at 2 two_objects) ≡ done none_value (at 0 (with_dict ((a, int 9) ∷ (b, int 2) ∷ [])))
+updated = refl
+
+updated_by_itself : turns 2 (of_dict_1 (codes "update") (dict_value 1 ∷ [])) none_value two_objects
+updated_by_itself = refl
+
+updated_by_nothing : keeps 1 (of_dict_1 (codes "update") []) none_value
+updated_by_nothing = refl
+
+no_pairs : refused 0 (of_dict_1 (codes "update") (list_value 0 ∷ [])) (fault_at kind.ValueKind first_place)
+no_pairs = refl
+
+no_such_key : refused 0 (of_dict_1 (codes "update") (tuple_of (tuple_of (list_value 0 ∷ int 1 ∷ []) ∷ []) ∷ [])) (fault_at kind.ValueKind first_place)
+no_such_key = refl
+
+two_of_them : refused 0 (of_dict_1 (codes "update") (dict_value 1 ∷ dict_value 1 ∷ [])) (fault_at kind.ArgBind first_place)
+two_of_them = refl
+
+made_dict : own_row first_place (native_value (builtin (codes "dict"))) (arguments (values_from one_pair) a_named) (at 3 []) ≡ done (dict_value 0) (at 0 (with_object (of_dict ((b, int 2) ∷ (a, int 9) ∷ [])) []))
+made_dict = refl
+
+empty_dict : call (codes "dict") [] (at 0 []) ≡ done (dict_value 0) (at 0 (with_object (of_dict []) []))
+empty_dict = refl
+
+names_in_order : call (codes "dir") (struct_value (a_field (codes "b") (int 1) (a_field (codes "a") (int 2) no_fields)) ∷ []) (at 2 []) ≡ done (list_value 0) (at 0 (with_object (of_list (a ∷ b ∷ [])) []))
+names_in_order = refl
+
+no_fields_there : call (codes "dir") (int 1 ∷ []) (at 0 []) ≡ done (list_value 0) (at 0 (with_object (of_list []) []))
+no_fields_there = refl

@@ -22,7 +22,7 @@ abbrev pub is_list_method : Name → Bool
 is_list_method x = is_some (own_in {H = Unit {0}} x (list_methods 0))
 
 abbrev pub is_dict_method : Name → Bool
-is_dict_method x = is_some (own_in {H = Unit {0}} x (dict_methods 0)) || bytes_eq x (codes "update")
+is_dict_method x = is_some (own_in {H = Unit {0}} x (dict_methods 0))
 
 -- ---- attributes
 

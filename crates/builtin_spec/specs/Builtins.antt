@@ -6,7 +6,9 @@ use Rattle.builtin_spec.specs.Attributes.{attribute_of, or_missing}
 use Rattle.builtin_spec.specs.Binding.{Own, is_given, own_in, taking}
 use Rattle.code_spec.specs.Code.{Name}
 use Rattle.operator_spec.specs.Operators.{int_of, tuple_of}
+use Rattle.builtin_spec.specs.Dicts.{dict_row}
 use Rattle.builtin_spec.specs.Lists.{bound_in}
+use Rattle.builtin_spec.specs.Sorting.{in_order}
 use Rattle.index_spec.specs.Slices.{is_bound}
 use Rattle.text_spec.specs.Answers.{paid_operation}
 use Rattle.text_spec.specs.Classes.{is_all, is_digit, is_letter, lower_byte}
@@ -14,7 +16,7 @@ use Rattle.text_spec.specs.Shown.{repr_of, str_of}
 use Rattle.text_spec.specs.Signatures.{value_at}
 use Rattle.value_spec.specs.Members.{as_int, as_text, count_in, members_in, truth_in}
 use Rattle.value_spec.specs.Numbers.{fits, is_negative, is_zero}
-use Rattle.value_spec.specs.Outcomes.{Computation, fail, fail_with, give, need, new_list, not_built, or_fail, paid_by, reads, ◌>>=◌}
+use Rattle.value_spec.specs.Outcomes.{Computation, fail, fail_with, give, need, new_list, or_fail, paid_by, reads, ◌>>=◌}
 use Rattle.value_spec.specs.Values.{Value, none_value, bool_value, int_value, text_value, tuple_value, range_value, struct_value, fragment_value, list_value, dict_value, function_value, module_value, native_value, values_in, Fields, no_fields, a_field, Arguments, arguments, Store}
 
 -- ---- of one value
@@ -225,13 +227,27 @@ attribute_or p x false d None = or_missing p x None
 abbrev pub get_attribute_row : {H : Type 0} → Place → (of name : Value) → (given : Bool) → (otherwise : Value) → Computation H Value
 get_attribute_row p v x given d = name_then p x (λ t. attribute_or p t given d (attribute_of v t))
 
+-- the names of the fields of a struct or a module, as texts
+abbrev pub names_of : Fields → List Value
+names_of no_fields = []
+names_of (a_field x v fs) = text_value x ∷ names_of fs
+
+abbrev pub field_names : Value → List Value
+field_names (struct_value fs) = names_of fs
+field_names (module_value m fs) = names_of fs
+field_names _ = []
+
+-- a new list of them in order; nothing else has any
+abbrev pub field_names_row : {H : Type 0} → Place → Value → Computation H Value
+field_names_row p v = paid_by (length (field_names v)) p (reads (λ store. in_order false store (field_names v) (field_names v)) >>= new_list)
+
 -- ---- the table
 
 -- of one value
 abbrev pub of_one : {H : Type 0} → (Place → Value → Computation H Value) → Own H
 of_one f = taking (codes "x" ∷ []) [] (λ p vs. f p (value_at 0 vs))
 
--- those that are built so far
+-- those that ask for no keys
 abbrev pub builtins : {H : Type 0} → List (Name × Own H)
 builtins =
     (codes "len", of_one length_row) ∷ (codes "str", of_one (λ p v. text_given (str_of p v))) ∷ (codes "repr", of_one (λ p v. text_given (repr_of p v)))
@@ -246,12 +262,13 @@ builtins =
     ∷ (codes "int", λ p args. taking (codes "x" ∷ []) (codes "base" ∷ []) (λ p vs. integer_row p (value_at 0 vs) (is_given 1 (codes "base") args) (value_at 1 vs)) p args)
     ∷ (codes "hasattr", taking (codes "x" ∷ codes "name" ∷ []) [] (λ p vs. has_attribute_row p (value_at 0 vs) (value_at 1 vs)))
     ∷ (codes "getattr", λ p args. taking (codes "x" ∷ codes "name" ∷ []) (codes "default" ∷ []) (λ p vs. get_attribute_row p (value_at 0 vs) (value_at 1 vs) (is_given 2 (codes "default") args) (value_at 2 vs)) p args)
+    ∷ (codes "dict", dict_row) ∷ (codes "dir", of_one field_names_row)
     ∷ []
 
 -- ---- a call
 
 abbrev pub row_of : {H : Type 0} → Place → Option (Own H) → Arguments → Computation H Value
-row_of p None args = not_built p
+row_of p None args = fail kind.ValueKind p
 row_of p (Some f) args = f p args
 
 -- a function of the language

@@ -1,19 +1,24 @@
 -- The methods of dicts. One that changes its dict is refused first where the dict can't be changed, then by its key; then come its steps,
 -- and then what it does.
-use Rattle.std.specs.Prelude.{ℕ, Bool, true, false, List, [], ◌∷◌, length, map as each, Option, Some, None, unwrap_or, codes}
+use Rattle.std.specs.Prelude.{ℕ, nat_le, Bool, true, false, not, ◌&&◌, List, [], ◌∷◌, ◌++◌, length, map as each, Option, Some, None, unwrap_or, codes}
+use Rattle.ytt_base.specs.declared.fault.FaultKind.{FaultKind}
 use Rattle.ytt_base.specs.declared.fault.FaultKind.TheVariants as kind
 use Rattle.ytt_base.specs.declared.fault.Place.{Place}
+use Rattle.ytt_base.specs.Trees.{max_depth}
 use Rattle.code_spec.specs.Code.{Name}
 use Rattle.index_spec.specs.Index.{missing}
 use Rattle.operator_spec.specs.Operators.{tuple_of}
 use Rattle.operator_spec.specs.Order.{key_sized}
 use Rattle.text_spec.specs.Answers.{paid_operation}
 use Rattle.text_spec.specs.Signatures.{value_at}
-use Rattle.value_spec.specs.Outcomes.{Computation, acting, fail, give, new_list, reads, ◌>>=◌}
-use Rattle.value_spec.specs.Store.{dict_put, dict_remove, pairs_at, value_of_key}
-use Rattle.value_spec.specs.Values.{Value, dict_value}
+use Rattle.value_spec.specs.Binding.{has_twice, text_pairs}
+use Rattle.value_spec.specs.Keys.{key_offence}
+use Rattle.value_spec.specs.Members.{members_in}
+use Rattle.value_spec.specs.Outcomes.{Computation, acting, fail, give, need, new_dict, new_list, or_fail, reads, ◌>>=◌}
+use Rattle.value_spec.specs.Store.{dict_put, dict_remove, pairs_at, put_pairs, value_of_key}
+use Rattle.value_spec.specs.Values.{Value, dict_value, values_in, Values, Fields, arguments, Store}
 use Rattle.builtin_spec.specs.Binding.{Own, is_given, taking}
-use Rattle.builtin_spec.specs.Lists.{changing, clear_row}
+use Rattle.builtin_spec.specs.Lists.{changing, clear_row, done_by}
 
 -- the value of a key, if it stands there
 abbrev pub value_in : {H : Type 0} → ℕ → Value → Computation H (Option Value)
@@ -60,7 +65,83 @@ put_or p r k d None = acting p (dict_put r k d) >>= λ u. give d
 abbrev pub setdefault_row : {H : Type 0} → Place → ℕ → (key otherwise : Value) → Computation H Value
 setdefault_row p r k d = changing p r (key_sized p k >>= λ u. value_in r k >>= put_or p r k d)
 
--- ---- the table, without `update`, which isn't built yet
+-- ---- pairs that are put into a dict
+
+abbrev pub pair_of : Option (List Value) → Option (Value × Value)
+pair_of (Some (k ∷ v ∷ [])) = Some (k, v)
+pair_of _ = None
+
+abbrev pub pair_in_front : Option (Value × Value) → Option (List (Value × Value)) → Option (List (Value × Value))
+pair_in_front (Some q) (Some qs) = Some (q ∷ qs)
+pair_in_front _ _ = None
+
+-- the pairs that these are, if each has two members
+abbrev pub all_pairs : Store → List Value → Option (List (Value × Value))
+all_pairs store [] = Some []
+all_pairs store (v ∷ vs) = pair_in_front (pair_of (members_in store v)) (all_pairs store vs)
+
+abbrev pub pairs_if_any : Store → Option (List Value) → Option (List (Value × Value))
+pairs_if_any store None = None
+pairs_if_any store (Some vs) = all_pairs store vs
+
+-- the pairs of a dict, or those that the members of a value are
+abbrev pub pairs_of : Store → Value → Option (List (Value × Value))
+pairs_of store (dict_value r) = Some (pairs_at r store)
+pairs_of store v = pairs_if_any store (members_in store v)
+
+-- those of a value, or of none
+abbrev pub pairs_given : Store → List Value → Option (List (Value × Value))
+pairs_given store [] = Some []
+pairs_given store (v ∷ vs) = pairs_of store v
+
+-- at most one argument by position, and no name twice
+abbrev pub pairs_bound : Values → Fields → Bool
+pairs_bound vs fs = nat_le (length (values_in vs)) 1 && not (has_twice fs)
+
+abbrev pub no_offence : {H : Type 0} → Place → Option FaultKind → Computation H (Unit {0})
+no_offence p None = give tt
+no_offence p (Some why) = fail why p
+
+abbrev pub all_keys : {H : Type 0} → Place → List (Value × Value) → Computation H (Unit {0})
+all_keys p [] = give tt
+all_keys p (q ∷ qs) = no_offence p (key_offence max_depth q.0) >>= λ u. all_keys p qs
+
+-- those of the value, and then the arguments by name, whose keys are their names; ValueKind where the value is none of pairs, and the refusal of what is no key
+abbrev pub pairs_taken : {H : Type 0} → Place → List Value → Fields → Computation H (List (Value × Value))
+pairs_taken p vs fs = do
+  qs ← reads (λ store. pairs_given store vs) >>= or_fail kind.ValueKind p
+  u ← all_keys p (qs ++ text_pairs fs)
+  give (qs ++ text_pairs fs)
+
+abbrev pub keys_sized : {H : Type 0} → Place → List (Value × Value) → Computation H (Unit {0})
+keys_sized p [] = give tt
+keys_sized p (q ∷ qs) = key_sized p q.0 >>= λ u. keys_sized p qs
+
+abbrev pub field_values : Fields → List Value
+field_values fs = each (λ q. q.1) (text_pairs fs)
+
+-- each pair in turn
+abbrev pub put_each : {H : Type 0} → Place → ℕ → List (Value × Value) → Computation H (Unit {0})
+put_each p r [] = give tt
+put_each p r (q ∷ qs) = acting p (dict_put r q.0 q.1) >>= λ u. put_each p r qs
+
+-- the steps of the operation, those of each key, and then each pair in turn
+abbrev pub all_put : {H : Type 0} → Place → ℕ → (operands : List Value) → List (Value × Value) → Computation H Value
+all_put p r vs qs = paid_operation p vs 0 0 (keys_sized p qs >>= λ u. done_by (put_each p r qs))
+
+abbrev pub update_row : {H : Type 0} → ℕ → Own H
+update_row r p (arguments vs fs) = do
+  u ← need kind.ArgBind p (pairs_bound vs fs)
+  changing p r (pairs_taken p (values_in vs) fs >>= all_put p r (dict_value r ∷ values_in vs ++ field_values fs))
+
+-- a new dict of pairs
+abbrev pub dict_row : {H : Type 0} → Own H
+dict_row p (arguments vs fs) = do
+  u ← need kind.ArgBind p (pairs_bound vs fs)
+  qs ← pairs_taken p (values_in vs) fs
+  paid_operation p (values_in vs ++ field_values fs) 0 (length (put_pairs [] qs)) (keys_sized p qs >>= λ u. new_dict (put_pairs [] qs))
+
+-- ---- the table
 
 abbrev pub dict_methods : {H : Type 0} → (position : ℕ) → List (Name × Own H)
 dict_methods r =
@@ -71,5 +152,5 @@ dict_methods r =
     ∷ (codes "pop", λ p args. taking (codes "k" ∷ []) (codes "d" ∷ []) (λ p vs. pop_key_row p r (value_at 0 vs) (is_given 1 (codes "d") args) (value_at 1 vs)) p args)
     ∷ (codes "popitem", taking [] [] (λ p vs. popitem_row p r))
     ∷ (codes "setdefault", taking (codes "k" ∷ []) (codes "d" ∷ []) (λ p vs. setdefault_row p r (value_at 0 vs) (value_at 1 vs)))
-    ∷ (codes "values", taking [] [] (λ p vs. listing_row (λ q. q.1) p r))
+    ∷ (codes "update", update_row r) ∷ (codes "values", taking [] [] (λ p vs. listing_row (λ q. q.1) p r))
     ∷ []

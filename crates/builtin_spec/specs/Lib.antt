@@ -5,3 +5,4 @@ pub mod Calls
 pub mod Dicts
 pub mod Lists
 pub mod Operators
+pub mod Sorting

@@ -112,7 +112,7 @@ divided f p x y = if is_zero y then fail kind.DivideZero p else int_of p (f x y)
 abbrev pub quotient_row : {H : Type 0} → Place → Value → Value → Computation H Value
 quotient_row p a b = if_both (as_int a) (as_int b) (divided floor_quotient p) (fail kind.ValueKind p)
 
--- with a text at the left it formats, which isn't built yet
+-- with a text at the left it formats, which stands in a table above this one
 abbrev pub remainder_row : {H : Type 0} → Place → Value → Value → Computation H Value
 remainder_row p a b = if_one (as_text a) (λ t. not_built p) (if_both (as_int a) (as_int b) (divided floor_remainder p) (fail kind.ValueKind p))
 
