@@ -1,6 +1,6 @@
 // The order of values.
 ghost use Rattle.std.specs.Prelude.{◌≡◌};
-ghost use Rattle.star_steps.specs.Names.{are_comparable, by_bool, by_integer, by_members, by_number, comparison, order_within, rank, seen, Owns, OwnsAll, View, value_of, values_of, Meets, as_is, state_in};
+ghost use Rattle.star_steps.specs.Names.{are_comparable, by_bool, by_integer, by_members, by_number, comparison, max_depth, order_within, rank, seen, Owns, OwnsAll, View, value_of, values_of, Meets, as_is, state_in};
 ghost use Rattle.star_compare.specs.Alike.{both_measured, comparison_of, ordered};
 
 use crate::sizes::{MAX_DEPTH, ORDERED_RANKS, pay_size, rank_of};
@@ -147,8 +147,18 @@ fn rank_order(left: Value, right: Value) -> Ordering
     }
 }
 
+/// Which of two values comes first: bools, integers, texts, tuples or lists in their order, and values of unlike kinds in the order None,
+/// bool, int, text, tuple, list. It takes no steps and refuses nothing: what stands past 100 levels counts as the same.
+pub fn order_of(arena: &Arena, left: Value, right: Value) -> Ordering
+    requires left { Owns (seen arena.now) left }
+    requires right { Owns (seen arena.now) right }
+    ensures { comparison_of result ≡ ordered max_depth (seen arena.now).store (value_of (seen arena.now) left) (value_of (seen arena.now) right) }
+{
+    order(arena, MAX_DEPTH, left, right)
+}
+
 /// Whether two values are of one kind, which has an order.
-fn comparable(left: Value, right: Value) -> bool
+pub fn comparable(left: Value, right: Value) -> bool
     ensures { (a : View) → result ≡ are_comparable (value_of a left) (value_of a right) }
 {
     let rank = rank_of(left);

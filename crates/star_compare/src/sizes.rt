@@ -1,6 +1,6 @@
 // The sizes of values that have a rank, and of keys.
 ghost use Rattle.std.specs.Prelude.{◌≡◌};
-ghost use Rattle.star_steps.specs.Names.{OnOk, paid, each_sized, key_sized, measured_within, rank, IsKeyWithin, seen, Owns, OwnsAll, View, value_of, values_of, Meets, as_is, state_in};
+ghost use Rattle.star_steps.specs.Names.{OnOk, paid, each_sized, key_sized, max_depth, measured_within, rank, IsKeyWithin, seen, Owns, OwnsAll, View, value_of, values_of, Meets, as_is, state_in};
 ghost use Rattle.star_compare.specs.Alike.{measure};
 
 use object_arena::{Arena, Value};
@@ -93,6 +93,17 @@ fn pay_member(arena: &Arena, at: Depth, ranks: u8, value: Value, steps: &mut u64
 {
     pay(arena, at.place, 1, steps)?;
     pay_size(arena, at, ranks, value, steps)
+}
+
+/// Takes the size of a value that has an order as steps. What has none, and what stands in it and has none, is `ValueKind`; collections
+/// that nest too deep are `TooDeep`.
+pub fn order_size(arena: &Arena, place: Place, value: Value, steps: &mut u64) -> Paid
+    requires { Owns (seen arena.now) value }
+    ensures { Meets as_is result (state_in (seen arena.now) steps.new) (measure 6 max_depth place (value_of (seen arena.now) value) (state_in (seen arena.now) steps.old)) }
+{
+    let levels = MAX_DEPTH;
+    let at = Depth { place, levels };
+    pay_size(arena, at, ORDERED_RANKS, value, steps)
 }
 
 /// Takes the size of a key as steps, at its operator. What is no key is `ValueKind`, and tuples that nest too deep are `TooDeep`.

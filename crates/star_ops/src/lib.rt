@@ -1,4 +1,5 @@
-//! What operators give for the values of an arena: the whole table but for `%` with a text at its left, which isn't built yet.
+//! What operators give for the values of an arena: the whole table but for `%` with a text at its left, which formats and
+//! stands in `star_builtins`; here it is `NotBuilt`.
 //!
 //! `unary`, `binary`, `augment`, `compare`, `equal`, `index`, `slice`, `set_index` and `truth` give exactly what the definitions say, refuse
 //! exactly as they refuse, leave the store as they leave it, and take exactly their steps: a refusal of the kinds comes before
