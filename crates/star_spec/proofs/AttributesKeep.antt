@@ -59,7 +59,7 @@ text_utf8 : (x : Name) → is_text_method x ≡ true → IsUtf8 x
 text_utf8 x = either_utf8 x _ _ (equal_utf8 x (codes "format") refl) (method_utf8 x text_methods refl)
 
 dict_utf8 : (x : Name) → is_dict_method x ≡ true → IsUtf8 x
-dict_utf8 x = either_utf8 x _ _ (own_utf8 {H = Unit {0}} x (dict_methods 0) refl) (equal_utf8 x (codes "update") refl)
+dict_utf8 x = own_utf8 {H = Unit {0}} x (dict_methods 0) refl
 
 -- ---- attributes
 

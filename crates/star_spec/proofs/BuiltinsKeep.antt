@@ -8,35 +8,37 @@ use Rattle.ytt_base.specs.declared.fault.FaultKind.TheVariants as kind
 use Rattle.ytt_base.specs.declared.fault.Place.{Place}
 use Rattle.builtin_spec.specs.Attributes.{attribute_of}
 use Rattle.builtin_spec.specs.Binding.{Own, is_given, own_in}
-use Rattle.builtin_spec.specs.Builtins.{builtins, failure_row, length_row, row_of, text_given, truth_row, type_name, members_or_none, members_paid, list_row, tuple_row, some_true, all_true, reversed_row, test_row, numbered, last_fits, enumerate_row, sum_of, least_of, firsts, zipped, all_have_members, zip_row, integer_read, read_row, base_of, integer_row, absolute_row, range_by, range_from, integer_in_front, all_integers, range_arguments, range_row, name_then, has_attribute_row, attribute_or, get_attribute_row, of_one}
+use Rattle.builtin_spec.specs.Builtins.{builtins, failure_row, length_row, row_of, text_given, truth_row, type_name, members_or_none, members_paid, list_row, tuple_row, some_true, all_true, reversed_row, test_row, numbered, last_fits, enumerate_row, sum_of, least_of, firsts, zipped, all_have_members, zip_row, integer_read, read_row, base_of, integer_row, absolute_row, range_by, range_from, integer_in_front, all_integers, range_arguments, range_row, name_then, has_attribute_row, attribute_or, get_attribute_row, names_of, field_names, field_names_row, of_one}
 use Rattle.builtin_spec.specs.Calls.{own_method, own_row}
 use Rattle.builtin_spec.specs.Dicts.{dict_methods}
 use Rattle.builtin_spec.specs.Lists.{bound_in, list_methods}
 use Rattle.builtin_spec.specs.Operators.{assignment_row, filled_or, operator_row}
+use Rattle.builtin_spec.specs.Sorting.{in_order}
 use Rattle.code_spec.specs.Code.{Name, BinaryOperator, remainder}
 use Rattle.index_spec.specs.Slices.{is_bound}
 use Rattle.operator_spec.specs.Operators.{augment_row, binary_row, tuple_of}
-use Rattle.star_spec.specs.Held.{HeldValue, HeldList, HeldArguments, HeldNumbers, HeldStore}
+use Rattle.star_spec.specs.Held.{HeldValue, HeldFields, HeldList, HeldArguments, HeldNumbers, HeldStore}
 use Rattle.text_spec.specs.Signatures.{value_at}
 use Rattle.value_spec.specs.Members.{as_text, count_in, members_in, truth_in, as_int}
 use Rattle.value_spec.specs.Numbers.{fits, is_negative, is_zero}
 use Rattle.value_spec.specs.Outcomes.{◌>>=◌, Computation, reads, need}
-use Rattle.value_spec.specs.Values.{Value, none_value, bool_value, int_value, text_value, tuple_value, range_value, struct_value, fragment_value, list_value, dict_value, function_value, module_value, native_value, builtin, method, values_in, no_fields, a_field, Arguments, arguments, Store}
+use Rattle.value_spec.specs.Values.{Value, none_value, bool_value, int_value, text_value, tuple_value, range_value, struct_value, fragment_value, list_value, dict_value, function_value, module_value, native_value, builtin, method, values_in, Fields, no_fields, a_field, Arguments, arguments, Store}
 use Rattle.star_spec.proofs.AttributesKeep.{attribute_held}
 use Rattle.star_spec.proofs.BindingsKeep.{◌also◌, AllKeep, none_keep, OwnKeeps, nth_held, seeing_keeps, taking_keeps}
-use Rattle.star_spec.proofs.DictsKeep.{dict_methods_keep}
+use Rattle.star_spec.proofs.DictsKeep.{dict_methods_keep, dict_row_keeps}
 use Rattle.star_spec.proofs.FillingKeeps.{paid_keeps, percent_keeps}
 use Rattle.star_spec.proofs.Keeping.{IfFound, found_one, Keeps, Anything, keeps_then, keeps_give, keeps_fail, keeps_need, keeps_if, keeps_or_fail, keeps_reads, keeps_paid, needed}
 use Rattle.star_spec.proofs.ListsKeep.{list_methods_keep}
 use Rattle.star_spec.proofs.MembersHeld.{from_values, in_values, last_members, members_held, new_list_keeps, more_held}
 use Rattle.star_spec.proofs.RangesHeld.{between_fits, range_held}
 use Rattle.star_spec.proofs.RowsHeld.{augmented_held, binary_held, int_of_held, fits_signed}
+use Rattle.star_spec.proofs.OrderHeld.{in_order_held}
 use Rattle.star_spec.proofs.TextMethodsKeep.{method_keeps}
 use Rattle.star_spec.proofs.TextsKeep.{low_utf8, repr_keeps, str_keeps}
 
 -- ---- functions of one value
 
-has_members_keeps : {H : Type 0} (p : Place) (v : Value) → Keeps {H = H} Anything (reads (λ store. is_some (members_in store v)) >>= need kind.ValueKind p)
+pub has_members_keeps : {H : Type 0} (p : Place) (v : Value) → Keeps {H = H} Anything (reads (λ store. is_some (members_in store v)) >>= need kind.ValueKind p)
 has_members_keeps p v = keeps_then {P = Anything} (keeps_reads (λ store. is_some (members_in store v)) (λ store h. tt)) (λ b u. keeps_need kind.ValueKind p b)
 
 -- what is done with the number of members
@@ -213,6 +215,20 @@ get_attribute_keeps {H = H} p v x given d h k = name_keeps p x (λ t. by t given
   by t true None g = keeps_give d k
   by t false None g = keeps_fail kind.KeyMissing p t
 
+names_held : (fs : Fields) → HeldFields fs → HeldList (names_of fs)
+names_held no_fields h = tt
+names_held (a_field x v fs) h = (h.0, names_held fs h.2)
+
+field_names_held : (v : Value) → HeldValue v → HeldList (field_names v)
+field_names_held (struct_value fs) h = names_held fs h.0
+field_names_held (module_value m fs) h = names_held fs h.1
+field_names_held _ h = tt
+
+field_names_keep : {H : Type 0} (p : Place) (v : Value) → HeldValue v → Keeps {H = H} HeldValue (field_names_row p v)
+field_names_keep p v h =
+    keeps_paid (length (field_names v)) p
+    (keeps_then (keeps_reads (λ store. in_order false store (field_names v) (field_names v)) (λ store g. in_order_held false store (field_names v) (field_names v) (field_names_held v h))) new_list_keeps)
+
 -- ---- the table
 
 one_keeps : {H : Type 0} (f : Place → Value → Computation H Value) → ((p : Place) (v : Value) → HeldValue v → Keeps HeldValue (f p v)) → OwnKeeps (of_one f)
@@ -238,12 +254,14 @@ builtins_keep =
     seeing_keeps (λ args. taking_keeps (codes "x" ∷ []) (codes "base" ∷ []) (λ p vs h. integer_keeps p (value_at 0 vs) (is_given 1 (codes "base") args) (value_at 1 vs) (nth_held 0 vs h))) also
     taking_keeps (codes "x" ∷ codes "name" ∷ []) [] (λ p vs h. has_attribute_keeps p (value_at 0 vs) (value_at 1 vs)) also
     seeing_keeps (λ args. taking_keeps (codes "x" ∷ codes "name" ∷ []) (codes "default" ∷ []) (λ p vs h. get_attribute_keeps p (value_at 0 vs) (value_at 1 vs) (is_given 2 (codes "default") args) (value_at 2 vs) (nth_held 0 vs h) (nth_held 2 vs h))) also
+    dict_row_keeps also
+    one_keeps _ field_names_keep also
     none_keep
 
 -- ---- calls
 
 row_keeps : {H : Type 0} (p : Place) (o : Option (Own H)) (vs : Arguments) → IfFound OwnKeeps o → HeldArguments vs → Keeps HeldValue (row_of p o vs)
-row_keeps p None vs g h = keeps_fail kind.NotBuilt p []
+row_keeps p None vs g h = keeps_fail kind.ValueKind p []
 row_keeps p (Some f) vs g h = g.by p vs h
 
 -- what the table has under a name
@@ -254,7 +272,7 @@ of_value_keeps : {H : Type 0} (p : Place) (x : Name) (v : Value) (vs : Arguments
 of_value_keeps p x (text_value t) vs h k = method_keeps p x t vs h k
 of_value_keeps p x (list_value r) vs h k = named_keeps p x (list_methods r) vs (list_methods_keep r) k
 of_value_keeps p x (dict_value r) vs h k = named_keeps p x (dict_methods r) vs (dict_methods_keep r) k
-of_value_keeps p x v vs h k = keeps_fail kind.NotBuilt p []
+of_value_keeps p x v vs h k = keeps_fail kind.ValueKind p []
 
 pub own_keeps : {H : Type 0} (p : Place) (f : Value) (vs : Arguments) → HeldValue f → HeldArguments vs → Keeps {H = H} HeldValue (own_row p f vs)
 own_keeps p (native_value (builtin x)) vs h k = named_keeps p x builtins vs builtins_keep k

@@ -3,28 +3,25 @@ use Rattle.std.proofs.Common.{◌≡◌, ℕ, zero, suc, List, [], ◌∷◌, �
 use Rattle.ytt_base.specs.declared.fault.Fault.{Fault}
 use Rattle.ytt_base.specs.declared.fault.FaultKind.TheVariants as kind
 use Rattle.ytt_base.specs.declared.fault.Place.{Place}
+use Rattle.builtin_spec.specs.Sorting.{Keyed, Wanted, without_keys, asks_keys}
 use Rattle.code_spec.specs.Allowed.{parameter_names}
 use Rattle.star_spec.specs.Binding.{boxes_for, scope_of_call}
 use Rattle.star_spec.specs.Calls.{Code, Table, parameters_of, names_of, Enter, enter_code, Reply, answer, call_then, Host, no_natives, resumed_with, after_reply, native_call, call_by_kind, no_keys, keys_by, with_keys, any_call, call_with_natives, function_of, function_call, too_deep, apply}
 use Rattle.code_spec.specs.Code.{Name, Expr, Exprs, BinaryOperator, Parameters, Statement, evaluate, assign, augment, load, return, break, continue, pass}
 use Rattle.star_spec.specs.Eval.{starlark}
 use Rattle.star_spec.specs.Held.{HeldValue, HeldValues, HeldExpr, HeldExprs, HeldParameters, HeldStatement, HeldList, HeldArguments}
-use Rattle.star_spec.specs.Language.{Call, Keyed, without_keys, asks_keys, Language, Word, breaks, continues, returns, execute, define}
+use Rattle.star_spec.specs.Language.{Call, Language, Word, breaks, continues, returns, execute, define}
 use Rattle.star_spec.specs.Names.{box_of}
 use Rattle.value_spec.specs.Outcomes.{Ending, done, bad, then_do, Computation}
 use Rattle.value_spec.specs.Store.{object_at, function_at}
 use Rattle.value_spec.specs.Values.{Value, function_value, native_value, builtin, method, host_native, Values, Arguments, one_value, Env, Function, of_box, of_function}
 use Rattle.star_spec.proofs.BindingsKeep.{bound_keeps}
-use Rattle.star_spec.proofs.BuiltinsKeep.{own_keeps}
+use Rattle.star_spec.proofs.SortingKeeps.{HeldKeyed, asked_keeps, wanted_keeps}
 use Rattle.star_spec.proofs.EvalKeeps.{CallKeeps, eval_keeps, arguments_keep, assign_keeps, augment_keeps, defaults_keep, truth_keeps, write_keeps, boxes_keep}
 use Rattle.star_spec.proofs.MembersHeld.{members_keep}
 use Rattle.star_spec.proofs.Keeping.{Kept, Keeps, Anything, keeps_then, keeps_give, keeps_fail, keeps_or_fail, keeps_ill_formed, keeps_or_ill_formed, keeps_paid, keeps_reads, keeps_new_object, object_held, HeldFunction, function_held}
 
 -- ---- a language
-
-abbrev pub HeldKeyed : Keyed → Type 0
-HeldKeyed (without_keys v) = HeldValue v
-HeldKeyed (asks_keys f vs) = HeldValue f × HeldList vs
 
 -- what a language does keeps what the program holds, where calls do
 pub record LanguageKeeps {H : Type 0} (language : Language H) : Type 0 where
@@ -38,7 +35,7 @@ pub record LanguageKeeps {H : Type 0} (language : Language H) : Type 0 where
   pub defaults : (call : Call H) → CallKeeps call → (ps : Parameters) (env : Env) → HeldParameters ps → Keeps HeldList (language.defaults call ps env)
   pub bind : (p : Place) (ps : Parameters) (names : List Name) (ds : List Value) (vs : Arguments) (env : Env) → HeldList ds → HeldArguments vs → Keeps Anything (language.bind p ps names ds vs env)
   pub own : (p : Place) (f : Value) (vs : Arguments) → HeldValue f → HeldArguments vs → Keeps HeldKeyed (language.own_call p f vs)
-  pub own_keyed : (p : Place) (f : Value) (vs : Arguments) (members keys : List Value) → HeldValue f → HeldArguments vs → HeldList members → HeldList keys → Keeps HeldValue (language.own_call_keyed p f vs members keys)
+  pub own_keyed : (p : Place) (w : Wanted) (members keys : List Value) → HeldList members → Keeps HeldValue (language.own_call_keyed p w members keys)
 
 abbrev pub WordHeld : Option Word → Type 0
 WordHeld None = Unit {0}
@@ -84,8 +81,8 @@ starlark_keeps = record {
   members = members_keep;
   defaults = λ call calls ps env h. defaults_keep call calls ps env h;
   bind = scope_keeps;
-  own = λ p f vs h k. keeps_then (own_keeps p f vs h k) (λ v g. keeps_give (without_keys v) g);
-  own_keyed = λ p f vs ms ks h k i j. keeps_fail kind.NotBuilt p [];
+  own = asked_keeps;
+  own_keyed = wanted_keeps;
 }
 
 -- ---- natives
@@ -126,33 +123,33 @@ module _ {H : Type 0} (host : Host H) (hosts : HostKeeps host) where
 -- ---- calls
 
 module _ {H : Type 0} (language : Language H) (keeps : LanguageKeeps language) where
-  kind_keeps : (function : Call H) (native : Place → Name → Values → Arguments → Computation H Value) (keyed : Place → Value → Arguments → Keyed → Computation H Value) → CallKeeps function
+  kind_keeps : (function : Call H) (native : Place → Name → Values → Arguments → Computation H Value) (keyed : Place → Keyed → Computation H Value) → CallKeeps function
       → ((p : Place) (x : Name) (held : Values) (vs : Arguments) → HeldValues held → HeldArguments vs → Keeps HeldValue (native p x held vs))
-      → ((p : Place) (f : Value) (vs : Arguments) (k : Keyed) → HeldValue f → HeldArguments vs → HeldKeyed k → Keeps HeldValue (keyed p f vs k))
+      → ((p : Place) (k : Keyed) → HeldKeyed k → Keeps HeldValue (keyed p k))
       → (p : Place) (f : Value) (vs : Arguments) → HeldValue f → HeldArguments vs → Keeps HeldValue (call_by_kind language function native keyed p f vs)
   kind_keeps function native keyed fs ns ks p (function_value r) vs h k = fs.by p (function_value r) vs h k
-  kind_keeps function native keyed fs ns ks p (native_value (builtin x)) vs h k = keeps_then (keeps.own p (native_value (builtin x)) vs h k) (λ g i. ks p (native_value (builtin x)) vs g h k i)
-  kind_keeps function native keyed fs ns ks p (native_value (method x v)) vs h k = keeps_then (keeps.own p (native_value (method x v)) vs h k) (λ g i. ks p (native_value (method x v)) vs g h k i)
+  kind_keeps function native keyed fs ns ks p (native_value (builtin x)) vs h k = keeps_then (keeps.own p (native_value (builtin x)) vs h k) (ks p)
+  kind_keeps function native keyed fs ns ks p (native_value (method x v)) vs h k = keeps_then (keeps.own p (native_value (method x v)) vs h k) (ks p)
   kind_keeps function native keyed fs ns ks p (native_value (host_native x held)) vs h k = ns p x held vs h.1 k
   kind_keeps function native keyed fs ns ks p _ vs h k = keeps_fail kind.ValueKind p []
 
-  no_keys_keep : (p : Place) (f : Value) (vs : Arguments) (k : Keyed) → HeldKeyed k → Keeps {H = H} HeldValue (no_keys p f vs k)
-  no_keys_keep p f vs (without_keys v) h = keeps_give v h
-  no_keys_keep p f vs (asks_keys g ms) h = keeps_ill_formed
+  no_keys_keep : (p : Place) (k : Keyed) → HeldKeyed k → Keeps {H = H} HeldValue (no_keys p k)
+  no_keys_keep p (without_keys v) h = keeps_give v h
+  no_keys_keep p (asks_keys w g ms) h = keeps_ill_formed
 
   keys_keep : (call : Call H) → CallKeeps call → (p : Place) (g : Value) (vs : List Value) → HeldValue g → HeldList vs → Keeps HeldList (keys_by call p g vs)
   keys_keep call calls p g [] h k = keeps_give [] tt
   keys_keep call calls p g (v ∷ vs) h k = keeps_then (calls.by p g (one_value v) h ((k.0, tt), tt)) (λ w i. keeps_then (keys_keep call calls p g vs h k.1) (λ ws j. keeps_give (w ∷ ws) (i, j)))
 
-  with_keys_keep : (call : Call H) → CallKeeps call → (p : Place) (f : Value) (vs : Arguments) (k : Keyed) → HeldValue f → HeldArguments vs → HeldKeyed k → Keeps HeldValue (with_keys language call p f vs k)
-  with_keys_keep call calls p f vs (without_keys v) h k i = keeps_give v i
-  with_keys_keep call calls p f vs (asks_keys g ms) h k i = keeps_then (keys_keep call calls p g ms i.0 i.1) (λ ks j. keeps.own_keyed p f vs ms ks h k i.1 j)
+  with_keys_keep : (call : Call H) → CallKeeps call → (p : Place) (k : Keyed) → HeldKeyed k → Keeps HeldValue (with_keys language call p k)
+  with_keys_keep call calls p (without_keys v) h = keeps_give v h
+  with_keys_keep call calls p (asks_keys w g ms) h = keeps_then (keys_keep call calls p g ms h.0 h.1) (λ ks j. keeps.own_keyed p w ms ks h.1)
 
   any_keeps : (function : Call H) (native : Place → Name → Values → Arguments → Computation H Value) → CallKeeps function
       → ((p : Place) (x : Name) (held : Values) (vs : Arguments) → HeldValues held → HeldArguments vs → Keeps HeldValue (native p x held vs)) → CallKeeps (any_call language function native)
   any_keeps function native fs ns = record {
     by = kind_keeps function native (with_keys language (call_by_kind language function native no_keys)) fs ns
-        (with_keys_keep (call_by_kind language function native no_keys) (record { by = kind_keeps function native no_keys fs ns (λ p f vs k h g i. no_keys_keep p f vs k i) }));
+        (with_keys_keep (call_by_kind language function native no_keys) (record { by = kind_keeps function native no_keys fs ns no_keys_keep }));
   }
 
   natives_keep : (host : Host H) → HostKeeps host → (function : Call H) → CallKeeps function → (left : ℕ) → CallKeeps (call_with_natives language host function left)

@@ -13,7 +13,9 @@ pub mod IndexKeeps
 pub mod Keeping
 pub mod ListsKeep
 pub mod MembersHeld
+pub mod OrderHeld
 pub mod RangesHeld
 pub mod RowsHeld
+pub mod SortingKeeps
 pub mod TextMethodsKeep
 pub mod TextsKeep

@@ -111,9 +111,18 @@ with_pair_held k v ps (Some i) e key value h = with_value_held v ps i (slice_get
 pub put_pair_held : (k v : Value) (ps : List (Value × Value)) → HeldValue k → HeldValue v → HeldPairs ps → HeldPairs (put_pair k v ps)
 put_pair_held k v ps key value h = with_pair_held k v ps (place_of_key k ps) refl key value h
 
-pub put_pairs_held : (ps ms : List (Value × Value)) → HeldPairs ps → HeldPairs ms → HeldPairs (put_pairs ps ms)
+-- pairs of what the program holds, whose keys may stand twice
+abbrev pub BothHeld : List (Value × Value) → Type 0
+BothHeld [] = Unit {0}
+BothHeld (p ∷ ps) = HeldValue p.0 × HeldValue p.1 × BothHeld ps
+
+pub of_pairs : (ps : List (Value × Value)) → HeldPairs ps → BothHeld ps
+of_pairs [] h = tt
+of_pairs (p ∷ ps) h = (h.0, h.1, of_pairs ps h.3)
+
+pub put_pairs_held : (ps ms : List (Value × Value)) → HeldPairs ps → BothHeld ms → HeldPairs (put_pairs ps ms)
 put_pairs_held ps [] h k = h
-put_pairs_held ps (m ∷ ms) h k = put_pairs_held (put_pair m.0 m.1 ps) ms (put_pair_held m.0 m.1 ps k.0 k.1 h) k.3
+put_pairs_held ps (m ∷ ms) h k = put_pairs_held (put_pair m.0 m.1 ps) ms (put_pair_held m.0 m.1 ps k.0 k.1 h) k.2
 
 -- without the pair at a place
 cut_avoids : (x : Value) (ps : List (Value × Value)) (i : ℕ) → has_equal_key x ps ≡ false → has_equal_key x (remove ps i) ≡ false
@@ -132,15 +141,6 @@ cut_held (p ∷ ps) zero h = h.3
 cut_held (p ∷ ps) (suc i) h = (h.0, h.1, cut_avoids p.0 ps i h.2, cut_held ps i h.3)
 
 -- ---- the value of a key
-
--- pairs of what the program holds, whose keys may stand twice
-abbrev pub BothHeld : List (Value × Value) → Type 0
-BothHeld [] = Unit {0}
-BothHeld (p ∷ ps) = HeldValue p.0 × HeldValue p.1 × BothHeld ps
-
-pub of_pairs : (ps : List (Value × Value)) → HeldPairs ps → BothHeld ps
-of_pairs [] h = tt
-of_pairs (p ∷ ps) h = (h.0, h.1, of_pairs ps h.3)
 
 pair_value_held : (ps : List (Value × Value)) (i : ℕ) → BothHeld ps → IfFound HeldValue (value_of_pair (slice_get ps i))
 pair_value_held [] i h = tt

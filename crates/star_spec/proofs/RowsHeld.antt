@@ -22,7 +22,7 @@ use Rattle.value_spec.specs.Store.{value_of_key, put_pairs}
 use Rattle.value_spec.specs.Values.{Value, none_value, bool_value, int_value, text_value, tuple_value, range_value, struct_value, fragment_value, list_value, dict_value, function_value, module_value, native_value, values_in}
 use Rattle.star_spec.proofs.ActsKeep.{list_extend_keeps}
 use Rattle.star_spec.proofs.Keeping.{Keeps, Anything, keeps_then, keeps_give, keeps_fail, keeps_need, keeps_paid, keeps_steps, keeps_if, keeps_below, keeps_reads, may_change_keeps}
-use Rattle.star_spec.proofs.MembersHeld.{in_values, from_values, more_held, members_keep, list_keeps, pairs_keep, put_pairs_held, new_list_keeps, new_dict_keeps}
+use Rattle.star_spec.proofs.MembersHeld.{in_values, from_values, more_held, members_keep, list_keeps, of_pairs, pairs_keep, put_pairs_held, new_list_keeps, new_dict_keeps}
 
 -- ---- what is read of operands
 
@@ -114,7 +114,7 @@ list_repeated_held p r z = keeps_then (list_keeps r) (λ vs h. keeps_paid (lengt
 dicts_held : {H : Type 0} (p : Place) (a b : ℕ) → Keeps {H = H} HeldValue (join_dicts p a b)
 dicts_held p a b =
     keeps_then (pairs_keep a) (λ ps h. keeps_then (pairs_keep b) (λ qs k.
-    keeps_paid (length ps + length qs + (length ps + new_keys ps qs)) p (new_dict_keeps (put_pairs (put_pairs [] ps) qs) (put_pairs_held (put_pairs [] ps) qs (put_pairs_held [] ps tt h) k))))
+    keeps_paid (length ps + length qs + (length ps + new_keys ps qs)) p (new_dict_keeps (put_pairs (put_pairs [] ps) qs) (put_pairs_held (put_pairs [] ps) qs (put_pairs_held [] ps tt (of_pairs ps h)) (of_pairs qs k)))))
 
 -- ---- rows
 

@@ -5,11 +5,12 @@ use Rattle.std.specs.Prelude.{ℕ, zero, suc, List, [], ◌∷◌, Option, Resul
 use Rattle.ytt_base.specs.declared.fault.Fault.{Fault}
 use Rattle.ytt_base.specs.declared.fault.FaultKind.TheVariants as kind
 use Rattle.ytt_base.specs.declared.fault.Place.{Place}
+use Rattle.builtin_spec.specs.Sorting.{Keyed, without_keys, asks_keys}
 use Rattle.code_spec.specs.Code.{Name, Expr, Parameters}
 use Rattle.code_spec.specs.Program.{ItemKind}
 use Rattle.value_spec.specs.Values.{Value, function_value, native_value, builtin, method, host_native, Values, Arguments, one_value, Env, Function}
 use Rattle.value_spec.specs.Outcomes.{Ending, done, bad, then_do, Computation, paid, give, fail, or_fail, ill_formed, or_ill_formed, reads, ◌>>=◌}
-use Rattle.star_spec.specs.Language.{Call, Keyed, without_keys, asks_keys, Language}
+use Rattle.star_spec.specs.Language.{Call, Language}
 use Rattle.value_spec.specs.Store.{function_at}
 
 -- ---- code
@@ -74,17 +75,17 @@ native_call host call left p x held vs = host.ask p x held vs >>= after_reply ho
 
 -- a function of a file, one of the language's own, or a native; nothing else can be called
 abbrev pub call_by_kind : {H : Type 0} → Language H → (function : Call H) → (native : Place → Name → Values → Arguments → Computation H Value) →
-    (keyed : Place → Value → Arguments → Keyed → Computation H Value) → Call H
+    (keyed : Place → Keyed → Computation H Value) → Call H
 call_by_kind language function native keyed p (function_value r) vs = function p (function_value r) vs
-call_by_kind language function native keyed p (native_value (builtin x)) vs = language.own_call p (native_value (builtin x)) vs >>= keyed p (native_value (builtin x)) vs
-call_by_kind language function native keyed p (native_value (method x v)) vs = language.own_call p (native_value (method x v)) vs >>= keyed p (native_value (method x v)) vs
+call_by_kind language function native keyed p (native_value (builtin x)) vs = language.own_call p (native_value (builtin x)) vs >>= keyed p
+call_by_kind language function native keyed p (native_value (method x v)) vs = language.own_call p (native_value (method x v)) vs >>= keyed p
 call_by_kind language function native keyed p (native_value (host_native x held)) vs = native p x held vs
 call_by_kind language function native keyed p _ vs = fail kind.ValueKind p
 
 -- a call with one argument by position asks for no keys
-abbrev pub no_keys : {H : Type 0} → Place → Value → Arguments → Keyed → Computation H Value
-no_keys p f vs (without_keys v) = give v
-no_keys p f vs (asks_keys g members) = ill_formed
+abbrev pub no_keys : {H : Type 0} → Place → Keyed → Computation H Value
+no_keys p (without_keys v) = give v
+no_keys p (asks_keys w g members) = ill_formed
 
 -- the keys of members, in their order; these calls take no step
 abbrev pub keys_by : {H : Type 0} → Call H → Place → Value → List Value → Computation H (List Value)
@@ -94,9 +95,9 @@ keys_by call p g (v ∷ vs) = do
   ks ← keys_by call p g vs
   give (k ∷ ks)
 
-abbrev pub with_keys : {H : Type 0} → Language H → Call H → Place → Value → Arguments → Keyed → Computation H Value
-with_keys language call p f vs (without_keys v) = give v
-with_keys language call p f vs (asks_keys g members) = keys_by call p g members >>= language.own_call_keyed p f vs members
+abbrev pub with_keys : {H : Type 0} → Language H → Call H → Place → Keyed → Computation H Value
+with_keys language call p (without_keys v) = give v
+with_keys language call p (asks_keys w g members) = keys_by call p g members >>= language.own_call_keyed p w members
 
 abbrev pub any_call : {H : Type 0} → Language H → (function : Call H) → (native : Place → Name → Values → Arguments → Computation H Value) → Call H
 any_call language function native = call_by_kind language function native (with_keys language (call_by_kind language function native no_keys))

@@ -15,14 +15,15 @@ use Rattle.code_spec.specs.Names.{target_names, clauses_names}
 use Rattle.operator_spec.specs.Operators.{unary_row}
 use Rattle.operator_spec.specs.Order.{key_sized}
 use Rattle.builtin_spec.specs.Attributes.{attribute_row}
-use Rattle.builtin_spec.specs.Calls.{own_row}
+use Rattle.builtin_spec.specs.Calls.{asked_row}
 use Rattle.builtin_spec.specs.Operators.{assignment_row, operator_row}
+use Rattle.builtin_spec.specs.Sorting.{wanted_row}
 use Rattle.index_spec.specs.Index.{index_row, set_index_row}
 use Rattle.index_spec.specs.Slices.{slice_row}
 use Rattle.value_spec.specs.Store.{pairs_at, put_pair}
 use Rattle.star_spec.specs.Binding.{scope_of_call}
 use Rattle.star_spec.specs.Flow.{Flow, on, out, Part, over_members}
-use Rattle.star_spec.specs.Language.{Call, Language, without_keys}
+use Rattle.star_spec.specs.Language.{Call, Language}
 
 abbrev pub truth_of : {H : Type 0} → Value → Computation H Bool
 truth_of v = reads (λ store. truth_in store v)
@@ -240,7 +241,6 @@ augment_to call p o q (code.index r a i) e env = do
   set_index_row r x y w
 augment_to call p o q _ e env = ill_formed
 
--- so far none of the language's own functions asks for keys
 abbrev pub starlark : {H : Type 0} → Language H
 starlark = record {
   eval = eval;
@@ -252,6 +252,6 @@ starlark = record {
   members = members_of;
   defaults = default_values;
   bind = scope_of_call;
-  own_call = λ p f vs. own_row p f vs >>= λ v. give (without_keys v);
-  own_call_keyed = λ p f vs members keys. not_built p;
+  own_call = asked_row;
+  own_call_keyed = wanted_row;
 }

@@ -2,6 +2,7 @@
 -- a value is a parameter of each.
 use Rattle.std.specs.Prelude.{ℕ, Bool, List, Option, Some, None}
 use Rattle.ytt_base.specs.declared.fault.Place.{Place}
+use Rattle.builtin_spec.specs.Sorting.{Keyed, Wanted}
 use Rattle.code_spec.specs.Code.{Name, Expr, Exprs, BinaryOperator, Parameters, Statement, evaluate, assign, augment, load, return, break, continue, pass}
 use Rattle.value_spec.specs.Values.{Value, function_value, Arguments, Env, of_function}
 use Rattle.value_spec.specs.Outcomes.{Computation, paid, give, new_object, ◌>>=◌}
@@ -9,11 +10,6 @@ use Rattle.value_spec.specs.Outcomes.{Computation, paid, give, new_object, ◌>>
 -- a call of a value with arguments, at a place
 abbrev pub Call : Type 0 → Type 0
 Call H = Place → Value → Arguments → Computation H Value
-
--- what one of the language's own functions gives: a value, or it asks a function for the key of each member
-pub data Keyed : Type 0 where
-  without_keys : Value → Keyed
-  asks_keys : (function : Value) → (members : List Value) → Keyed
 
 pub record Language (H : Type 0) : Type 0 where
   pub eval : Call H → Expr → Env → Computation H Value
@@ -32,9 +28,9 @@ pub record Language (H : Type 0) : Type 0 where
   pub defaults : Call H → Parameters → Env → Computation H (List Value)
   -- the scope of a call: its parameters, and the names that its block binds, which have no value yet
   pub bind : Place → Parameters → (names : List Name) → (defaults : List Value) → Arguments → Env → Computation H Env
-  -- a call of one of the language's own functions and methods, and how it goes on with the keys of members
+  -- a call of one of the language's own functions and methods, and what it gives of members with the keys that it asked for
   pub own_call : Place → Value → Arguments → Computation H Keyed
-  pub own_call_keyed : Place → Value → Arguments → (members keys : List Value) → Computation H Value
+  pub own_call_keyed : Place → Wanted → (members keys : List Value) → Computation H Value
 
 -- how a block is left before its end
 pub data Word : Type 0 where
