@@ -1,0 +1,4 @@
+pub mod Choosing
+pub mod Laws
+pub mod Places
+pub mod Stable
