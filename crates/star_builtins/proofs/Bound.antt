@@ -1,10 +1,9 @@
 -- A call from the values of its parameters.
-use Rattle.std.proofs.Common.{◌≡◌, ℕ, true, false, List, Result, Err, refl, ap, subst, sym, ◌∙◌}
+use Rattle.std.proofs.Common.{◌≡◌, ℕ, List, Result, Err, ap, subst, sym, ◌∙◌}
 use Rattle.ytt_base.specs.declared.fault.Place.{Place}
 use Rattle.ytt_base.specs.declared.fault.Stop.{Stop}
 use Rattle.ytt_base.specs.declared.fault.Stop.TheVariants as stop
 use Rattle.builtin_spec.specs.Binding.{taking}
-use Rattle.builtin_spec.specs.Builtins.{range_row, zip_row}
 use Rattle.code_spec.specs.Code.{Name}
 use Rattle.star_steps.specs.Meets.{Gives, Meets, state_in}
 use Rattle.star_values.proofs.Growing.{grows_same}
@@ -13,24 +12,6 @@ use Rattle.star_values.specs.declared.value.Value.{Value as Held}
 use Rattle.value_spec.specs.Binding.{bound_values, none_for_each, parameters_named}
 use Rattle.value_spec.specs.Outcomes.{Computation, Ending, State, done, then_do}
 use Rattle.value_spec.specs.Values.{Arguments, Value}
-use Rattle.star_builtins.specs.View.{builtin_of, is_range, is_zip, taken_by}
-use Rattle.star_builtins.specs.declared.table.Bound.TheVariants as bound
-use Rattle.star_builtins.specs.declared.table.Builtin.{Builtin}
-use Rattle.star_builtins.specs.declared.table.Builtin.TheVariants as which
-
--- each function but `range` and `zip` binds its arguments to parameters
-pub binds : (b : Builtin) → is_range b ≡ false → is_zip b ≡ false → builtin_of b ≡ taken_by (bound.Function b)
-binds which.Range h k = cc
-binds which.Zip h k = cc
-binds b h k = refl
-
-pub ranges : (b : Builtin) → is_range b ≡ true → builtin_of b ≡ range_row
-ranges which.Range h = refl
-ranges b h = cc
-
-pub zips : (b : Builtin) → is_zip b ≡ true → builtin_of b ≡ zip_row
-zips which.Zip h = refl
-zips b h = cc
 
 module _ (p : Place) (f : Place → List Value → Computation (Unit {0}) Value) (args : Arguments) (a : View) (n : ℕ) (xs ys us vs : List Name) (needed : us ≡ xs) (optional : vs ≡ ys) where
   abbrev before : State (Unit {0})

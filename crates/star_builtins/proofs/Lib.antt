@@ -1,9 +1,11 @@
+mod Asking
 mod Bound
 mod Changing
 mod Found
 mod Given
 mod Keying
 mod Listing
+mod Pairing
 mod Ranges
 mod Reading
 mod Sequencing

@@ -1,17 +1,17 @@
 -- What the code's functions and methods are in the definitions.
-use Rattle.std.specs.Prelude.{ℕ, Bool, true, false, List, [], ◌∷◌, codes, if◌then◌else◌}
+use Rattle.std.specs.Prelude.{ℕ, Bool, false, List, [], ◌∷◌, codes, if◌then◌else◌}
 use Rattle.ytt_base.specs.declared.fault.FaultKind.TheVariants as kind
 use Rattle.ytt_base.specs.declared.fault.Place.{Place}
 use Rattle.builtin_spec.specs.Binding.{Own, is_given, taking}
-use Rattle.builtin_spec.specs.Builtins.{absolute_row, all_integers, all_true, enumerate_row, failure_row, get_attribute_row, has_attribute_row, integer_row, length_row, list_row, range_from, range_row, reversed_row, some_true, test_row, text_given, truth_row, tuple_row, type_name, zip_row}
+use Rattle.builtin_spec.specs.Builtins.{absolute_row, all_integers, all_true, enumerate_row, failure_row, field_names_row, get_attribute_row, has_attribute_row, integer_row, length_row, list_row, range_from, range_row, reversed_row, some_true, test_row, text_given, truth_row, tuple_row, type_name, zip_row}
 use Rattle.builtin_spec.specs.Calls.{own_method}
-use Rattle.builtin_spec.specs.Dicts.{get_row, listing_row, pair_value, pop_key_row, popitem_row, setdefault_row}
+use Rattle.builtin_spec.specs.Dicts.{dict_row, get_row, listing_row, pair_value, pop_key_row, popitem_row, setdefault_row, update_row}
 use Rattle.builtin_spec.specs.Lists.{append_row, clear_row, extending_row, index_of_row, insert_row, pop_row, remove_row}
 use Rattle.code_spec.specs.Code.{Name}
 use Rattle.operator_spec.specs.Operators.{tuple_of}
 use Rattle.text_spec.specs.Shown.{repr_of, str_of}
 use Rattle.text_spec.specs.Signatures.{value_at}
-use Rattle.value_spec.specs.Outcomes.{Computation, fail, give, new_list, not_built, or_fail, ◌>>=◌}
+use Rattle.value_spec.specs.Outcomes.{Computation, fail, give, new_list, or_fail, ◌>>=◌}
 use Rattle.value_spec.specs.Values as plain
 use Rattle.value_spec.specs.Values.{Arguments, dict_value, list_value, text_value}
 use Rattle.star_values.specs.Owns.{Owns}
@@ -27,6 +27,10 @@ use Rattle.star_builtins.specs.declared.table.DictMethod.{DictMethod}
 use Rattle.star_builtins.specs.declared.table.DictMethod.TheVariants as of_dict
 use Rattle.star_builtins.specs.declared.table.ListMethod.{ListMethod}
 use Rattle.star_builtins.specs.declared.table.ListMethod.TheVariants as of_list
+use Rattle.star_builtins.specs.declared.table.Named.{Named}
+use Rattle.star_builtins.specs.declared.table.Named.TheVariants as named
+use Rattle.star_builtins.specs.declared.table.NamedOfDict.{NamedOfDict}
+use Rattle.star_builtins.specs.declared.table.NamedOfDict.TheVariants as named_of_dict
 
 abbrev pub Here : Type 0
 Here = Unit {0}
@@ -113,7 +117,7 @@ was_given (bound.OfDict m r) args = given_to_dict_method m args
 abbrev pub of_integers : Place → (from to step : plain.Value) → Computation Here plain.Value
 of_integers p a b d = or_fail kind.ValueKind p (all_integers (a ∷ b ∷ d ∷ [])) >>= range_from p
 
--- what a function gives for the values of its parameters; `range` and `zip` have none
+-- what a function gives for the values of its parameters
 abbrev pub function_gives : Builtin → (given : Bool) → Place → List plain.Value → Computation Here plain.Value
 function_gives which.Len given p vs = length_row p (value_at 0 vs)
 function_gives which.Str given p vs = text_given (str_of p (value_at 0 vs))
@@ -127,12 +131,11 @@ function_gives which.Reversed given p vs = reversed_row p (value_at 0 vs)
 function_gives which.Any given p vs = test_row some_true p (value_at 0 vs)
 function_gives which.All given p vs = test_row all_true p (value_at 0 vs)
 function_gives which.Abs given p vs = absolute_row p (value_at 0 vs)
-function_gives which.Range given p vs = not_built p
 function_gives which.Int given p vs = integer_row p (value_at 0 vs) given (value_at 1 vs)
 function_gives which.Enumerate given p vs = enumerate_row p (value_at 0 vs) (value_at 1 vs)
-function_gives which.Zip given p vs = not_built p
 function_gives which.HasAttr given p vs = has_attribute_row p (value_at 0 vs) (value_at 1 vs)
 function_gives which.GetAttr given p vs = get_attribute_row p (value_at 0 vs) (value_at 1 vs) given (value_at 2 vs)
+function_gives which.Dir given p vs = field_names_row p (value_at 0 vs)
 
 abbrev pub list_method_gives : ℕ → ListMethod → (given : Bool) → Place → List plain.Value → Computation Here plain.Value
 list_method_gives r of_list.Append given p vs = append_row p r (value_at 0 vs)
@@ -164,31 +167,29 @@ taken_by b p args = taking (needed_of b) (optional_of b) (gives_of b (was_given 
 
 -- ---- what is called
 
-abbrev pub is_range : Builtin → Bool
-is_range which.Range = true
-is_range b = false
-
-abbrev pub is_zip : Builtin → Bool
-is_zip which.Zip = true
-is_zip b = false
-
-abbrev pub builtin_of : Builtin → Own Here
-builtin_of which.Range = range_row
-builtin_of which.Zip = zip_row
-builtin_of b = taken_by (bound.Function b)
+abbrev pub builtin_of : Named → Own Here
+builtin_of (named.Bound b) = taken_by (bound.Function b)
+builtin_of named.Range = range_row
+builtin_of named.Zip = zip_row
+builtin_of named.Dict = dict_row
 
 abbrev pub list_method_of : ℕ → ListMethod → Own Here
 list_method_of r m p args = taking (list_method_needs m) (list_method_may_have m) (list_method_gives r m (given_to_list_method m args)) p args
 
-abbrev pub dict_method_of : ℕ → DictMethod → Own Here
-dict_method_of r m p args = taking (dict_method_needs m) (dict_method_may_have m) (dict_method_gives r m (given_to_dict_method m args)) p args
+abbrev pub bound_dict_method : ℕ → DictMethod → Own Here
+bound_dict_method r m p args = taking (dict_method_needs m) (dict_method_may_have m) (dict_method_gives r m (given_to_dict_method m args)) p args
+
+abbrev pub dict_method_of : ℕ → NamedOfDict → Own Here
+dict_method_of r (named_of_dict.Bound m) = bound_dict_method r m
+dict_method_of r named_of_dict.Update = update_row r
 
 abbrev pub called : View → held_own.Own → Own Here
 called a (own.Bound b) = taken_by b
 called a own.Range = range_row
 called a own.Zip = zip_row
+called a own.Dict = dict_row
+called a (own.Update r) = update_row r.at
 called a (own.OfText x r) = λ p args. own_method p x (value_of a (value.Text r)) args
-called a own.Unbuilt = λ p args. not_built p
 called a own.Other = λ p args. fail kind.ValueKind p
 
 -- what a method is of is owned
@@ -199,5 +200,6 @@ OwnsBound a (bound.OfDict m r) = Owns a (value.Dict r)
 
 abbrev pub OwnsOwn : View → held_own.Own → Type 0
 OwnsOwn a (own.Bound b) = OwnsBound a b
+OwnsOwn a (own.Update r) = Owns a (value.Dict r)
 OwnsOwn a (own.OfText x r) = Owns a (value.Text r)
 OwnsOwn a _ = Unit {0}

@@ -39,7 +39,7 @@ pub fn attribute(arena: &mut Arena, on: Value, name: &Text, at: Place) -> Given
 }
 
 /// The fields of a module.
-fn exports(arena: &Arena, r: Ref) -> &[NamedValue]
+pub(crate) fn exports(arena: &Arena, r: Ref) -> &[NamedValue]
     requires { Owns (seen arena.now) (value.Module r) }
     ensures fields { (module_in (get_or (seen arena.now).held r.at none_value)).1 ≡ fields_in (seen arena.now).held result.now }
     ensures owns { OwnsFields (seen arena.now) result.now }
@@ -57,11 +57,11 @@ fn is_list_method(name: &str) -> bool
     list_method_named(name).is_some()
 }
 
-/// Whether dicts have a method of this name, `update` among them.
+/// Whether dicts have a method of this name.
 fn is_dict_method(name: &str) -> bool
     ensures { result ≡ is_dict_method name.now }
 {
-    dict_method_named(name).is_some() || name == "update"
+    dict_method_named(name).is_some()
 }
 
 /// A method of a value, where there is one of this name.

@@ -1,7 +1,7 @@
 // Calls of the language's own functions and methods.
-ghost use Rattle.std.specs.Prelude.{◌≡◌, ℕ, IfOk};
+ghost use Rattle.std.specs.Prelude.{◌≡◌, IfOk, option_map};
 ghost use Rattle.builtin_spec.specs.Builtins.{own_function};
-ghost use Rattle.builtin_spec.specs.Calls.{own_method, own_row};
+ghost use Rattle.builtin_spec.specs.Calls.{asked_row, own_method, own_row};
 ghost use Rattle.object_arena.specs.Made.{Makes};
 ghost use Rattle.star_steps.specs.Names.{Gives, Owns, OwnsAll, seen, state_in, value_of, values_of};
 ghost use Rattle.star_values.specs.Owns.{OwnsArguments};
@@ -9,32 +9,37 @@ ghost use Rattle.star_values.specs.View.{View, arguments_in};
 ghost use Rattle.star_values.specs.declared.value.Value.TheVariants as value;
 ghost use Rattle.value_spec.specs.Values.{Arguments, builtin, native_value};
 ghost use Rattle.ytt_base.specs.declared.fault.Place.{Place};
-ghost use Rattle.star_builtins.specs.View.{OwnsBound, OwnsOwn, called, gives_of, is_range, is_zip, taken_by};
+ghost use Rattle.star_builtins.specs.View.{OwnsBound, OwnsOwn, called, gives_of, taken_by};
+ghost use Rattle.star_builtins.specs.Asked.{Asks, Yields, keyed_row, of_native, row_with_keys};
 
+use crate::asked::{Asked, KeyedBuiltin, keyed_call, keyed_named};
 use crate::dicts::apply_to_dict;
 use crate::functions::apply;
 use crate::lists::apply_to_list;
 use crate::numbers::range;
+use crate::pairs::{dict, update};
 use crate::sequences::zip;
 use crate::table::{
-    Bound, Builtin, builtin_named, dict_method_named, list_method_named, parameters_of, was_given,
+    Bound, Named, NamedOfDict, builtin_named, dict_method_named, list_method_named, parameters_of,
+    was_given,
 };
 use object_arena::{Answerer, Arena, CallArgs, Ref, Shape, Value, Work};
 use star_calls::bind_named;
 use star_steps::{Given, refusal};
 use star_text::text_method;
-use ytt_base::fault::{FaultKind, Place};
+use ytt_base::fault::{FaultKind, Place, Stop};
 use ytt_base::text::{Memory, Text};
 
-/// What is called: what binds its arguments to parameters; `range` or `zip`; a method of a text, by its name; what isn't built yet; or none of
-/// the language's own.
+/// What is called: what binds its arguments to parameters; what takes them as they are, a function or `update` of a dict; a method of a
+/// text, by its name; or none of the language's own.
 #[derive(Drop)]
 pub(crate) enum Own {
     Bound(Bound),
     Range,
     Zip,
+    Dict,
+    Update(Ref),
     OfText(Text, Ref),
-    Unbuilt,
     Other,
 }
 
@@ -67,34 +72,11 @@ fn function_of(name: &str) -> Own
     ensures owned { (a : View) → OwnsOwn a result }
 {
     match builtin_named(name) {
-        None => Own::Unbuilt,
-        Some(builtin) => {
-            if is_range(builtin) {
-                Own::Range
-            } else if is_zip(builtin) {
-                Own::Zip
-            } else {
-                Own::Bound(Bound::Function(builtin))
-            }
-        }
-    }
-}
-
-fn is_zip(builtin: Builtin) -> bool
-    ensures { result ≡ is_zip builtin }
-{
-    match builtin {
-        Builtin::Zip => true,
-        _ => false,
-    }
-}
-
-fn is_range(builtin: Builtin) -> bool
-    ensures { result ≡ is_range builtin }
-{
-    match builtin {
-        Builtin::Range => true,
-        _ => false,
+        None => Own::Other,
+        Some(Named::Bound(builtin)) => Own::Bound(Bound::Function(builtin)),
+        Some(Named::Range) => Own::Range,
+        Some(Named::Zip) => Own::Zip,
+        Some(Named::Dict) => Own::Dict,
     }
 }
 
@@ -108,12 +90,13 @@ fn method_of(arena: &Arena, name: &Text, on: Value) -> Result<Own, Memory>
     match on {
         Value::Text(text) => Ok(Own::OfText(name.copy()?, text)),
         Value::List(list) => match list_method_named(name.as_str()) {
-            None => Ok(Own::Unbuilt),
+            None => Ok(Own::Other),
             Some(method) => Ok(Own::Bound(Bound::OfList(method, list))),
         },
         Value::Dict(dict) => match dict_method_named(name.as_str()) {
-            None => Ok(Own::Unbuilt),
-            Some(method) => Ok(Own::Bound(Bound::OfDict(method, dict))),
+            None => Ok(Own::Other),
+            Some(NamedOfDict::Bound(method)) => Ok(Own::Bound(Bound::OfDict(method, dict))),
+            Some(NamedOfDict::Update) => Ok(Own::Update(dict)),
         },
         Value::None
         | Value::Bool(_)
@@ -124,25 +107,62 @@ fn method_of(arena: &Arena, name: &Text, on: Value) -> Result<Own, Memory>
         | Value::Fragment(_)
         | Value::Func(_)
         | Value::Native(_)
-        | Value::Module(_) => Ok(Own::Unbuilt),
+        | Value::Module(_) => Ok(Own::Other),
     }
 }
 
-/// What a call of one of the language's own functions or methods gives, each refusal at the place: `ArgBind` of arguments that don't
-/// fit, `ValueKind` of a value of another kind and of what is none of the language's own, `NotBuilt` of what isn't built yet, and
-/// what the function or the method itself refuses.
-pub fn own_call(arena: &mut Arena, work: &mut Work, native: Ref, args: CallArgs, at: Place) -> Given
+/// What a call of one of the language's own functions or methods gives, which may ask a function for keys; each refusal at the place:
+/// `ArgBind` of arguments that don't fit, `ValueKind` of a value of another kind and of what is none of the language's own, and what the
+/// function or the method itself refuses.
+pub fn own_call(
+    arena: &mut Arena,
+    work: &mut Work,
+    native: Ref,
+    args: CallArgs,
+    at: Place,
+) -> Result<Asked, Stop>
     requires native { Owns (seen arena.old) (value.Native native) }
     requires args { OwnsArguments (seen arena.old) args }
-    ensures row { Gives (own_row at (value_of (seen arena.old) (value.Native native)) (arguments_in (seen arena.old).held args) (state_in (seen arena.old) work.old.steps)) result (seen arena.old) (seen arena.new) work.new.steps }
+    ensures row { Asks (of_native asked_row at arena.old native args) result arena.old arena.new work.old.steps work.new.steps }
+    ensures depth { work.new.depth ≡ work.old.depth }
+{
+    match keyed_of(arena, native) {
+        Some(which) => keyed_call(arena, &mut work.steps, which, args, at),
+        None => {
+            let value = plain_call(arena, work, native, args, at)?;
+            Ok(Asked::Value(value))
+        }
+    }
+}
+
+/// The function that may ask for keys, if a native is one.
+fn keyed_of(arena: &Arena, native: Ref) -> Option<KeyedBuiltin>
+    requires { Owns (seen arena.now) (value.Native native) }
+    ensures { option_map keyed_row result ≡ row_with_keys (value_of (seen arena.now) (value.Native native)) }
+{
+    match arena.shape(native) {
+        Shape::Native(Answerer::Language, name, None) => keyed_named(name.as_str()),
+        Shape::Native(Answerer::Language, _, Some(_)) => None,
+        Shape::Native(Answerer::Host, _, _) => None,
+        Shape::Replacement(_) => None,
+        _ => unreachable!(),
+    }
+}
+
+/// What a call gives that asks for no keys.
+fn plain_call(arena: &mut Arena, work: &mut Work, native: Ref, args: CallArgs, at: Place) -> Given
+    requires native { Owns (seen arena.old) (value.Native native) }
+    requires args { OwnsArguments (seen arena.old) args }
+    ensures row { Yields (of_native own_row at arena.old native args) result arena.old arena.new work.old.steps work.new.steps }
     ensures depth { work.new.depth ≡ work.old.depth }
 {
     match own_of(arena, native)? {
         Own::Bound(bound) => call(arena, work, bound, args, at),
         Own::Range => range(arena, &args, at),
         Own::Zip => zip(arena, &mut work.steps, &args, at),
+        Own::Dict => dict(arena, &mut work.steps, &args, at),
+        Own::Update(object) => update(arena, &mut work.steps, object, &args, at),
         Own::OfText(name, text) => { text_method(arena, work, Value::Text(text), &name, args, at) }
-        Own::Unbuilt => Err(refusal(arena, FaultKind::NotBuilt, at)),
         Own::Other => Err(refusal(arena, FaultKind::ValueKind, at)),
     }
 }

@@ -22,7 +22,7 @@ use ytt_base::fault::{FaultKind, Place};
 use ytt_base::text::Memory;
 
 /// Pairs of keys and values.
-type PairItems = Items<(Value, Value)>;
+pub(crate) type PairItems = Items<(Value, Value)>;
 
 /// What is listed of each pair.
 #[derive(Clone, Copy)]
@@ -98,7 +98,7 @@ fn list_pairs(arena: &mut Arena, steps: &mut u64, dict: Ref, what: Listed, at: P
 }
 
 /// A copy of pairs.
-fn copied(alloc: Global, pairs: Slice<'_, Value, Value>) -> Result<PairItems, Memory>
+pub(crate) fn copied(alloc: Global, pairs: Slice<'_, Value, Value>) -> Result<PairItems, Memory>
     ensures { IfOk result (λ ps. ps ≡ pairs.entry) }
 {
     let mut all = Items::new(alloc);
@@ -222,11 +222,11 @@ fn set_default(
         return Err(stop_at(arena, stop, at));
     }
     key_size(arena, at, key, steps)?;
-    match value_under(arena, dict, key) {
-        Some(value) => Ok(value),
-        None => match arena.dict_put(dict, key, other) {
-            Ok(_) => Ok(other),
-            Err(stop) => Err(stop_at(arena, stop, at)),
-        },
+    if let Some(value) = value_under(arena, dict, key) {
+        return Ok(value);
+    }
+    match arena.dict_put(dict, key, other) {
+        Ok(_) => Ok(other),
+        Err(stop) => Err(stop_at(arena, stop, at)),
     }
 }

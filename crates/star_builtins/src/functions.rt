@@ -7,6 +7,7 @@ ghost use Rattle.text_spec.specs.Shown.{repr_of, str_of};
 ghost use Rattle.star_builtins.specs.View.{function_gives};
 
 use crate::attributes::{get_attribute, has_attribute};
+use crate::field_names::field_names;
 use crate::integers::integer_of;
 use crate::members::{all, any, list, reversed, tuple};
 use crate::numbers::absolute;
@@ -20,7 +21,7 @@ use star_text::argument;
 use ytt_base::fault::{Fault, FaultKind, Place, Stop};
 use ytt_base::text::Text;
 
-/// What a function gives for the values of its parameters. `range` and `zip` have none.
+/// What a function gives for the values of its parameters.
 pub(crate) fn apply(
     arena: &mut Arena,
     work: &mut Work,
@@ -50,7 +51,6 @@ pub(crate) fn apply(
         Builtin::Any => any(arena, &mut work.steps, value, at),
         Builtin::All => all(arena, &mut work.steps, value, at),
         Builtin::Abs => absolute(arena, work, value, at),
-        Builtin::Range | Builtin::Zip => Err(refusal(arena, FaultKind::NotBuilt, at)),
         Builtin::Int => {
             let base = argument(arena, values, 1);
             integer_of(arena, &mut work.steps, value, given, base, at)
@@ -65,6 +65,7 @@ pub(crate) fn apply(
             let other = argument(arena, values, 2);
             get_attribute(arena, value, name, given, other, at)
         }
+        Builtin::Dir => field_names(arena, &mut work.steps, value, at),
     }
 }
 

@@ -11,7 +11,7 @@ ghost use Rattle.value_spec.specs.Values as plain;
 
 use object_arena::{CallArgs, NamedValue, Ref};
 
-/// A function of the language.
+/// A function of the language that binds its arguments to parameters.
 #[derive(Clone, Copy)]
 pub(crate) enum Builtin {
     Len,
@@ -26,12 +26,20 @@ pub(crate) enum Builtin {
     Any,
     All,
     Abs,
-    Range,
     Int,
     Enumerate,
-    Zip,
     HasAttr,
     GetAttr,
+    Dir,
+}
+
+/// The function of a name: one that binds its arguments to parameters, or one that takes them as they are.
+#[derive(Clone, Copy)]
+pub(crate) enum Named {
+    Bound(Builtin),
+    Range,
+    Zip,
+    Dict,
 }
 
 /// A method of lists.
@@ -46,7 +54,7 @@ pub(crate) enum ListMethod {
     Remove,
 }
 
-/// A method of dicts.
+/// A method of dicts that binds its arguments to parameters.
 #[derive(Clone, Copy)]
 pub(crate) enum DictMethod {
     Clear,
@@ -59,7 +67,14 @@ pub(crate) enum DictMethod {
     Values,
 }
 
-/// A function but `range` and `zip`, or a method of a list or a dict: what binds its arguments to parameters.
+/// The method of dicts of a name: one that binds its arguments to parameters, or `update`, which takes them as they are.
+#[derive(Clone, Copy)]
+pub(crate) enum NamedOfDict {
+    Bound(DictMethod),
+    Update,
+}
+
+/// What binds its arguments to parameters: a function, or a method of a list or a dict.
 #[derive(Clone, Copy)]
 pub(crate) enum Bound {
     Function(Builtin),
@@ -67,29 +82,31 @@ pub(crate) enum Bound {
     OfDict(DictMethod, Ref),
 }
 
-/// The function of a name, so far as it is built.
-pub(crate) fn builtin_named(name: &str) -> Option<Builtin>
+/// The function of a name.
+pub(crate) fn builtin_named(name: &str) -> Option<Named>
     ensures { option_map builtin_of result ≡ own_in name.now builtins }
 {
     match name {
-        "len" => Some(Builtin::Len),
-        "str" => Some(Builtin::Str),
-        "repr" => Some(Builtin::Repr),
-        "type" => Some(Builtin::Type),
-        "bool" => Some(Builtin::Bool),
-        "fail" => Some(Builtin::Fail),
-        "list" => Some(Builtin::List),
-        "tuple" => Some(Builtin::Tuple),
-        "reversed" => Some(Builtin::Reversed),
-        "any" => Some(Builtin::Any),
-        "all" => Some(Builtin::All),
-        "abs" => Some(Builtin::Abs),
-        "range" => Some(Builtin::Range),
-        "int" => Some(Builtin::Int),
-        "enumerate" => Some(Builtin::Enumerate),
-        "zip" => Some(Builtin::Zip),
-        "hasattr" => Some(Builtin::HasAttr),
-        "getattr" => Some(Builtin::GetAttr),
+        "len" => Some(Named::Bound(Builtin::Len)),
+        "str" => Some(Named::Bound(Builtin::Str)),
+        "repr" => Some(Named::Bound(Builtin::Repr)),
+        "type" => Some(Named::Bound(Builtin::Type)),
+        "bool" => Some(Named::Bound(Builtin::Bool)),
+        "fail" => Some(Named::Bound(Builtin::Fail)),
+        "list" => Some(Named::Bound(Builtin::List)),
+        "tuple" => Some(Named::Bound(Builtin::Tuple)),
+        "reversed" => Some(Named::Bound(Builtin::Reversed)),
+        "any" => Some(Named::Bound(Builtin::Any)),
+        "all" => Some(Named::Bound(Builtin::All)),
+        "abs" => Some(Named::Bound(Builtin::Abs)),
+        "range" => Some(Named::Range),
+        "enumerate" => Some(Named::Bound(Builtin::Enumerate)),
+        "zip" => Some(Named::Zip),
+        "int" => Some(Named::Bound(Builtin::Int)),
+        "hasattr" => Some(Named::Bound(Builtin::HasAttr)),
+        "getattr" => Some(Named::Bound(Builtin::GetAttr)),
+        "dict" => Some(Named::Dict),
+        "dir" => Some(Named::Bound(Builtin::Dir)),
         _ => None,
     }
 }
@@ -110,19 +127,20 @@ pub(crate) fn list_method_named(name: &str) -> Option<ListMethod>
     }
 }
 
-/// The method of dicts of a name, so far as it is built.
-pub(crate) fn dict_method_named(name: &str) -> Option<DictMethod>
+/// The method of dicts of a name.
+pub(crate) fn dict_method_named(name: &str) -> Option<NamedOfDict>
     ensures { (r : ℕ) → option_map (dict_method_of r) result ≡ own_in name.now (dict_methods r) }
 {
     match name {
-        "clear" => Some(DictMethod::Clear),
-        "get" => Some(DictMethod::Get),
-        "items" => Some(DictMethod::Items),
-        "keys" => Some(DictMethod::Keys),
-        "pop" => Some(DictMethod::Pop),
-        "popitem" => Some(DictMethod::PopItem),
-        "setdefault" => Some(DictMethod::SetDefault),
-        "values" => Some(DictMethod::Values),
+        "clear" => Some(NamedOfDict::Bound(DictMethod::Clear)),
+        "get" => Some(NamedOfDict::Bound(DictMethod::Get)),
+        "items" => Some(NamedOfDict::Bound(DictMethod::Items)),
+        "keys" => Some(NamedOfDict::Bound(DictMethod::Keys)),
+        "pop" => Some(NamedOfDict::Bound(DictMethod::Pop)),
+        "popitem" => Some(NamedOfDict::Bound(DictMethod::PopItem)),
+        "setdefault" => Some(NamedOfDict::Bound(DictMethod::SetDefault)),
+        "update" => Some(NamedOfDict::Update),
+        "values" => Some(NamedOfDict::Bound(DictMethod::Values)),
         _ => None,
     }
 }
@@ -170,8 +188,7 @@ fn function_takes(builtin: Builtin) -> Takes
         | Builtin::Any
         | Builtin::All
         | Builtin::Abs
-        | Builtin::Range
-        | Builtin::Zip => taking(&["x"], &[]),
+        | Builtin::Dir => taking(&["x"], &[]),
         Builtin::Int => taking(&["x"], &["base"]),
         Builtin::Enumerate => taking(&["x"], &["start"]),
     }

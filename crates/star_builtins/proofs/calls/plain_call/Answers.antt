@@ -5,7 +5,7 @@ use Rattle.star_values.specs.View.{arguments_in}
 use Rattle.star_builtins.specs.View.{Here, called}
 use Rattle.value_spec.specs.Outcomes.{Computation}
 use Rattle.value_spec.specs.Values.{Value}
-use Rattle.star_builtins.proofs.calls.own_call.Goals as goal
+use Rattle.star_builtins.proofs.calls.plain_call.Goals as goal
 
 pub returns-in-Range-clause-row : goal.returns-in-Range-clause-row
 returns-in-Range-clause-row c =
