@@ -1,12 +1,13 @@
 -- Calls, as they begin and end.
-use Rattle.std.proofs.Common.{◌≡◌, ◌-◌, Bool, true, false, arith, ℕ, zero, suc, List, [], ◌∷◌, ◌++◌, Option, Some, None, Result, option_map, refl, ap, subst, sym, ◌∙◌}
+use Rattle.std.proofs.Common.{◌≡◌, ◌-◌, Bool, true, false, if◌then◌else◌, arith, bytes_eq, codes, ℕ, zero, suc, List, [], ◌∷◌, ◌++◌, Option, Some, None, Result, option_map, refl, ap, subst, sym, ◌∙◌}
 use Rattle.std.proofs.lemmas.List.{reverse-append}
 use Rattle.ytt_base.specs.declared.fault.FaultKind.TheVariants as kind
 use Rattle.ytt_base.specs.declared.fault.Fault.{Fault}
 use Rattle.ytt_base.specs.declared.fault.Place.{Place}
 use Rattle.ytt_base.specs.declared.fault.Stop.{Stop}
 use Rattle.ytt_base.specs.Outcomes.{fault_at, fault_of}
-use Rattle.builtin_spec.specs.Calls.{own_row}
+use Rattle.builtin_spec.specs.Calls.{asked_row, keyed_or, own_row}
+use Rattle.builtin_spec.specs.Sorting.{Keyed, Wanted, asks_keys, first_row, keyed_builtin, members_taken, sorted_row, wanted_row, without_keys}
 use Rattle.code_spec.specs.Blocks.{Ops}
 use Rattle.code_spec.specs.Allowed.{parameter_names}
 use Rattle.code_spec.specs.Code.{Name}
@@ -16,20 +17,17 @@ use Rattle.star_functions.specs.View.{code_of}
 use Rattle.star_functions.specs.declared.function.FunctionCode.{FunctionCode}
 use Rattle.star_functions.specs.declared.functions.Functions.{Functions}
 use Rattle.star_spec.specs.Binding.{scope_of_call}
-use Rattle.star_spec.specs.Calls.{Code, apply, call_by_kind, call_with_natives, enter_code, function_call, native_call, no_keys, no_natives, names_of, parameters_of, too_deep, with_keys}
+use Rattle.star_spec.specs.Calls.{Code, apply, call_by_kind, call_with_natives, enter_code, function_call, keys_by, native_call, no_keys, no_natives, names_of, parameters_of, too_deep, with_keys}
 use Rattle.star_spec.specs.Eval.{starlark}
 use Rattle.star_spec.specs.Flow.{Flow}
-use Rattle.star_spec.specs.Language.{Call, Keyed, without_keys}
+use Rattle.star_spec.specs.Language.{Call}
 use Rattle.star_calls.specs.Scope.{GivesScope}
 use Rattle.star_resolve.specs.Frames.{added}
 use Rattle.star_steps.specs.Meets.{state_in}
 use Rattle.star_tree.specs.View.{item_kind_of}
 use Rattle.star_tree.specs.Whole as whole
 use Rattle.star_tree.specs.declared.code.Param.{Param}
-use Rattle.star_values.specs.View.{View, value_of}
-use Rattle.star_values.specs.declared.value.Ref.{Ref}
-use Rattle.star_values.specs.declared.value.Value as held_value
-use Rattle.star_values.specs.declared.value.Value.TheVariants as value
+use Rattle.star_values.specs.View.{View}
 use Rattle.star_tree.specs.declared.program.ItemKind.{ItemKind}
 use Rattle.star_values.proofs.Growing.{each_joined, grows_same}
 use Rattle.star_values.specs.Objects.{env_in}
@@ -39,7 +37,7 @@ use Rattle.template_meaning.specs.Calls.{bottom, enter_ops, level_of}
 use Rattle.value_spec.specs.Outcomes.{Computation, Ending, State, bad, done, fail, give, or_fail, or_ill_formed, then_do, ◌>>=◌}
 use Rattle.value_spec.specs.Store.{function_at}
 use Rattle.value_spec.specs.Values as plain
-use Rattle.value_spec.specs.Values.{Arguments, Function, function_value, native_value, builtin, method, host_native, replacement}
+use Rattle.value_spec.specs.Values.{Arguments, Function, function_value, native_value, builtin, method, host_native, one_value, replacement}
 use Rattle.star_eval.specs.declared.frame.Caller.{Caller}
 use Rattle.star_eval.specs.declared.frame.Control.{Control}
 use Rattle.star_eval.specs.declared.frame.Control.TheVariants as control
@@ -52,36 +50,91 @@ use Rattle.star_eval.specs.Meets.{Here, state_of}
 use Rattle.star_eval.specs.View.{OwnsFrame, Sound, arena_in, caller_of, frames_of, nodes_in, setting_of, waiting_in}
 use Rattle.star_eval.specs.Waiting.{call_gives, setting}
 
+-- ---- what asks for no keys
+
+abbrev Unasked : Ending Here Keyed → Type 0
+Unasked (done (without_keys v) s) = Unit {0}
+Unasked (done (asks_keys w f vs) s) = ⊥
+Unasked (bad e s) = Unit {0}
+
+unasked_then : {A : Type 0} (e : Ending Here A) (f : A → Computation Here Keyed) → ((a : A) (s : State Here) → Unasked (f a s)) → Unasked (then_do e f)
+unasked_then (done a s) f h = h a s
+unasked_then (bad d s) f h = tt
+
+plain_unasked : (e : Ending Here plain.Value) → Unasked (then_do e (λ v. give (without_keys v)))
+plain_unasked (done v s) = tt
+plain_unasked (bad d s) = tt
+
+-- what may ask, without a key that is given
+abbrev RowUnasked : Option (Place → Arguments → Computation Here Keyed) → Type 0
+RowUnasked None = Unit {0}
+RowUnasked (Some row) = (p : Place) (v : plain.Value) (s : State Here) → Unasked (row p (one_value v) s)
+
+if_unasked : (b : Bool) (o q : Option (Place → Arguments → Computation Here Keyed)) → RowUnasked o → RowUnasked q → RowUnasked (if b then o else q)
+if_unasked true o q h k = h
+if_unasked false o q h k = k
+
+table_unasked : (x : Name) → RowUnasked (keyed_builtin x)
+table_unasked x =
+    if_unasked (bytes_eq x (codes "sorted")) (Some sorted_row) _ (λ p v s. unasked_then (members_taken p v s) (λ vs. wanted_row p (record { first_alone = false; descending = false }) vs vs >>= λ w. give (without_keys w)) (λ vs t. plain_unasked (wanted_row p (record { first_alone = false; descending = false }) vs vs t)))
+    (if_unasked (bytes_eq x (codes "min")) (Some (first_row false)) _ (λ p v s. unasked_then (members_taken p v s) (λ vs. wanted_row p (record { first_alone = true; descending = false }) vs vs >>= λ w. give (without_keys w)) (λ vs t. plain_unasked (wanted_row p (record { first_alone = true; descending = false }) vs vs t)))
+    (if_unasked (bytes_eq x (codes "max")) (Some (first_row true)) None (λ p v s. unasked_then (members_taken p v s) (λ vs. wanted_row p (record { first_alone = true; descending = true }) vs vs >>= λ w. give (without_keys w)) (λ vs t. plain_unasked (wanted_row p (record { first_alone = true; descending = true }) vs vs t))) tt))
+
+or_unasked : (p : Place) (f v : plain.Value) (o : Option (Place → Arguments → Computation Here Keyed)) (s : State Here) → RowUnasked o → Unasked (keyed_or p f (one_value v) o s)
+or_unasked p f v None s h = plain_unasked (own_row p f (one_value v) s)
+or_unasked p f v (Some row) s h = h p v s
+
+-- no native asks for keys that is called with one argument by position
+never_asks : (p : Place) (x : plain.Native) (v : plain.Value) (s : State Here) → Unasked (asked_row p (native_value x) (one_value v) s)
+never_asks p (builtin x) v s = or_unasked p (native_value (builtin x)) v (keyed_builtin x) s (table_unasked x)
+never_asks p (method x y) v s = plain_unasked (own_row p (native_value (method x y)) (one_value v) s)
+never_asks p (host_native x held) v s = plain_unasked (own_row p (native_value (host_native x held)) (one_value v) s)
+never_asks p (replacement y) v s = plain_unasked (own_row p (native_value (replacement y)) (one_value v) s)
+
+-- so it isn't how such a call ends
+pub none_asked : (p : Place) (x : plain.Native) (v : plain.Value) (s t : State Here) (w : Wanted) (f : plain.Value) (vs : List plain.Value) → asked_row p (native_value x) (one_value v) s ≡ done (asks_keys w f vs) t → ⊥
+none_asked p x v s t w f vs e = subst Unasked e (never_asks p x v s)
+
+no_difference : (call : Call Here) (p : Place) (e : Ending Here Keyed) → Unasked e → then_do e (no_keys p) ≡ then_do e (with_keys starlark call p)
+no_difference call p (done (without_keys v) s) h = refl
+no_difference call p (done (asks_keys w f vs) s) h = absurd h
+no_difference call p (bad d s) h = refl
+
 -- ---- what is called
 
 -- no answer depends on the count that bounds the calls of natives
-module _ (f : Call Here) (p : Place) (vs : Arguments) (s : State Here) where
-  by_function : (n r : ℕ) → call_with_natives starlark no_natives f n p (function_value r) vs s ≡ f p (function_value r) vs s
-  by_function zero r = refl
-  by_function (suc n) r = refl
-
-  -- a value that is given goes on as it is
-  unkeyed : (e : Ending Here plain.Value) (k : Keyed → Computation Here plain.Value) → ((v : plain.Value) → k (without_keys v) ≡ give v) → then_do (then_do e (λ v. give (without_keys v))) k ≡ e
-  unkeyed (done v t) k h = ap (λ m. m t) (h v)
-  unkeyed (bad d t) k h = refl
-
-  -- the call by which keys would be asked for
+module _ (f : Call Here) (p : Place) where
+  -- the call by which keys are asked for
   abbrev for_keys : ℕ → Call Here
   for_keys zero = call_by_kind starlark f (native_call no_natives f zero) no_keys
   for_keys (suc n) = call_by_kind starlark f (native_call no_natives (call_with_natives starlark no_natives f n) (suc n)) no_keys
 
-  own : (x : plain.Native) (call : Call Here) → then_do (then_do (own_row p (native_value x) vs s) (λ v. give (without_keys v))) (with_keys starlark call p (native_value x) vs) ≡ own_row p (native_value x) vs s
-  own x call = unkeyed (own_row p (native_value x) vs s) (with_keys starlark call p (native_value x) vs) (λ v. refl)
+  by_function : (vs : Arguments) (s : State Here) (n r : ℕ) → call_with_natives starlark no_natives f n p (function_value r) vs s ≡ f p (function_value r) vs s
+  by_function vs s zero r = refl
+  by_function vs s (suc n) r = refl
 
-  by_native : (n : ℕ) (x : plain.Native) → call_with_natives starlark no_natives f n p (native_value x) vs s ≡ own_row p (native_value x) vs s
-  by_native zero (builtin x) = own (builtin x) (for_keys zero)
-  by_native (suc n) (builtin x) = own (builtin x) (for_keys (suc n))
-  by_native zero (method x v) = own (method x v) (for_keys zero)
-  by_native (suc n) (method x v) = own (method x v) (for_keys (suc n))
-  by_native zero (host_native x held) = refl
-  by_native (suc n) (host_native x held) = refl
-  by_native zero (replacement v) = refl
-  by_native (suc n) (replacement v) = refl
+  by_native : (vs : Arguments) (s : State Here) (n : ℕ) (x : plain.Native) → call_with_natives starlark no_natives f n p (native_value x) vs s ≡ then_do (asked_row p (native_value x) vs s) (with_keys starlark (for_keys n) p)
+  by_native vs s zero (builtin x) = refl
+  by_native vs s (suc n) (builtin x) = refl
+  by_native vs s zero (method x v) = refl
+  by_native vs s (suc n) (method x v) = refl
+  by_native vs s zero (host_native x held) = refl
+  by_native vs s (suc n) (host_native x held) = refl
+  by_native vs s zero (replacement v) = refl
+  by_native vs s (suc n) (replacement v) = refl
+
+  key_of_native : (v : plain.Value) (s : State Here) (n k : ℕ) (x : plain.Native) → for_keys n p (native_value x) (one_value v) s ≡ call_with_natives starlark no_natives f k p (native_value x) (one_value v) s
+  key_of_native v s n k x = unkeyed n x ∙ no_difference (for_keys k) p (asked_row p (native_value x) (one_value v) s) (never_asks p x v s) ∙ sym (by_native (one_value v) s k x)
+    where
+      unkeyed : (n : ℕ) (x : plain.Native) → for_keys n p (native_value x) (one_value v) s ≡ then_do (asked_row p (native_value x) (one_value v) s) (no_keys p)
+      unkeyed zero (builtin x) = refl
+      unkeyed (suc n) (builtin x) = refl
+      unkeyed zero (method x v) = refl
+      unkeyed (suc n) (method x v) = refl
+      unkeyed zero (host_native x held) = refl
+      unkeyed (suc n) (host_native x held) = refl
+      unkeyed zero (replacement v) = refl
+      unkeyed (suc n) (replacement v) = refl
 
 -- what is no function and no native
 abbrev pub is_called : plain.Value → Bool
@@ -89,22 +142,49 @@ is_called (function_value r) = true
 is_called (native_value x) = true
 is_called _ = false
 
-module _ (file : ℕ) (fs : Functions) (p : Place) (vs : Arguments) (s : State Here) where
-  by_nothing : (f : Call Here) (n : ℕ) (v : plain.Value) → is_called v ≡ false → call_with_natives starlark no_natives f n p v vs s ≡ bad (fault_at kind.ValueKind p) s
-  by_nothing f n (function_value r) h = cc
-  by_nothing f n (native_value x) h = cc
-  by_nothing f zero v h = refl
-  by_nothing f (suc n) v h = refl
+by_nothing : (f : Call Here) (p : Place) (vs : Arguments) (s : State Here) (n : ℕ) (v : plain.Value) → is_called v ≡ false → call_with_natives starlark no_natives f n p v vs s ≡ bad (fault_at kind.ValueKind p) s
+by_nothing f p vs s n (function_value r) h = cc
+by_nothing f p vs s n (native_value x) h = cc
+by_nothing f p vs s zero v h = refl
+by_nothing f p vs s (suc n) v h = refl
 
+-- a key is asked for as by any other call
+for_keys_called : (f : Call Here) (p : Place) (v : plain.Value) (s : State Here) (n k : ℕ) (g : plain.Value) → for_keys f p n p g (one_value v) s ≡ call_with_natives starlark no_natives f k p g (one_value v) s
+for_keys_called f p v s zero k (function_value r) = sym (by_function f p (one_value v) s k r)
+for_keys_called f p v s (suc n) k (function_value r) = sym (by_function f p (one_value v) s k r)
+for_keys_called f p v s n k (native_value x) = key_of_native f p v s n k x
+for_keys_called f p v s zero k g = sym (by_nothing f p (one_value v) s k g refl)
+for_keys_called f p v s (suc n) k g = sym (by_nothing f p (one_value v) s k g refl)
+
+then_same : {A B : Type 0} (e : Ending Here A) (f g : A → Computation Here B) → ((a : A) (s : State Here) → f a s ≡ g a s) → then_do e f ≡ then_do e g
+then_same (done a s) f g h = h a s
+then_same (bad d s) f g h = refl
+
+keys_same : (call other : Call Here) (p : Place) (g : plain.Value) (vs : List plain.Value) → ((v : plain.Value) (s : State Here) → call p g (one_value v) s ≡ other p g (one_value v) s) → (s : State Here) → keys_by call p g vs s ≡ keys_by other p g vs s
+keys_same call other p g [] h s = refl
+keys_same call other p g (v ∷ vs) h s =
+    ap (λ e. then_do e (λ k. keys_by call p g vs >>= λ ks. give (k ∷ ks))) (h v s)
+    ∙ then_same (other p g (one_value v) s) _ _ (λ k t. ap (λ e. then_do e (λ ks. give (k ∷ ks))) (keys_same call other p g vs h t))
+
+with_same : (call other : Call Here) (p : Place) → ((v : plain.Value) (s : State Here) (g : plain.Value) → call p g (one_value v) s ≡ other p g (one_value v) s) → (k : Keyed) (s : State Here) → with_keys starlark call p k s ≡ with_keys starlark other p k s
+with_same call other p h (without_keys v) s = refl
+with_same call other p h (asks_keys w g vs) s = ap (λ e. then_do e (wanted_row p w vs)) (keys_same call other p g vs (λ v s. h v s g) s)
+
+module _ (file : ℕ) (fs : Functions) (p : Place) (vs : Arguments) (s : State Here) where
   pub nothing_called : (d : ℕ) (v : plain.Value) → is_called v ≡ false → calls_at file fs d p v vs s ≡ bad (fault_at kind.ValueKind p) s
   unfolding calls_at
-  nothing_called zero v h = by_nothing too_deep s.steps v h
-  nothing_called (suc d) v h = by_nothing (function_call starlark ops_names (enter_ops starlark) (table_of file fs) (apply starlark no_natives ops_names (enter_ops starlark) (table_of file fs) d)) s.steps v h
+  nothing_called zero v h = by_nothing too_deep p vs s s.steps v h
+  nothing_called (suc d) v h = by_nothing (function_call starlark ops_names (enter_ops starlark) (table_of file fs) (apply starlark no_natives ops_names (enter_ops starlark) (table_of file fs) d)) p vs s s.steps v h
 
-  pub native_called : (d : ℕ) (x : plain.Native) → calls_at file fs d p (native_value x) vs s ≡ own_row p (native_value x) vs s
+  -- a native answers, or asks for keys by these calls
+  pub native_called : (d : ℕ) (x : plain.Native) → calls_at file fs d p (native_value x) vs s ≡ then_do (asked_row p (native_value x) vs s) (with_keys starlark (calls_at file fs d) p)
   unfolding calls_at
-  native_called zero x = by_native too_deep p vs s s.steps x
-  native_called (suc d) x = by_native (function_call starlark ops_names (enter_ops starlark) (table_of file fs) (apply starlark no_natives ops_names (enter_ops starlark) (table_of file fs) d)) p vs s s.steps x
+  native_called zero x =
+      by_native too_deep p vs s s.steps x
+      ∙ then_same (asked_row p (native_value x) vs s) _ _ (with_same (for_keys too_deep p s.steps) (calls_at file fs zero) p (λ v t g. for_keys_called too_deep p v t s.steps t.steps g))
+  native_called (suc d) x =
+      let f = function_call starlark ops_names (enter_ops starlark) (table_of file fs) (apply starlark no_natives ops_names (enter_ops starlark) (table_of file fs) d) in
+      by_native f p vs s s.steps x ∙ then_same (asked_row p (native_value x) vs s) _ _ (with_same (for_keys f p s.steps) (calls_at file fs (suc d)) p (λ v t g. for_keys_called f p v t s.steps t.steps g))
 
   called_at_end : (r : ℕ) (g : Function) → function_at r s.store ≡ Some g → calls_at file fs 0 p (function_value r) vs s ≡ bad (fault_at kind.Depth p) s
   unfolding calls_at

@@ -1,5 +1,5 @@
 -- The members that are left, one after another.
-use Rattle.std.proofs.Common.{◌≡◌, ℕ, zero, suc, ◌+◌, ◌≤◌, nat_lt, ℤ, pos, Bool, true, false, if◌then◌else◌, List, [], ◌∷◌, drop, length, map, Option, Some, None, option_map, slice_get, refl, ap, subst, sym, ◌∙◌, rules, arith}
+use Rattle.std.proofs.Common.{◌≡◌, ℕ, ◌+◌, ◌≤◌, nat_lt, ℤ, pos, Bool, true, false, if◌then◌else◌, [], ◌∷◌, length, map, Option, Some, None, option_map, slice_get, refl, ap, subst, sym, ◌∙◌}
 use Rattle.std.specs.Prelude.{◌+ℤ◌, ◌*ℤ◌}
 use Rattle.std.proofs.lemmas.Bool.{ltb-false, ltb-true}
 use Rattle.std.proofs.lemmas.List.{length-map}
@@ -12,6 +12,7 @@ use Rattle.star_values.specs.declared.value.Value.TheVariants as value
 use Rattle.value_spec.specs.Members.{numbers_of}
 use Rattle.value_spec.specs.Numbers.{progression, range_count}
 use Rattle.value_spec.specs.Values.{int_value}
+use Rattle.star_calls.proofs.Opened.{none_left, split_at}
 use Rattle.star_eval.specs.declared.source.Members.{Members}
 use Rattle.star_eval.specs.declared.source.Members.TheVariants as members
 use Rattle.star_eval.specs.declared.numbers.Numbers.{Numbers}
@@ -42,21 +43,6 @@ module _ (a : View) (ms : Members) (n : Numbers) (place : ℕ) (found : Option V
   number_owned = subst (OwnsOption a) (sym by) (owned_if (nat_lt place (range_count n.from n.to n.step)) (n.from +ℤ (pos place *ℤ n.step)))
 
 -- ---- the members behind a place
-
-split_at : {A : Type 0} (xs : List A) (i n : ℕ) (x : A) → slice_get xs i ≡ Some x → n ≡ i + 1 → drop i xs ≡ x ∷ drop n xs
-split_at [] zero n x h e = absurd (search (rules, h))
-split_at [] (suc i) n x h e = absurd (search (rules, h))
-split_at (y ∷ xs) zero n x h e = let same : y ≡ x = search (rules, h) in λ j. same j ∷ drop (sym e j) (y ∷ xs)
-split_at (y ∷ xs) (suc i) n x h e = split_at xs i (i + 1) x h refl ∙ ap (λ m. x ∷ drop m (y ∷ xs)) (next i n e)
-  where
-    next : (i n : ℕ) → n ≡ suc i + 1 → suc (i + 1) ≡ n
-    next i n e = omega (arith, e)
-
-none_left : {A : Type 0} (xs : List A) (i : ℕ) → slice_get xs i ≡ None → drop i xs ≡ []
-none_left [] zero h = refl
-none_left [] (suc i) h = refl
-none_left (x ∷ xs) zero h = absurd (search (rules, h))
-none_left (x ∷ xs) (suc i) h = none_left xs i h
 
 pub over : (a : View) (s : Source) → None ≡ slice_get (all_members a s.members) s.next → left_of a s ≡ []
 over a s e = none_left (all_members a s.members) s.next (sym e)

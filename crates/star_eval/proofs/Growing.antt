@@ -16,6 +16,7 @@ use Rattle.star_values.specs.declared.value.Value.{Value}
 use Rattle.value_spec.specs.Keys.{IsKey}
 use Rattle.star_calls.proofs.Kept.{fields_kept}
 use Rattle.star_calls.specs.View.{form_of}
+use Rattle.star_sorting.specs.View.{wanted_of}
 use Rattle.star_tree.specs.View.{item_kind_of}
 use Rattle.star_values.specs.declared.value.CallArgs.{CallArgs}
 use Rattle.value_spec.specs.Values.{arguments, values_from}
@@ -129,6 +130,8 @@ module _ (a b : View) (file : ℕ) (g : Grows a b) where
   in_value_kept (in_value.Default m ps vs) w = (owns_all_kept a b vs g w, ap (plain.default_of (making_of m) (parameters_of file ps.now)) (values_kept a b vs g w))
   in_value_kept (in_value.First p cs x) w = let k = bag_kept x w in (k.0, ap (plain.first_members p (clauses_of file cs.now)) k.1)
   in_value_kept (in_value.Attribute p x) w = (tt, refl)
+  in_value_kept (in_value.Key p k f vs ks) w =
+      ((owns_kept a b f g w.0, owns_all_kept a b vs g w.1, owns_all_kept a b ks g w.2), λ i. plain.next_key p (wanted_of k) (value_kept a b f g w.0 i) (values_kept a b vs g w.1 i) (values_kept a b ks g w.2 i))
   in_value_kept (in_value.Unbuilt p) w = (tt, refl)
 
   in_statement_kept : (f : held_statement.InStatement) → OwnsInStatement a f → OwnsInStatement b f × (statement_frame b file f ≡ statement_frame a file f)

@@ -1,4 +1,5 @@
 pub mod Arguing
+pub mod Asking
 pub mod Calling
 pub mod Chaining
 pub mod Clauses

@@ -1,6 +1,6 @@
 -- What code does in a setting, as the machine goes about it: what it does after its step, and what follows from each value.
 -- It is what the language says (`proofs/Says`).
-use Rattle.std.specs.Prelude.{suc, ◌==◌, length, List, [], ◌∷◌, ◌++◌, Option, Some, None, ℕ, codes, if◌then◌else◌}
+use Rattle.std.specs.Prelude.{suc, ◌==◌, length, List, [], ◌∷◌, ◌++◌, drop, Option, Some, None, ℕ, codes, if◌then◌else◌}
 use Rattle.ytt_base.specs.declared.fault.FaultKind.TheVariants as kind
 use Rattle.ytt_base.specs.declared.fault.Place.{Place}
 use Rattle.code_spec.specs.Code as plain
@@ -13,8 +13,10 @@ use Rattle.index_spec.specs.Slices.{Cut, slice_row}
 use Rattle.node_build.specs.Parts.{ending, keying, noting, taking, valuing}
 use Rattle.builtin_spec.specs.Attributes.{attribute_row}
 use Rattle.builtin_spec.specs.Operators.{assignment_row, operator_row}
+use Rattle.builtin_spec.specs.Sorting.{Wanted, wanted_row}
 use Rattle.operator_spec.specs.Operators.{unary_row}
 use Rattle.star_calls.specs.Arguments.{Form, and_argument, both, by_name, none_given, positional, star, two_stars}
+use Rattle.star_spec.specs.Calls.{keys_by}
 use Rattle.star_spec.specs.Eval.{assign_each, assign_to, built_so_far, clauses_in_turn, comprehend, count_exprs, default_values, eval, eval_all, eval_arguments, eval_entries, eval_pieces, members_of, starlark, truth_of, turn_pair}
 use Rattle.star_spec.specs.Flow.{Flow, on, out, Part, over_members}
 use Rattle.star_spec.specs.Language.{Call, breaks, continues, returns}
@@ -113,6 +115,12 @@ arguments_then c es before f = eval_arguments c.call es c.env >>= λ rest. f (bo
 -- the same behind one more argument
 abbrev pub argument_then : {A : Type 0} → Setting → Form → Exprs → (before : Arguments) → (Arguments → Computation Here A) → Value → Computation Here A
 argument_then c form es before f v = and_argument form v before >>= λ more. arguments_then c es more f
+
+-- ---- keys
+
+-- what is wanted of members by these keys of theirs, and those that a function gives for the members that are left
+abbrev pub keys_then : Setting → Place → Wanted → (function : Value) → (members before : List Value) → Computation Here Value
+keys_then c p w f vs ks = keys_by c.call p f (drop (length ks) vs) >>= λ more. wanted_row p w vs (ks ++ more)
 
 -- ---- functions
 

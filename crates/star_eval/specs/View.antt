@@ -8,6 +8,7 @@ use Rattle.value_spec.specs.Values.{Env}
 use Rattle.star_values.specs.Objects.{env_in, pairs_in}
 use Rattle.star_blocks.specs.Nested.{arms_of, ops_of}
 use Rattle.star_calls.specs.View.{form_of}
+use Rattle.star_sorting.specs.View.{wanted_of}
 use Rattle.star_tree.specs.Listed.{clauses_of, entries_of, optional_of}
 use Rattle.star_tree.specs.View.{item_kind_of}
 use Rattle.star_tree.specs.Whole.{binary_operator_of, expr_of, exprs_of, parameters_of, unary_operator_of}
@@ -100,6 +101,7 @@ value_frame a file (in_value.Argument p g f es given) = plain.argument p (value_
 value_frame a file (in_value.Default k ps vs) = plain.default_of (making_of k) (parameters_of file ps.now) (values_of a vs)
 value_frame a file (in_value.First p cs b) = plain.first_members p (clauses_of file cs.now) (bag_of a file b)
 value_frame a file (in_value.Attribute p x) = plain.attribute_of p x.now
+value_frame a file (in_value.Key p w f vs ks) = plain.next_key p (wanted_of w) (value_of a f) (values_of a vs) (values_of a ks)
 value_frame a file (in_value.Unbuilt p) = plain.unbuilt p
 
 abbrev pub statement_frame : View → (file : ℕ) → held_statement.InStatement → plain.InStatement
@@ -192,6 +194,7 @@ OwnsInValue a (in_value.Index f) = OwnsInIndex a f
 OwnsInValue a (in_value.Argument p g f es given) = Owns a g × OwnsArguments a given
 OwnsInValue a (in_value.Default k ps vs) = OwnsAll a vs
 OwnsInValue a (in_value.First p cs b) = OwnsBag a b
+OwnsInValue a (in_value.Key p w f vs ks) = Owns a f × OwnsAll a vs × OwnsAll a ks
 OwnsInValue a _ = Unit {0}
 
 abbrev pub OwnsInStatement : View → held_statement.InStatement → Type 0

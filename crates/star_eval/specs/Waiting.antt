@@ -10,6 +10,7 @@ use Rattle.value_spec.specs.Store.{begin_loop, end_loop}
 use Rattle.value_spec.specs.Values.{Arguments, Env, Value, none_value, tuple_value, values_from}
 use Rattle.builtin_spec.specs.Attributes.{attribute_row}
 use Rattle.builtin_spec.specs.Operators.{assignment_row, operator_row}
+use Rattle.builtin_spec.specs.Sorting.{Wanted}
 use Rattle.operator_spec.specs.Operators.{unary_row}
 use Rattle.index_spec.specs.Index.{index_row, set_index_row}
 use Rattle.index_spec.specs.Slices.{slice_row}
@@ -20,7 +21,7 @@ use Rattle.star_spec.specs.Language.{Call, returns}
 use Rattle.star_spec.specs.Names.{box_of, write_name}
 use Rattle.node_build.specs.Parts.{noting, taking}
 use Rattle.template_meaning.specs.Calls.{bottom_flow, result_of}
-use Rattle.star_eval.specs.Doing.{Bag, Making, Nodes, Setting, all_evaluated, argument_then, arguments_then, assigned, assigned_each, augmented_in, bound_then, branched, changed_at, clause_looped, clauses_done, cut, entries_done, evaluated, first_done, flow_made, looped, making, pairs_bag, through, values_bag}
+use Rattle.star_eval.specs.Doing.{Bag, Making, Nodes, Setting, all_evaluated, argument_then, arguments_then, assigned, assigned_each, augmented_in, bound_then, branched, changed_at, clause_looped, clauses_done, cut, entries_done, evaluated, first_done, flow_made, keys_then, looped, making, pairs_bag, through, values_bag}
 use Rattle.star_eval.specs.Meets.{Here}
 
 -- what members are gathered for
@@ -57,6 +58,7 @@ pub data InValue : Type 0 where
   default_of : Making → Parameters → (before : List Value) → InValue
   first_members : Place → Clauses → Bag → InValue
   attribute_of : Place → Name → InValue
+  next_key : Place → Wanted → (function : Value) → (members before : List Value) → InValue
   unbuilt : Place → InValue
 
 -- a value in a statement, or in a node
@@ -136,6 +138,7 @@ value_goes c (argument p g form es before) v = argument_then c form es before (c
 value_goes c (default_of k ps before) v = making c k ps (before ++ v ∷ [])
 value_goes c (first_members p cs b) v = first_done c p cs b v
 value_goes c (attribute_of p x) v = attribute_row p v x
+value_goes c (next_key p w f vs ks) k = keys_then c p w f vs (ks ++ k ∷ [])
 value_goes c (unbuilt p) v = not_built p
 
 abbrev pub statement_goes : Setting → InStatement → Value → Part Here Nodes

@@ -1,12 +1,12 @@
 // Calls of values, and their ends.
-ghost use Rattle.std.specs.Prelude.{◌≡◌, ◌-◌, ◌≤◌, ◌∷◌, ℕ, IfOk, option_map};
+ghost use Rattle.std.specs.Prelude.{◌≡◌, ◌-◌, ◌≤◌, ◌∷◌, [], ℕ, IfOk, option_map};
 ghost use Rattle.star_spec.specs.Calls.{enter_code, parameters_of};
 ghost use Rattle.star_tree.specs.View.{item_kind_of};
 ghost use Rattle.star_tree.specs.Whole as whole;
 ghost use Rattle.star_spec.specs.Eval.{starlark};
 ghost use Rattle.star_functions.specs.View.{code_of};
 ghost use Rattle.star_values.specs.Objects.{env_in, seen};
-ghost use Rattle.star_values.specs.Owns.{Owns, OwnsArguments, OwnsEnv, OwnsObjectRef};
+ghost use Rattle.star_values.specs.Owns.{Owns, OwnsAll, OwnsArguments, OwnsEnv, OwnsObjectRef};
 ghost use Rattle.star_values.specs.View.{arguments_in, value_of};
 ghost use Rattle.star_values.specs.declared.value.Sort.TheVariants as sort;
 ghost use Rattle.star_values.specs.declared.value.Value.TheVariants as value;
@@ -14,18 +14,22 @@ ghost use Rattle.template_meaning.specs.Calls.{enter_ops, level_of};
 ghost use Rattle.value_spec.specs.Values.{function_value};
 ghost use Rattle.star_eval.specs.declared.frame.Control.TheVariants as control;
 ghost use Rattle.star_eval.specs.Calling.{calls_at};
+ghost use Rattle.star_eval.specs.Asking.{called_with, keys_in};
 ghost use Rattle.star_eval.specs.Frames.{Goes, GoesToValue, Opened, ResultGiven, inside};
 ghost use Rattle.star_eval.specs.View.{OwnsCaller, OwnsFlow, Sound, arena_in, caller_of, setting_of, waiting_in};
 
-use crate::frame::{Caller, Control, Flow, Frame, Machine};
+use crate::frame::{Caller, Control, Flow, Frame, InValue, Machine};
 use crate::machine::{failed, ill_formed, settle};
 use node_build::Builder;
-use object_arena::{Boxes, CallArgs, Ref, Value};
-use star_builtins::own_call;
+use object_arena::{Boxes, CallArgs, Ref, Value, Values};
+use sqlite_items::Items;
+use star_builtins::{Asked, own_call};
 use star_calls::call_scope;
 use star_functions::FunctionCode;
+use star_sorting::{Wanted, choose};
 use star_tree::ItemKind;
 use star_tree::code::Param;
+use std::alloc::Global;
 use std::mem;
 use ytt_base::fault::{FaultKind, Place, Stop};
 use ytt_base::text::Memory;
@@ -59,7 +63,7 @@ pub(crate) fn call<'p>(
     }
 }
 
-/// A call of a native: the language's own answer it, and no host knows any other.
+/// A call of a native: the language's own answer it, or ask for keys, and no host knows any other.
 fn call_native<'p>(
     m: &mut Machine<'p>,
     place: Place,
@@ -71,13 +75,122 @@ fn call_native<'p>(
     requires args { OwnsArguments (arena_in m.old) args }
     ensures { GoesToValue result m.new m.old ((setting_of m.old).call place (value_of (arena_in m.old) (value.Native native)) (arguments_in (arena_in m.old).held args)) }
 {
-    settle(own_call(
+    match own_call(
         &mut m.session.arena,
         &mut m.session.work,
         native,
         args,
         place,
-    ))
+    ) {
+        Ok(Asked::Value(value)) => Ok(Control::Gave(value)),
+        Ok(Asked::Keys(wanted, function, members)) => {
+            let keys = Items::new(m.session.arena.alloc());
+            next_key(m, place, wanted, function, members, keys)
+        }
+        Err(Stop::Fault(fault)) => Ok(Control::Failed(fault)),
+        Err(Stop::Memory) => Err(Memory),
+    }
+}
+
+/// What is wanted of members by these keys of theirs, and those that a function gives for the members that are left.
+pub(crate) fn next_key<'p>(
+    m: &mut Machine<'p>,
+    place: Place,
+    wanted: Wanted,
+    function: Value,
+    members: Values,
+    keys: Values,
+) -> Result<Control<'p>, Memory>
+    requires sound { Sound m.old }
+    requires function { Owns (arena_in m.old) function }
+    requires members { OwnsAll (arena_in m.old) members }
+    requires keys { OwnsAll (arena_in m.old) keys }
+    ensures { GoesToValue result m.new m.old (keys_in m.old place wanted function members keys) }
+{
+    match members.get(keys.len()) {
+        None => settle(choose(
+            &mut m.session.arena,
+            &mut m.session.work.steps,
+            wanted,
+            members.as_slice(),
+            keys.as_slice(),
+            place,
+        )),
+        Some(member) => {
+            let member = *member;
+            let frame = InValue::Key(place, wanted, function, members, keys);
+            m.frames.push(Frame::Value(frame))?;
+            call_for_key(m, place, function, member)
+        }
+    }
+}
+
+/// One argument by position.
+fn one_argument(alloc: Global, value: Value) -> Result<CallArgs, Memory>
+    ensures { IfOk result (λ args. args ≡ record { positional = value ∷ []; named = [] }) }
+{
+    let mut positional = Items::new(alloc);
+    positional.push(value)?;
+    let named = Items::new(alloc);
+    Ok(CallArgs { positional, named })
+}
+
+/// A call of a value with one argument.
+fn call_for_key<'p>(
+    m: &mut Machine<'p>,
+    place: Place,
+    function: Value,
+    member: Value,
+) -> Result<Control<'p>, Memory>
+    requires sound { Sound m.old }
+    requires function { Owns (arena_in m.old) function }
+    requires member { Owns (arena_in m.old) member }
+    ensures { GoesToValue result m.new m.old (called_with m.old place function member) }
+{
+    let args = one_argument(m.session.arena.alloc(), member)?;
+    match function {
+        Value::Func(function) => call_function(m, place, function, args),
+        Value::Native(native) => native_for_key(m, place, native, member, args),
+        Value::None
+        | Value::Bool(_)
+        | Value::Int(_)
+        | Value::Text(_)
+        | Value::List(_)
+        | Value::Dict(_)
+        | Value::Tuple(_)
+        | Value::Range(_)
+        | Value::Struct(_)
+        | Value::Fragment(_)
+        | Value::Module(_) => Ok(failed(m, FaultKind::ValueKind, place)),
+    }
+}
+
+/// A call of a native with this member as its one argument, for which none asks for keys.
+fn native_for_key<'p>(
+    m: &mut Machine<'p>,
+    place: Place,
+    native: Ref,
+    member: Value,
+    args: CallArgs,
+) -> Result<Control<'p>, Memory>
+    requires sound { Sound m.old }
+    requires native { Owns (arena_in m.old) (value.Native native) }
+    requires member { Owns (arena_in m.old) member }
+    requires args { args ≡ record { positional = member ∷ []; named = [] } }
+    ensures { GoesToValue result m.new m.old (called_with m.old place (value.Native native) member) }
+{
+    match own_call(
+        &mut m.session.arena,
+        &mut m.session.work,
+        native,
+        args,
+        place,
+    ) {
+        Ok(Asked::Value(value)) => Ok(Control::Gave(value)),
+        Ok(Asked::Keys(_wanted, _function, _members)) => unreachable!(),
+        Err(Stop::Fault(fault)) => Ok(Control::Failed(fault)),
+        Err(Stop::Memory) => Err(Memory),
+    }
 }
 
 /// A call of a function. Where no more calls may stand in one another, it is `Depth`.

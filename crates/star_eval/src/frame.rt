@@ -8,6 +8,7 @@ use sqlite_items::{Boxed, Items};
 use star_blocks::{Arm, Op};
 use star_calls::ArgumentForm;
 use star_functions::Functions;
+use star_sorting::Wanted;
 use star_tree::ItemKind;
 use star_tree::code::{BinOp, Clause, Entry, Expr, Param, UnOp};
 use ytt_base::fault::{Fault, Place};
@@ -102,6 +103,8 @@ pub(crate) enum InValue<'p> {
     First(Place, &'p Items<Clause>, Bag<'p>),
     /// The attribute of the value.
     Attribute(Place, &'p Text),
+    /// The key of the next of these members, which a function gives, behind these keys.
+    Key(Place, Wanted, Value, Values, Values),
     /// What isn't built yet.
     Unbuilt(Place),
 }

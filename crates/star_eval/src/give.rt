@@ -10,7 +10,7 @@ ghost use Rattle.star_eval.specs.Waiting.{statement_goes, value_goes};
 
 use crate::arguments::{argued, call_with, no_arguments, note_argued};
 use crate::assign::{augment_at, augmented, augmented_at, name_gets, next_target};
-use crate::calls::restore;
+use crate::calls::{next_key, restore};
 use crate::comprehensions::{first, give_element};
 use crate::dicts::pair;
 use crate::eval::{attribute, gather, operated, operated_on};
@@ -114,6 +114,10 @@ fn give_value<'p>(
         }
         InValue::First(place, clauses, bag) => first(m, place, clauses, bag, value),
         InValue::Attribute(place, name) => attribute(m, place, name, value),
+        InValue::Key(place, wanted, function, members, mut keys) => {
+            keys.push(value)?;
+            next_key(m, place, wanted, function, members, keys)
+        }
         InValue::Unbuilt(place) => Ok(failed(m, FaultKind::NotBuilt, place)),
     }
 }

@@ -1,11 +1,10 @@
-use Rattle.std.proofs.Common.{◌≡◌, false, rules, ap, sym, ◌∙◌}
+use Rattle.std.proofs.Common.{◌≡◌, false, rules}
 use Rattle.ytt_base.specs.declared.fault.FaultKind.TheVariants as kind
 use Rattle.ytt_base.specs.Outcomes.{fault_at}
 use Rattle.star_values.specs.View.{arguments_in, value_of}
 use Rattle.star_eval.specs.Calling.{calls_at}
 use Rattle.star_eval.specs.Meets.{state_of}
 use Rattle.star_eval.specs.View.{arena_in}
-use Rattle.star_eval.specs.declared.frame.Control.TheVariants as control
 use Rattle.star_eval.proofs.Calling.{is_called, nothing_called, refused}
 use Rattle.star_eval.proofs.calls.call.Goals as goal
 

@@ -1,4 +1,4 @@
-use Rattle.std.proofs.Common.{◌≡◌, [], ◌∷◌, length, Some, None, Err, sym, ap, subst, ◌∙◌}
+use Rattle.std.proofs.Common.{◌≡◌, [], ◌∷◌, length, Some, None, sym, ap, subst, ◌∙◌}
 use Rattle.std.specs.Option.{option_map}
 use Rattle.code_spec.specs.Blocks.{blocks}
 use Rattle.code_spec.specs.Scopes.{names_of_file}

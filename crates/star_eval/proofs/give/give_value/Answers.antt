@@ -1,8 +1,9 @@
 use Rattle.std.proofs.Common.{[], ◌∷◌, sym, ap, ◌∙◌}
 use Rattle.std.proofs.lemmas.List.{map-append}
+use Rattle.star_sorting.specs.View.{wanted_of}
 use Rattle.star_tree.specs.Whole.{parameters_of}
 use Rattle.star_values.specs.View.{value_in, value_of, values_of}
-use Rattle.star_eval.specs.Doing.{making}
+use Rattle.star_eval.specs.Doing.{keys_then, making}
 use Rattle.star_eval.specs.Frames.{around_value}
 use Rattle.star_eval.specs.Meets.{state_of}
 use Rattle.star_eval.specs.View.{arena_in, making_of, setting_of, value_frame, waiting_in}
@@ -21,3 +22,14 @@ returns-in_ok-push-in-Default c =
     ((λ i. making (setting_of m) (making_of c.in-Default.making) (parameters_of m.code.file c.in-Default.rest.now) (behind i) (state_of m.session))
     ∙ sym (ap (λ f. value_goes (setting_of m) (value_frame a m.code.file f) (value_of a c.args.value) (state_of m.session)) c.in-Default.is)))
     c.make_function.ensures
+
+pub returns-in_ok-push-in-Key : goal.returns-in_ok-push-in-Key
+returns-in_ok-push-in-Key c =
+    let m = c.args.m.now in
+    let a = arena_in m in
+    let behind = ap (values_of a) c.in_ok-push-in-Key.ensures.ok ∙ map-append (value_in a.held) c.in-Key.keys (c.args.value ∷ []) in
+    goes _ c.next_key.result c.next_key.new.m
+    (ap (around_value m (waiting_in m))
+    ((λ i. keys_then (setting_of m) c.in-Key.place (wanted_of c.in-Key.wanted) (value_of a c.in-Key.function) (values_of a c.in-Key.members) (behind i) (state_of m.session))
+    ∙ sym (ap (λ f. value_goes (setting_of m) (value_frame a m.code.file f) (value_of a c.args.value) (state_of m.session)) c.in-Key.is)))
+    c.next_key.ensures
