@@ -1,17 +1,18 @@
 -- A value that is taken over into a node.
-use Rattle.std.proofs.Common.{◌≡◌, ℕ, List, ◌∷◌, refl, sym, ap, ◌∙◌}
+use Rattle.std.proofs.Common.{◌≡◌, ℕ, true, if◌then◌else◌, List, ◌∷◌, refl, sym, ap, ◌∙◌}
+use Rattle.ytt_base.specs.declared.fault.FaultKind.TheVariants as kind
 use Rattle.ytt_base.specs.declared.fault.Place.{Place}
-use Rattle.code_spec.specs.Program.{ItemKind, element_item, pair_item}
+use Rattle.code_spec.specs.Program.{ItemKind, element_item, pair_item, same_kind}
 use Rattle.star_spec.specs.Flow.{on}
 use Rattle.star_values.specs.View.{View, value_of}
 use Rattle.star_values.specs.declared.value.Ref.{Ref}
 use Rattle.star_values.specs.declared.value.Value.{Value}
 use Rattle.star_values.specs.declared.value.Value.TheVariants as value
 use Rattle.template_meaning.specs.Run.{Node}
-use Rattle.template_meaning.specs.Take.{levels_at, take_over}
-use Rattle.value_spec.specs.Outcomes.{Ending, State, done, bad, give, then_do}
+use Rattle.template_meaning.specs.Take.{children_in_place, levels_at, levels_replaced, replaced, take_over}
+use Rattle.value_spec.specs.Outcomes.{Ending, State, done, asks, bad, fail, give, then_do, ◌>>=◌}
 use Rattle.value_spec.specs.Values as plain
-use Rattle.value_spec.specs.Values.{Children, Taken, fragment_value, list_of, map_of, taken}
+use Rattle.value_spec.specs.Values.{Children, Taken, fragment_value, list_of, many, map_of, taken}
 use Rattle.node_build.specs.Parts.{taking}
 use Rattle.node_build.specs.Taking.{as_tree, items_taken}
 
@@ -20,6 +21,7 @@ use Rattle.node_build.specs.Taking.{as_tree, items_taken}
 after_items : (f : Children → Taken) (cs : Children) (o : Ending (Unit {0}) (Unit {0})) → then_do o (λ u. give (f cs)) ≡ then_do (then_do o (λ u. give cs)) (λ cs. give (f cs))
 after_items f cs (done u s) = refl
 after_items f cs (bad x s) = refl
+after_items f cs (asks q s k) = λ i. asks q s (λ got t. after_items f cs (k got t) i)
 
 module _ (p : Place) (k : ItemKind) (n l : ℕ) (v : plain.Value) (cs : Children) (s : State (Unit {0})) (level : l ≡ levels_at n) where
   pub pairs_over : v ≡ fragment_value pair_item cs → take_over {H = Unit {0}} p k n v s ≡ then_do (items_taken l p (λ cs. cs) cs s) (λ cs. give (taken (map_of cs)))
@@ -27,6 +29,14 @@ module _ (p : Place) (k : ItemKind) (n l : ℕ) (v : plain.Value) (cs : Children
 
   pub elements_over : v ≡ fragment_value element_item cs → take_over {H = Unit {0}} p k n v s ≡ then_do (items_taken l p (λ cs. cs) cs s) (λ cs. give (taken (list_of cs)))
   elements_over e = ap (λ v. take_over {H = Unit {0}} p k n v s) e ∙ after_items (λ cs. taken (list_of cs)) cs _ ∙ ap (λ l. then_do (items_taken l p (λ cs. cs) cs s) (λ cs. give (taken (list_of cs)))) (sym level)
+
+-- in the place of a node of the same kind
+pub items_replaced : (p : Place) (k of : ItemKind) (n l : ℕ) (v : plain.Value) (cs : Children) (s : State (Unit {0})) → l ≡ levels_replaced n → v ≡ fragment_value of cs → same_kind of k ≡ true
+    → replaced {H = Unit {0}} p k n v s ≡ then_do (items_taken l p (λ cs. cs) cs s) (λ cs. give (many cs))
+items_replaced p k of n l v cs s level e h =
+    ap (λ v. replaced {H = Unit {0}} p k n v s) e
+    ∙ ap (λ b. (if b then (children_in_place p n (fragment_value of cs) >>= λ cs. give (many cs)) else fail kind.FragmentMixed p) s) h
+    ∙ ap (λ l. then_do (items_taken l p (λ cs. cs) cs s) (λ cs. give (many cs))) (sym level)
 
 -- ---- what is neither a native nor a fragment
 

@@ -15,7 +15,7 @@ use Rattle.star_values.specs.declared.value.Sort.{Sort}
 use Rattle.star_values.specs.declared.value.Sort.TheVariants as sort
 use Rattle.template_meaning.specs.Take.{object_tree, tree_of_value, trees_by, with_text_keys}
 use Rattle.value_spec.specs.Built.{children_pairs, children_trees}
-use Rattle.value_spec.specs.Outcomes.{Ending, State, done, bad, give, then_do, ◌>>=◌}
+use Rattle.value_spec.specs.Outcomes.{Ending, State, done, asks, bad, give, then_do, ◌>>=◌}
 use Rattle.value_spec.specs.Store.{list_at, list_in, list_of_contents, object_at, pairs_at, pairs_in, pairs_of_contents}
 use Rattle.value_spec.specs.Values.{Children, Contents, Object, Value, Values, Fields, dict_value, fields_in, fragment_value, list_value, of_box, of_dict, of_function, of_list, struct_value, text_value, tuple_value, values_in}
 use Rattle.node_build.proofs.Taking.{done_then}
@@ -27,6 +27,7 @@ module _ (n : ℕ) (p : Place) (s : State (Unit {0})) where
   as_scalar : (x : Scalar) (o : Ending (Unit {0}) (Unit {0})) → then_do o (λ u. give (scalar x)) ≡ then_do (then_do o (λ u. give x)) (λ x. give (scalar x))
   as_scalar x (done u t) = refl
   as_scalar x (bad f t) = refl
+  as_scalar x (asks q t k) = λ i. asks q t (λ got u. as_scalar x (k got u) i)
 
   text_form : (v : Value) (t : List ℕ) → v ≡ text_value t → tree_of_value n p v s ≡ then_do (text_taken p t s) (λ x. give (scalar x))
   text_form v t e = ap (λ v. tree_of_value n p v s) e ∙ as_scalar (string t) _

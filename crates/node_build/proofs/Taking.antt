@@ -9,7 +9,7 @@ use Rattle.ytt_base.specs.Trees.{Scalar, Tree, Trees, Pairs, no_trees, tree, no_
 use Rattle.ytt_base.specs.View.{key_of, pairs_of, tree_of, trees_of}
 use Rattle.std.specs.Prelude.{slice_get}
 use Rattle.ytt_laws.proofs.InTurn.{and_pairs, and_trees, pairs-last, pairs-none, trees-last, trees-none}
-use Rattle.value_spec.specs.Outcomes.{Ending, State, done, bad, give, paid, then_do, ◌>>=◌}
+use Rattle.value_spec.specs.Outcomes.{Ending, State, done, asks, bad, give, paid, then_do, ◌>>=◌}
 use Rattle.value_spec.specs.Values.{Value}
 use Rattle.star_steps.proofs.Meeting.{meets_same, meets_stop}
 use Rattle.star_steps.specs.Meets.{Meets}
@@ -74,10 +74,16 @@ module _ (n : ℕ) (p : Place) where
   pub members_start : (r : Ending (Unit {0}) Trees) → r ≡ then_do r (before_them [])
   members_start (done ts s) = refl
   members_start (bad f s) = refl
+  members_start (asks q s k) = λ i. asks q s (λ got t. members_start (k got t) i)
+
+  -- none is taken yet
+  pub members_begin : (front : List Built) (vs : List Value) (s : State (Unit {0})) → front ≡ [] → SoFar (members_taken n p vs s) front vs s
+  members_begin front vs s e = members_start (members_taken n p vs s) ∙ ap (λ l. then_do (members_taken n p vs s) (before_them l)) (sym e)
 
   regrouped : (front : List Built) (t : Built) (r : Ending (Unit {0}) Trees) → then_do (then_do r (λ ts. give (tree (tree_of t) ts))) (before_them front) ≡ then_do r (before_them (front ++ t ∷ []))
   regrouped front t (done ts s) = ap (λ all. done all s) (sym (trees-last front t ts))
   regrouped front t (bad f s) = refl
+  regrouped front t (asks q s k) = λ i. asks q s (λ got u. regrouped front t (k got u) i)
 
   module _ (all : Ending (Unit {0}) Trees) (front : List Built) (v : Value) (vs : List Value) (s : State (Unit {0})) (h : SoFar all front (v ∷ vs) s) where
     split : all ≡ then_do (then_do (member_taken n p v s) (and_more vs)) (before_them front)
@@ -112,10 +118,12 @@ module _ (n : ℕ) (p : Place) where
   tree_between : (x : Scalar) (o : Ending (Unit {0}) Tree) (ms : List (Value × Value)) → then_do o (λ t. and_pairs_more ms (x, t)) ≡ then_do (then_do o (λ t. give (x, t))) (and_pairs_more ms)
   tree_between x (done t s) ms = refl
   tree_between x (bad f s) ms = refl
+  tree_between x (asks q s k) ms = λ i. asks q s (λ got t. tree_between x (k got t) ms i)
 
   key_between : (o : Ending (Unit {0}) Scalar) (convert : Gives Tree) (ms : List (Value × Value)) → then_do o (λ x. convert >>= λ t. and_pairs_more ms (x, t)) ≡ then_do (then_do o (λ x. convert >>= λ t. give (x, t))) (and_pairs_more ms)
   key_between (done x s) convert ms = tree_between x (convert s) ms
   key_between (bad f s) convert ms = refl
+  key_between (asks q s k) convert ms = λ i. asks q s (λ got t. key_between (k got t) convert ms i)
 
   first_pair : (m : Value × Value) (ms : List (Value × Value)) (s : State (Unit {0})) → pairs_taken n p (m ∷ ms) s ≡ then_do (pair_taken n p m s) (and_pairs_more ms)
   unfolding pairs_taken pair_taken
@@ -124,10 +132,15 @@ module _ (n : ℕ) (p : Place) where
   pub pairs_start : (r : Ending (Unit {0}) Pairs) → r ≡ then_do r (before_pairs [])
   pairs_start (done ts s) = refl
   pairs_start (bad f s) = refl
+  pairs_start (asks q s k) = λ i. asks q s (λ got t. pairs_start (k got t) i)
+
+  pub pairs_begin : (front : List (Key × Built)) (ms : List (Value × Value)) (s : State (Unit {0})) → front ≡ [] → PairsSoFar (pairs_taken n p ms s) front ms s
+  pairs_begin front ms s e = pairs_start (pairs_taken n p ms s) ∙ ap (λ l. then_do (pairs_taken n p ms s) (before_pairs l)) (sym e)
 
   pairs_regrouped : (front : List (Key × Built)) (e : Key × Built) (r : Ending (Unit {0}) Pairs) → then_do (then_do r (λ ps. give (pair (key_of e.0) (tree_of e.1) ps))) (before_pairs front) ≡ then_do r (before_pairs (front ++ e ∷ []))
   pairs_regrouped front e (done ps s) = ap (λ all. done all s) (sym (pairs-last front e ps))
   pairs_regrouped front e (bad f s) = refl
+  pairs_regrouped front e (asks q s k) = λ i. asks q s (λ got t. pairs_regrouped front e (k got t) i)
 
   module _ (all : Ending (Unit {0}) Pairs) (front : List (Key × Built)) (m : Value × Value) (ms : List (Value × Value)) (s : State (Unit {0})) (h : PairsSoFar all front (m ∷ ms) s) where
     pairs_split : all ≡ then_do (then_do (pair_taken n p m s) (and_pairs_more ms)) (before_pairs front)

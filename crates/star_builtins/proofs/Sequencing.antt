@@ -21,7 +21,7 @@ use Rattle.star_values.specs.declared.value.Value.{Value}
 use Rattle.star_builtins.specs.Turns.{turns_paid}
 use Rattle.value_spec.specs.Members.{count_in, members_in}
 use Rattle.value_spec.specs.Numbers.{fits}
-use Rattle.value_spec.specs.Outcomes.{Computation, Ending, State, bad, done, fail, give, need, new_list, paid_by, reads, take_if, take_steps, then_do, ◌>>=◌}
+use Rattle.value_spec.specs.Outcomes.{Computation, Ending, State, asks, bad, done, fail, give, need, new_list, paid_by, reads, take_if, take_steps, then_do, ◌>>=◌}
 use Rattle.value_spec.specs.Values as plain
 use Rattle.value_spec.specs.Values.{arguments, int_value, no_fields, values_from}
 
@@ -153,3 +153,4 @@ module _ (p : Place) (vs : List plain.Value) (a : View) (n : ℕ) where
         then_do (then_do o (λ u. reads (λ store. zipped (least_of counts) (each (λ v. members_or_none (members_in store v)) vs)))) new_list ≡ then_do (then_do o (λ u. give (least_of counts))) tuples
     by (done u s) = refl
     by (bad f s) = refl
+    by (asks q s k) = λ i. asks q s (λ got t. by (k got t) i)

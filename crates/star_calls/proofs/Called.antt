@@ -5,7 +5,7 @@ use Rattle.ytt_base.specs.declared.fault.Stop.{Stop}
 use Rattle.ytt_base.specs.declared.fault.Stop.TheVariants as stop
 use Rattle.code_spec.specs.Allowed.{parameter_names}
 use Rattle.code_spec.specs.Code.{Name, Parameters}
-use Rattle.value_spec.specs.Outcomes.{Computation, Ending, State, bad, done, give, on_store, then_do, ◌>>=◌}
+use Rattle.value_spec.specs.Outcomes.{Computation, Ending, State, asks, bad, done, give, on_store, then_do, ◌>>=◌}
 use Rattle.value_spec.specs.Store.{change, changed, object, with_contents, with_object}
 use Rattle.value_spec.specs.Values as plain
 use Rattle.value_spec.specs.Values.{Arguments, Env, Store, of_box}
@@ -60,6 +60,7 @@ env_joined held (b ∷ bs) cs = ap (λ l. variable_in held b ∷ l) (env_joined 
 pub none_boxed : (r : Ending (Unit {0}) Env) → r ≡ then_do r (λ more. give ([] ++ more))
 none_boxed (done env s) = refl
 none_boxed (bad f s) = refl
+none_boxed (asks q s k) = λ i. asks q s (λ got t. none_boxed (k got t) i)
 
 pub box_next : (x : Name) (xs names : List Name) (v : plain.Value) (vs values : List plain.Value) (env new : Env) (s t : Here) → names ≡ x ∷ xs → values ≡ v ∷ vs → new ≡ env ++ (x, length s.store) ∷ [] → t ≡ on_store (with_object (of_box (Some v))) s →
     then_do (boxes_for names values s) (λ more. give (env ++ more)) ≡ then_do (boxes_for xs vs t) (λ more. give (new ++ more))

@@ -8,7 +8,7 @@ use Rattle.ytt_base.specs.declared.fault.Stop.TheVariants as stop
 use Rattle.code_spec.specs.Code.{Parameters}
 use Rattle.value_spec.specs.Values as plain
 use Rattle.value_spec.specs.Values.{Fields, no_fields, arguments, values_from}
-use Rattle.value_spec.specs.Outcomes.{Ending, State, bad, done, give, or_fail, then_do, ◌>>=◌}
+use Rattle.value_spec.specs.Outcomes.{Ending, State, asks, bad, done, give, or_fail, then_do, ◌>>=◌}
 use Rattle.value_spec.proofs.Computations.{then_ext}
 use Rattle.value_spec.specs.Binding.{bound, bound_values, has_twice, values_given}
 use Rattle.star_steps.specs.Meets.{state_in}
@@ -50,6 +50,7 @@ twice_refused p ps ds vs fs s e = ap (λ b. then_do (or_fail kind.ArgBind p (if 
 then_given : (r : Ends) → r ≡ then_do r give
 then_given (done vs s) = refl
 then_given (bad f s) = refl
+then_given (asks q s k) = λ i. asks q s (λ got t. then_given (k got t) i)
 
 pub once_bound : (p : Place) (ps : Parameters) (ds vs : List plain.Value) (fs : Fields) (s : State (Unit {0})) → has_twice fs ≡ false → bound_values p ps ds (arguments (values_from vs) fs) s ≡ completed p ps (record { positions = vs; defaults = ds; named = fs; got = [] }) s
 once_bound p ps ds vs fs s e =

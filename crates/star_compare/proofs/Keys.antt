@@ -1,5 +1,5 @@
 -- What takes the size of a key, and isn't refused, is a key whose tuples stand in so many levels.
-use Rattle.star_steps.proofs.Names.{◌≡◌, ℕ, zero, suc, Result, Ok, Err, OnOk, refl, Place, Stop, State, Ending, done, bad, then_do, Computation, take_steps, none_value, bool_value, int_value, text_value, tuple_value, range_value, struct_value, fragment_value, list_value, dict_value, function_value, module_value, native_value, Values, no_values, a_value, values_in, each_sized, key_sized, measured_by, measured_within, IsKeyWithin, AreKeysWithin, Meets, as_is}
+use Rattle.star_steps.proofs.Names.{◌≡◌, ℕ, zero, suc, Result, Ok, Err, OnOk, refl, Place, Stop, State, Ending, done, bad, asks, then_do, Computation, take_steps, none_value, bool_value, int_value, text_value, tuple_value, range_value, struct_value, fragment_value, list_value, dict_value, function_value, module_value, native_value, Values, no_values, a_value, values_in, each_sized, key_sized, measured_by, measured_within, IsKeyWithin, AreKeysWithin, Meets, as_is}
 use Rattle.value_spec.specs.Values.{Value}
 use Rattle.star_compare.specs.Alike.{measure}
 
@@ -7,6 +7,7 @@ use Rattle.star_compare.specs.Alike.{measure}
 went_on : {A B : Type 0} (o : Ending (Unit {0}) A) (k : A → Computation (Unit {0}) B) (b : B) (t : State (Unit {0})) → then_do o k ≡ done b t → (r : A × State (Unit {0})) × (o ≡ done r.0 r.1) × (k r.0 r.1 ≡ done b t)
 went_on (done a s) k b t e = ((a, s), refl, e)
 went_on (bad f s) k b t e = cc
+went_on (asks q s n) k b t e = cc
 
 mutual
   key_within : (n : ℕ) (p : Place) (v : Value) (s t : State (Unit {0})) (u : Unit {0}) → measured_by 5 (measured_within 5 n p) p v s ≡ done u t → IsKeyWithin n v

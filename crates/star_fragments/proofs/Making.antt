@@ -1,5 +1,5 @@
 -- Values that are made one after another, in an arena that grows.
-use Rattle.star_steps.proofs.Names.{◌≡◌, ℕ, ◌+◌, ◌<◌, List, [], ◌∷◌, ◌++◌, length, drop, get_or, map, Result, Ok, Err, refl, sym, ap, subst, ◌∙◌, append_assoc, add-one, map-append, drop-cons, Scalar, null, boolean, integer, string, Memory, Key, key_of, pairs_of as entries_of, trees_of, tree_of-List, tree_of-Map, IsKey, Computation, Ending, done, bad, then_do, give, new_dict, new_list, ◌>>=◌, put_pairs, fresh_pairs, fresh_value, fresh_values, value_of_scalar, MakesObject, Each, Grows, Owns, OwnsPair, View, value_of, values_of, Value, grows_then, owns_kept, value_kept, state_in, OwnsAll}
+use Rattle.star_steps.proofs.Names.{◌≡◌, ℕ, ◌+◌, ◌<◌, List, [], ◌∷◌, ◌++◌, length, drop, get_or, map, Result, Ok, Err, refl, sym, ap, subst, ◌∙◌, append_assoc, then_give, grows_same, add-one, map-append, drop-cons, Scalar, null, boolean, integer, string, Memory, Key, key_of, pairs_of as entries_of, trees_of, tree_of-List, tree_of-Map, IsKey, Computation, Ending, done, bad, asks, then_do, give, new_dict, new_list, ◌>>=◌, put_pairs, fresh_pairs, fresh_value, fresh_values, value_of_scalar, MakesObject, Each, Grows, Owns, OwnsPair, View, value_of, values_of, Value, grows_then, owns_kept, value_kept, state_in, OwnsAll}
 use Rattle.ytt_base.specs.declared.tree.Tree.{Tree}
 use Rattle.ytt_base.specs.declared.tree.Tree as code
 use Rattle.value_spec.specs.Values as plain
@@ -29,6 +29,7 @@ dropped xs j x lt e = drop-cons xs j x lt ∙ (λ i. sym e i ∷ drop (sym (add-
 joined : {A : Type 0} (o : Ending (Unit {0}) (List A)) (ys zs : List A) (x : A) → zs ≡ ys ++ x ∷ [] → then_do (then_do o (λ xs. give (x ∷ xs))) (λ xs. give (ys ++ xs)) ≡ then_do o (λ xs. give (zs ++ xs))
 joined (done xs s) ys zs x e = ap (λ l. done l s) (sym (ap (λ z. z ++ xs) e ∙ append_assoc ys (x ∷ []) xs))
 joined (bad f s) ys zs x e = refl
+joined (asks q s k) ys zs x e = λ i. asks q s (λ got t. joined (k got t) ys zs x e i)
 
 module _ {T V A : Type 0} (one : View → V → A) (Owned : View → V → Type 0) (f : T → Computation (Unit {0}) A) where
   all_kept : (a b : View) (vs : List V) → Keeps one Owned → Grows a b → Each (Owned a) vs → Each (Owned b) vs × (map (one b) vs ≡ map (one a) vs)
@@ -41,6 +42,10 @@ module _ {T V A : Type 0} (one : View → V → A) (Owned : View → V → Type 
   each_last : (a : View) (vs : List V) (v : V) → Each (Owned a) vs → Owned a v → Each (Owned a) (vs ++ v ∷ [])
   each_last a [] v o p = (p, tt)
   each_last a (w ∷ vs) v o p = (o.0, each_last a vs v o.1 p)
+
+  -- none is made yet
+  pub none_made : (all : List T) (vs : List V) (a : View) → vs ≡ [] → MadeSoFar one Owned f all all vs a a
+  none_made all vs a e = subst (λ vs. MadeSoFar one Owned f all all vs a a) (sym e) (record { meaning = λ n. then_give (each_made f all (state_in a n)); owns = tt; grows = grows_same a })
 
   pub made_next : (all : List T) (i : ℕ) (t : T) (vs : List V) (v : V) (a b c : View) → Keeps one Owned → i < length all → t ≡ get_or all i t → MadeSoFar one Owned f all (drop i all) vs a b
       → ((n : ℕ) → f t (state_in b n) ≡ done (one c v) (state_in c n)) → Owned c v → Grows b c → MadeSoFar one Owned f all (drop (i + 1) all) (vs ++ v ∷ []) a c
@@ -70,6 +75,7 @@ scalar_is_key (string t) = tt
 abbrev given : plain.Value → Ending (Unit {0}) plain.Value → plain.Value
 given d (done v s) = v
 given d (bad f s) = d
+given d (asks q s k) = d
 
 pub pair_built : (e : Key × Tree) (k v : Value) (a b c : View) → Builds value_of Owns (value_made e.1) (Ok v) a b → Builds value_of Owns (give (value_of_scalar (key_of e.0))) (Ok k) b c → Builds pair_of OwnsPair (pair_made e) (Ok (k, v)) a c
 pair_built e k v a b c h g =
@@ -108,6 +114,7 @@ after_value : (o : Ending (Unit {0}) plain.Value) (k : plain.Value) (m : Computa
     then_do o (λ v. m >>= λ ms. give ((k, v) ∷ ms)) ≡ then_do (then_do o (λ v. give (k, v))) (λ x. m >>= λ xs. give (x ∷ xs))
 after_value (done v s) k m = refl
 after_value (bad f s) k m = refl
+after_value (asks q s n) k m = λ i. asks q s (λ got t. after_value (n got t) k m i)
 
 entries_made : (ps : List (Key × Tree)) → fresh_pairs (entries_of ps) ≡ each_made pair_made ps
 entries_made [] = refl

@@ -1,5 +1,5 @@
 -- What is spread is the same tree, and takes the same steps.
-use Rattle.star_steps.proofs.Names.{◌≡◌, ℕ, zero, suc, Some, None, refl, sym, ap, ◌∙◌, Place, scalar, list, Trees, no_trees, tree, Pairs, no_pairs, pair, ItemKind, equal_by, equal_trees, inside_at, fragment_body, body_tree, children_trees, children_pairs, body_paid, children_paid, key_paid, pairs_paid, scalar_paid, tree_paid, trees_paid, Computation, State, Ending, done, bad, give, paid, take_steps, then_do, ◌>>=◌, child, Children, no_children, a_child, Body, one, map_of, list_of, fragment_value}
+use Rattle.star_steps.proofs.Names.{◌≡◌, ℕ, zero, suc, Some, None, refl, sym, ap, ◌∙◌, Place, scalar, list, Trees, no_trees, tree, Pairs, no_pairs, pair, ItemKind, equal_by, equal_trees, inside_at, fragment_body, body_tree, children_trees, children_pairs, body_paid, children_paid, key_paid, pairs_paid, scalar_paid, tree_paid, trees_paid, Computation, State, Ending, done, bad, asks, give, paid, take_steps, then_do, ◌>>=◌, child, Children, no_children, a_child, Body, one, map_of, list_of, fragment_value}
 use Rattle.ytt_base.specs.Trees.{Tree, map}
 use Rattle.value_spec.specs.Built.{below}
 use Rattle.star_fragments.specs.Nodes.{spread, spread_trees, spread_pairs, spread_body, spread_children}
@@ -47,6 +47,7 @@ nothing = give tt
 after_nothing : (o : Ending (Unit {0}) (Unit {0})) (m k : Acts) → then_do (then_do o (λ u. nothing)) (λ u. m >>= λ v. k) ≡ then_do (then_do o (λ u. m)) (λ u. k)
 after_nothing (done u s) m k = refl
 after_nothing (bad f s) m k = refl
+after_nothing (asks q s n) m k = λ i. asks q s (λ got t. after_nothing (n got t) m k i)
 
 no_key : (p : Place) (m k : Acts) → (paid p (key_paid p None) >>= λ u. m >>= λ v. k) ≡ (paid p m >>= λ u. k)
 no_key p m k = λ i s. after_nothing (take_steps 1 p s) m k i

@@ -1,5 +1,5 @@
 -- The bytes that are picked at the places of a slice.
-use Rattle.star_steps.proofs.Names.{◌≡◌, ℕ, suc, ◌+◌, ◌-◌, ◌<◌, true, false, ℤ, pos, ◌+ℤ◌, ◌*ℤ◌, List, ◌++◌, drop, take, if◌then◌else◌, refl, sym, ap, ◌∙◌, add-one, arith, append_assoc, append-nil, Place, fault_at, at_least_zero, State, Ending, done, bad, fail, give, then_do, ◌>>=◌, cut_text, is_whole, same_integer, Places, bytes_cut, picked_bytes, place_count}
+use Rattle.star_steps.proofs.Names.{◌≡◌, ℕ, suc, ◌+◌, ◌-◌, ◌<◌, true, false, ℤ, pos, ◌+ℤ◌, ◌*ℤ◌, List, [], ◌++◌, drop, take, if◌then◌else◌, refl, sym, ap, ◌∙◌, add-one, arith, append_assoc, append-nil, Place, fault_at, at_least_zero, State, Ending, done, bad, asks, fail, give, then_do, then_give, ◌>>=◌, cut_text, is_whole, same_integer, Places, bytes_cut, picked_bytes, place_count}
 use Rattle.ytt_base.specs.declared.fault.FaultKind.TheVariants as kind
 use Rattle.star_index.specs.Cuts.{place_at}
 use Rattle.star_integers.proofs.Progressions.{first_number, further_on}
@@ -11,6 +11,15 @@ BytesSoFar t n z step bytes i = (p : Place) (s : State (Unit {0})) → picked_by
 regroup : (front c : List ℕ) (o : Ending (Unit {0}) (List ℕ)) → then_do (then_do o (λ more. give (c ++ more))) (λ more. give (front ++ more)) ≡ then_do o (λ more. give ((front ++ c) ++ more))
 regroup front c (done more s) = ap (λ l. done l s) (sym (append_assoc front c more))
 regroup front c (bad e s) = refl
+regroup front c (asks q s k) = λ i. asks q s (λ got t. regroup front c (k got t) i)
+
+none_less : (n : ℕ) → n ≡ n - 0
+none_less n = omega arith
+
+-- nothing is picked yet
+pub bytes_begin : (t bytes : List ℕ) (n : ℕ) (z step : ℤ) → bytes ≡ [] → BytesSoFar t n z step bytes 0
+bytes_begin t bytes n z step e p s =
+    then_give (picked_bytes p t n z step s) ∙ (λ i. then_do (picked_bytes p t (none_less n i) (first_number z step i) step s) (λ more. give (sym e i ++ more)))
 
 more_left : (n i : ℕ) → i < n → n - i ≡ suc (n - (i + 1))
 more_left n i h = omega arith

@@ -1,7 +1,7 @@
 -- The names that answers cite, passed on from one place. Declares nothing.
 pub use Rattle.star_fragments.specs.Fragments.{children_at}
 pub use Rattle.star_fragments.proofs.Held.{body_there}
-pub use Rattle.star_index.proofs.Bytes.{BytesSoFar, bytes_done, bytes_next, bytes_refused, cut_at_once}
+pub use Rattle.star_index.proofs.Bytes.{BytesSoFar, bytes_begin, bytes_done, bytes_next, bytes_refused, cut_at_once}
 pub use Rattle.star_index.proofs.Characters.{whole}
 pub use Rattle.star_index.proofs.Counts.{place_below, sliced_among, sliced_few}
 pub use Rattle.star_index.proofs.Ends.{gives_made, gives_object, gives_refused, gives_value}

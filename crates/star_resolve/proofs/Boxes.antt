@@ -8,7 +8,7 @@ use Rattle.star_spec.specs.Binding.{boxes_for}
 use Rattle.code_spec.specs.Code.{Name}
 use Rattle.code_spec.specs.Options.{further, or_else}
 use Rattle.star_spec.specs.Names.{box_of, with_box, with_boxes}
-use Rattle.value_spec.specs.Outcomes.{State, Ending, done, bad, then_do, give}
+use Rattle.value_spec.specs.Outcomes.{State, Ending, done, asks, bad, then_do, give}
 use Rattle.code_spec.specs.Scopes.{Around, home_by, binds, outward}
 use Rattle.value_spec.specs.Values.{Value, Env}
 use Rattle.star_spec.proofs.BoundNames.{bound_count, names_boxed, same_end}
@@ -141,6 +141,7 @@ module _ {H : Type 0} where
       ((own : Env) (u : State H) → all ≡ done own u → BoxesOf names own) → (own : Env) × (env ≡ own ++ around) × BoxesOf names own
   block_boxes around env t names (done own u) e more = (own, sym (same_end (own ++ around) env u t e), more own u refl)
   block_boxes around env t names (bad f u) e more = cc
+  block_boxes around env t names (asks q u k) e more = cc
 
   parameter_boxes : (around env : Env) (t : State H) (parameters names : List Name) (first : Ending H Env) →
       then_do first (λ own. λ u. then_do (with_boxes names own u) (λ all. give (all ++ around))) ≡ done env t →
@@ -149,6 +150,7 @@ module _ {H : Type 0} where
       block_boxes around env t (parameters ++ names) (with_boxes names own u) e
       (λ all w h x. more_boxes names own all u w h x ∙ ap (λ b. b || binds x names) (more own u refl x) ∙ sym (binds_either x parameters names))
   parameter_boxes around env t parameters names (bad f u) e more = cc
+  parameter_boxes around env t parameters names (asks q u k) e more = cc
 
   value_boxes : (around env : Env) (t : State H) (parameters names : List Name) (first : Ending H (List Value)) →
       then_do first (λ all. λ r. then_do (boxes_for parameters all r) (λ own. λ u. then_do (with_boxes names own u) (λ scope. give (scope ++ around)))) ≡ done env t →
@@ -156,6 +158,7 @@ module _ {H : Type 0} where
   value_boxes around env t parameters names (done values r) e count =
       parameter_boxes around env t parameters names (boxes_for parameters values r) e (λ own u. filled_boxes parameters values own r u (count values r refl))
   value_boxes around env t parameters names (bad f r) e count = cc
+  value_boxes around env t parameters names (asks q r k) e count = cc
 
   pub call_scopes : CallScopes H
   call_scopes p ps names ds vs around env s t e =

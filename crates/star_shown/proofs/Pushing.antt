@@ -1,5 +1,5 @@
 -- What is put behind what is shown, piece by piece, is the whole text behind it.
-use Rattle.star_steps.proofs.Names.{◌≡◌, ℕ, List, [], ◌∷◌, ◌++◌, map as each, codes, refl, sym, ap, ◌∙◌, append-nil, append_assoc, length, Place, State, Ending, done, bad, give, paid, paid_by, take_steps, text_cost, then_do, then_assoc, then_ext, ◌>>=◌}
+use Rattle.star_steps.proofs.Names.{◌≡◌, ℕ, List, [], ◌∷◌, ◌++◌, map as each, codes, refl, sym, ap, ◌∙◌, append-nil, append_assoc, length, Place, State, Ending, done, bad, asks, give, paid, paid_by, take_steps, text_cost, then_do, then_assoc, then_ext, then_give, ◌>>=◌}
 use Rattle.code_spec.specs.Code.{Name}
 use Rattle.value_spec.specs.Values as plain
 use Rattle.text_spec.specs.Shown.{all_shown, field_shown, more_shown, pair_shown, within}
@@ -11,12 +11,17 @@ S = State (Unit {0})
 abbrev T : Type 0
 T = List ℕ
 
+-- a text behind nothing
+pub shown_alone : (m : Texts) (s : S) (front : T) → front ≡ [] → m s ≡ behind front m s
+shown_alone m s front e = then_give (m s) ∙ (λ i. behind (sym e i) m s)
+
 -- one text behind pieces
 pub one_behind : (front first : T) (whole : T → T) (m : Texts) (s : S) → ((t : T) → first ++ t ≡ front ++ whole t) → behind first m s ≡ behind front (m >>= λ t. give (whole t)) s
 one_behind front first whole m s same = by (m s) where
   by : (o : Ending (Unit {0}) T) → then_do o (λ t. give (first ++ t)) ≡ then_do (then_do o (λ t. give (whole t))) (λ x. give (front ++ x))
   by (done t r) = ap (λ x. done x r) (same t)
   by (bad f r) = refl
+  by (asks q r k) = λ i. asks q r (λ got u. by (k got u) i)
 
 -- two texts, with pieces before them and between them
 two_behind : (front first : T) (after : T → T) (whole : T → T → T) (m k : Texts) (s : S) → ((t u : T) → after (first ++ t) ++ u ≡ front ++ whole t u) →
@@ -25,10 +30,12 @@ two_behind front first after whole m k s same = by (m s) where
   last : (t : T) (o : Ending (Unit {0}) T) → then_do o (λ u. give (after (first ++ t) ++ u)) ≡ then_do (then_do o (λ u. give (whole t u))) (λ x. give (front ++ x))
   last t (done u r) = ap (λ x. done x r) (same t u)
   last t (bad f r) = refl
+  last t (asks q r n) = λ i. asks q r (λ got u. last t (n got u) i)
 
   by : (o : Ending (Unit {0}) T) → then_do (then_do o (λ t. give (first ++ t))) (λ l. behind (after l) k) ≡ then_do (then_do o (λ t. k >>= λ u. give (whole t u))) (λ x. give (front ++ x))
   by (done t r) = last t (k r)
   by (bad f r) = refl
+  by (asks q r n) = λ i. asks q r (λ got u. by (n got u) i)
 
 -- after steps
 paid_behind : (n : ℕ) (p : Place) (front : T) (m k : Texts) (s : S) → ((t : S) → k t ≡ behind front m t) → paid_by n p k s ≡ behind front (paid_by n p m) s
@@ -82,3 +89,4 @@ module _ {A : Type 0} (push : A → Push) (text : A → Texts) (same : (x : A) (
     by : (o : Ending (Unit {0}) T) → then_do (then_do o (λ t. give ((front ++ opening) ++ t))) (λ l. give (l ++ closing)) ≡ then_do (then_do o (λ t. give (opening ++ (t ++ closing)))) (λ x. give (front ++ x))
     by (done t r) = ap (λ x. done x r) (append_assoc (front ++ opening) t closing ∙ append_assoc front opening (t ++ closing))
     by (bad f r) = refl
+    by (asks q r k) = λ i. asks q r (λ got u. by (k got u) i)

@@ -4,7 +4,7 @@ use Rattle.ytt_base.specs.declared.fault.FaultKind.TheVariants as kind
 use Rattle.ytt_base.specs.declared.fault.Place.{Place}
 use Rattle.code_spec.specs.Allowed.{parameter_names}
 use Rattle.code_spec.specs.Code.{Name, Parameters, no_parameters, required, defaulted, bare_star, starred_parameter, double_starred_parameter}
-use Rattle.value_spec.specs.Outcomes.{State, Ending, done, bad, then_do, give, on_store, or_fail}
+use Rattle.value_spec.specs.Outcomes.{State, Ending, done, bad, asks, then_do, give, on_store, or_fail}
 use Rattle.value_spec.specs.Store.{with_object}
 use Rattle.value_spec.specs.Values.{Value, tuple_value, Values, no_values, a_value, Fields, no_fields, a_field, Arguments, arguments, Env, of_box}
 use Rattle.value_spec.specs.Binding.{Given, given, rest_given, all_bound, bound, bound_values, field_of, in_front, rest_in_front, has_twice, or_default, unless_named, value_given, values_given, without_field}
@@ -67,6 +67,7 @@ module _ {H : Type 0} where
       ((vs : List Value) (u : State H) → rest ≡ done vs u → length vs ≡ n) → length values ≡ suc n
   one_more v n values r (done vs u) e more = ap length (sym (same_end (v ∷ vs) values u r e)) ∙ ap suc (more vs u refl)
   one_more v n values r (bad f u) e more = cc
+  one_more v n values r (asks q u k) e more = cc
 
   one_given : (g : Given) (n : ℕ) (values : List Value) (s r : State H) (rest : State H → Ending H (List Value)) → then_do (value_given g s) (λ v. λ u. then_do (rest u) (λ vs. give (v ∷ vs))) ≡ done values r →
       ((before : State H) (vs : List Value) (u : State H) → rest before ≡ done vs u → length vs ≡ n) → length values ≡ suc n
@@ -94,6 +95,7 @@ module _ {H : Type 0} where
       ((env : Env) (u : State H) → rest ≡ done env u → each (λ (b : Name × ℕ). b.0) env ≡ names) → each (λ (b : Name × ℕ). b.0) own ≡ x ∷ names
   behind_box x r names own t (done env u) e more = ap (each (λ (b : Name × ℕ). b.0)) (sym (same_end ((x, r) ∷ env) own u t e)) ∙ ap (λ l. x ∷ l) (more env u refl)
   behind_box x r names own t (bad f u) e more = cc
+  behind_box x r names own t (asks q u k) e more = cc
 
   -- where there is a value for each name, these are the names that get boxes, in their order
   pub names_boxed : (xs : List Name) (vs : List Value) (own : Env) (s t : State H) → length vs ≡ length xs → boxes_for xs vs s ≡ done own t → each (λ (b : Name × ℕ). b.0) own ≡ xs

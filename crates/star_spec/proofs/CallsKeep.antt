@@ -6,20 +6,20 @@ use Rattle.ytt_base.specs.declared.fault.Place.{Place}
 use Rattle.builtin_spec.specs.Sorting.{Keyed, Wanted, without_keys, asks_keys}
 use Rattle.code_spec.specs.Allowed.{parameter_names}
 use Rattle.star_spec.specs.Binding.{boxes_for, scope_of_call}
-use Rattle.star_spec.specs.Calls.{Code, Table, parameters_of, names_of, Enter, enter_code, Reply, answer, call_then, Host, no_natives, resumed_with, after_reply, native_call, call_by_kind, no_keys, keys_by, with_keys, any_call, call_with_natives, function_of, function_call, too_deep, apply}
+use Rattle.star_spec.specs.Calls.{Code, Table, parameters_of, names_of, Enter, enter_code, Host, no_natives, replied, asking, resumed_with, after_reply, native_call, call_by_kind, no_keys, keys_by, with_keys, any_call, call_with_natives, function_of, function_call, too_deep, apply}
 use Rattle.code_spec.specs.Code.{Name, Expr, Exprs, BinaryOperator, Parameters, Statement, evaluate, assign, augment, load, return, break, continue, pass}
 use Rattle.star_spec.specs.Eval.{starlark}
-use Rattle.star_spec.specs.Held.{HeldValue, HeldValues, HeldExpr, HeldExprs, HeldParameters, HeldStatement, HeldList, HeldArguments}
+use Rattle.star_spec.specs.Held.{HeldValue, HeldValues, HeldExpr, HeldExprs, HeldParameters, HeldStatement, HeldList, HeldArguments, HeldStore, HeldReply, HeldAnswer}
 use Rattle.star_spec.specs.Language.{Call, Language, Word, breaks, continues, returns, execute, define}
 use Rattle.star_spec.specs.Names.{box_of}
-use Rattle.value_spec.specs.Outcomes.{Ending, done, bad, then_do, Computation}
+use Rattle.value_spec.specs.Outcomes.{State, Reply, answer, call_then, Ending, done, bad, asks, then_do, Computation, ◌>>=◌}
 use Rattle.value_spec.specs.Store.{object_at, function_at}
 use Rattle.value_spec.specs.Values.{Value, function_value, native_value, builtin, method, host_native, Values, Arguments, one_value, Env, Function, of_box, of_function}
 use Rattle.star_spec.proofs.BindingsKeep.{bound_keeps}
 use Rattle.star_spec.proofs.SortingKeeps.{HeldKeyed, asked_keeps, wanted_keeps}
 use Rattle.star_spec.proofs.EvalKeeps.{CallKeeps, eval_keeps, arguments_keep, assign_keeps, augment_keeps, defaults_keep, truth_keeps, write_keeps, boxes_keep}
 use Rattle.star_spec.proofs.MembersHeld.{members_keep}
-use Rattle.star_spec.proofs.Keeping.{Kept, Keeps, Anything, keeps_then, keeps_give, keeps_fail, keeps_or_fail, keeps_ill_formed, keeps_or_ill_formed, keeps_paid, keeps_reads, keeps_new_object, object_held, HeldFunction, function_held}
+use Rattle.star_spec.proofs.Keeping.{Kept, Keeps, Anything, kept_then, keeps_then, keeps_give, keeps_fail, keeps_or_fail, keeps_ill_formed, keeps_or_ill_formed, keeps_paid, keeps_reads, keeps_new_object, object_held, HeldFunction, function_held}
 
 -- ---- a language
 
@@ -87,10 +87,6 @@ starlark_keeps = record {
 
 -- ---- natives
 
-abbrev pub HeldReply : Reply → Type 0
-HeldReply (answer v) = HeldValue v
-HeldReply (call_then f vs tag) = HeldValue f × HeldArguments vs
-
 abbrev pub HeldGot : Result Value Fault → Type 0
 HeldGot (Ok v) = HeldValue v
 HeldGot (Err e) = Unit {0}
@@ -102,23 +98,19 @@ pub record HostKeeps {H : Type 0} (host : Host H) : Type 0 where
 pub no_natives_keep : {H : Type 0} → HostKeeps {H = H} no_natives
 no_natives_keep = record { ask = λ p x held vs h k. keeps_fail kind.ValueKind p []; resume = λ p x held tag got h k. keeps_fail kind.ValueKind p [] }
 
+replied_held : {H : Type 0} (got : Result Reply Fault) (t : State H) → HeldAnswer got → HeldStore t.store → Kept HeldReply (replied got t)
+replied_held (Ok r) t h k = (h, k)
+replied_held (Err e) t h k = k
+
+-- a host that is asked keeps it if its answers do
+pub asking_keeps : {H : Type 0} → HostKeeps {H = H} asking
+asking_keeps = record { ask = λ p x held vs h k. record { by = λ s g. (g, replied_held) }; resume = λ p x held tag got h k. record { by = λ s g. (g, replied_held) } }
+
 module _ {H : Type 0} (host : Host H) (hosts : HostKeeps host) where
   resumed_kept : (p : Place) (x : Name) (held : Values) (tag : ℕ) (e : Ending H Value) → HeldValues held → Kept HeldValue e → Kept HeldReply (resumed_with host p x held tag e)
   resumed_kept p x held tag (done v s) h k = (hosts.resume p x held tag (Ok v) h k.0).by s k.1
   resumed_kept p x held tag (bad e s) h k = (hosts.resume p x held tag (Err e) h tt).by s k
-
-  kept_on : {A B : Type 0} (P : A → Type 0) (Q : B → Type 0) (e : Ending H A) (f : A → Computation H B) → Kept P e → ((a : A) → P a → Keeps Q (f a)) → Kept Q (then_do e f)
-  kept_on P Q (done a s) f h k = (k a h.0).by s h.1
-  kept_on P Q (bad e s) f h k = h
-
-  reply_keeps : (call : Call H) → CallKeeps call → (left : ℕ) (p : Place) (x : Name) (held : Values) (r : Reply) → HeldValues held → HeldReply r → Keeps HeldValue (after_reply host call left p x held r)
-  reply_keeps call calls left p x held (answer v) h k = keeps_give v k
-  reply_keeps call calls zero p x held (call_then f vs tag) h k = keeps_fail kind.Steps p []
-  reply_keeps call calls (suc left) p x held (call_then f vs tag) h k =
-      keeps_paid 1 p (record { by = λ s g. kept_on HeldReply HeldValue (resumed_with host p x held tag (call p f vs s)) (after_reply host call left p x held) (resumed_kept p x held tag (call p f vs s) h ((calls.by p f vs k.0 k.1).by s g)) (λ r i. reply_keeps call calls left p x held r h i) })
-
-  native_keeps : (call : Call H) → CallKeeps call → (left : ℕ) (p : Place) (x : Name) (held : Values) (vs : Arguments) → HeldValues held → HeldArguments vs → Keeps HeldValue (native_call host call left p x held vs)
-  native_keeps call calls left p x held vs h k = keeps_then (hosts.ask p x held vs h k) (λ r i. reply_keeps call calls left p x held r h i)
+  resumed_kept p x held tag (asks q s n) h k = (k.0, λ got t g i. resumed_kept p x held tag (n got t) h (k.1 got t g i))
 
 -- ---- calls
 
@@ -152,10 +144,22 @@ module _ {H : Type 0} (language : Language H) (keeps : LanguageKeeps language) w
         (with_keys_keep (call_by_kind language function native no_keys) (record { by = kind_keeps function native no_keys fs ns no_keys_keep }));
   }
 
+  reply_keeps : (host : Host H) → HostKeeps host → (function : Call H) → CallKeeps function → (left : ℕ) (p : Place) (x : Name) (held : Values) (r : Reply) → HeldValues held → HeldReply r →
+      Keeps HeldValue (after_reply language host function left p x held r)
+  reply_keeps host hosts function fs left p x held (answer v) h k = keeps_give v k
+  reply_keeps host hosts function fs zero p x held (call_then f vs tag) h k = keeps_fail kind.Steps p []
+  reply_keeps host hosts function fs (suc left) p x held (call_then f vs tag) h k =
+      let calls = any_keeps function (λ q y kept ws. host.ask q y kept ws >>= after_reply language host function left q y kept) fs
+      (λ q y kept ws g i. keeps_then (hosts.ask q y kept ws g i) (λ r j. reply_keeps host hosts function fs left q y kept r g j)) in
+      keeps_paid 1 p (record {
+        by = λ s g. kept_then HeldReply HeldValue _ (after_reply language host function left p x held)
+            (resumed_kept host hosts p x held tag _ h ((calls.by p f vs k.0 k.1).by s g))
+            (λ r i. reply_keeps host hosts function fs left p x held r h i);
+      })
+
   natives_keep : (host : Host H) → HostKeeps host → (function : Call H) → CallKeeps function → (left : ℕ) → CallKeeps (call_with_natives language host function left)
-  natives_keep host hosts function fs zero = any_keeps function (native_call host function zero) fs (native_keeps host hosts function fs zero)
-  natives_keep host hosts function fs (suc left) =
-      any_keeps function (native_call host (call_with_natives language host function left) (suc left)) fs (native_keeps host hosts (call_with_natives language host function left) (natives_keep host hosts function fs left) (suc left))
+  natives_keep host hosts function fs left =
+      any_keeps function (native_call language host function left) fs (λ p x held vs h k. keeps_then (hosts.ask p x held vs h k) (λ r i. reply_keeps host hosts function fs left p x held r h i))
 
   found_function : (o : Option Function) (g : Function) → HeldFunction o → o ≡ Some g → IsUtf8 g.name × HeldList g.defaults
   found_function None g h e = cc

@@ -9,7 +9,7 @@ use Rattle.builtin_spec.specs.Sorting.{Keyed, without_keys, asks_keys}
 use Rattle.code_spec.specs.Code.{Name, Expr, Parameters}
 use Rattle.code_spec.specs.Program.{ItemKind}
 use Rattle.value_spec.specs.Values.{Value, function_value, native_value, builtin, method, host_native, Values, Arguments, one_value, Env, Function}
-use Rattle.value_spec.specs.Outcomes.{Ending, done, bad, then_do, Computation, paid, give, fail, or_fail, ill_formed, or_ill_formed, reads, ◌>>=◌}
+use Rattle.value_spec.specs.Outcomes.{State, Reply, answer, call_then, called, resumed, Ending, done, bad, asks, then_do, Computation, paid, give, fail, or_fail, ill_formed, or_ill_formed, reads, ◌>>=◌}
 use Rattle.star_spec.specs.Language.{Call, Language}
 use Rattle.value_spec.specs.Store.{function_at}
 
@@ -42,11 +42,6 @@ enter_code language enter call (of_def ps fragment b) env = enter call fragment 
 
 -- ---- natives
 
--- what a native answers: a value, or a call that it asks for
-pub data Reply : Type 0 where
-  answer : Value → Reply
-  call_then : (function : Value) → Arguments → (tag : ℕ) → Reply
-
 -- the natives, by their names and what they hold; what a call that one asked for gave comes back to it, a value or a fault
 pub record Host (H : Type 0) : Type 0 where
   pub ask : Place → Name → Values → Arguments → Computation H Reply
@@ -56,20 +51,18 @@ pub record Host (H : Type 0) : Type 0 where
 abbrev pub no_natives : {H : Type 0} → Host H
 no_natives = record { ask = λ p x held vs. fail kind.ValueKind p; resume = λ p x held tag got. fail kind.ValueKind p }
 
+abbrev pub replied : {H : Type 0} → Result Reply Fault → State H → Ending H Reply
+replied (Ok r) s = done r s
+replied (Err e) s = bad e s
+
+-- natives of whom a host is asked, whatever it answers
+abbrev pub asking : {H : Type 0} → Host H
+asking = record { ask = λ p x held vs s. asks (called p x held vs) s replied; resume = λ p x held tag got s. asks (resumed p x held tag got) s replied }
+
 abbrev pub resumed_with : {H : Type 0} → Host H → Place → Name → Values → (tag : ℕ) → Ending H Value → Ending H Reply
 resumed_with host p x held tag (done v s) = host.resume p x held tag (Ok v) s
 resumed_with host p x held tag (bad e s) = host.resume p x held tag (Err e) s
-
--- What follows a native's reply. The step of a call that it asks for stands at its own call, and where none is left it
--- isn't resumed; so no more calls are asked for than steps are left.
-abbrev pub after_reply : {H : Type 0} → Host H → Call H → (left : ℕ) → Place → Name → Values → Reply → Computation H Value
-after_reply host call left p x held (answer v) = give v
-after_reply host call zero p x held (call_then f vs tag) = fail kind.Steps p
-after_reply host call (suc left) p x held (call_then f vs tag) = paid p (λ s. then_do (resumed_with host p x held tag (call p f vs s)) (after_reply host call left p x held))
-
--- a call of a native, which may ask for calls while so many steps are left
-abbrev pub native_call : {H : Type 0} → Host H → Call H → (left : ℕ) → Place → Name → Values → Arguments → Computation H Value
-native_call host call left p x held vs = host.ask p x held vs >>= after_reply host call left p x held
+resumed_with host p x held tag (asks q s k) = asks q s (λ got t. resumed_with host p x held tag (k got t))
 
 -- ---- calls by what is called
 
@@ -102,10 +95,25 @@ with_keys language call p (asks_keys w g members) = keys_by call p g members >>=
 abbrev pub any_call : {H : Type 0} → Language H → (function : Call H) → (native : Place → Name → Values → Arguments → Computation H Value) → Call H
 any_call language function native = call_by_kind language function native (with_keys language (call_by_kind language function native no_keys))
 
+-- ---- calls of natives
+
+-- What follows a native's reply. The step of a call that it asks for stands at its own call, and where none is left it
+-- isn't resumed; so no more calls are asked for than steps are left.
+abbrev pub after_reply : {H : Type 0} → Language H → Host H → (function : Call H) → (left : ℕ) → Place → Name → Values → Reply → Computation H Value
+after_reply language host function left p x held (answer v) = give v
+after_reply language host function zero p x held (call_then f vs tag) = fail kind.Steps p
+after_reply language host function (suc left) p x held (call_then f vs tag) =
+    paid p (λ s. then_do (resumed_with host p x held tag
+    (any_call language function (λ q y kept ws. host.ask q y kept ws >>= after_reply language host function left q y kept) p f vs s))
+    (after_reply language host function left p x held))
+
+-- a call of a native, which may ask for calls while so many steps are left
+abbrev pub native_call : {H : Type 0} → Language H → Host H → (function : Call H) → (left : ℕ) → Place → Name → Values → Arguments → Computation H Value
+native_call language host function left p x held vs = host.ask p x held vs >>= after_reply language host function left p x held
+
 -- a call where functions of files are called so, and so many steps are left for the calls that natives ask for
 abbrev pub call_with_natives : {H : Type 0} → Language H → Host H → (function : Call H) → (left : ℕ) → Call H
-call_with_natives language host function zero = any_call language function (native_call host function zero)
-call_with_natives language host function (suc left) = any_call language function (native_call host (call_with_natives language host function left) (suc left))
+call_with_natives language host function left = any_call language function (native_call language host function left)
 
 -- ---- functions of files
 

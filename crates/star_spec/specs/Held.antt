@@ -1,7 +1,7 @@
 -- The values that the program holds: integers of 128 bits, texts in UTF-8, names of fields that are distinct, names of functions
 -- and modules in UTF-8, and children that are what the program holds, with distinct keys in a map and in a fragment of pairs; the code and the
 -- objects that hold such.
-use Rattle.std.specs.Prelude.{◌≡◌, ℤ, Bool, true, false, ◌&&◌, ◌||◌, not, List, [], ◌∷◌, Option, Some, None, IsTrue, IsUtf8, FitsSigned}
+use Rattle.std.specs.Prelude.{◌≡◌, ℤ, Bool, true, false, ◌&&◌, ◌||◌, not, List, [], ◌∷◌, Option, Some, None, Result, Ok, Err, IsTrue, IsUtf8, FitsSigned}
 use Rattle.std.specs.Int.{w128}
 use Rattle.ytt_base.specs.Trees.{Scalar, IsScalar, has_key, IsTree}
 use Rattle.code_spec.specs.Allowed.{are_distinct}
@@ -9,6 +9,8 @@ use Rattle.code_spec.specs.Program.{ItemKind, pair_item}
 use Rattle.code_spec.specs.Code as code
 use Rattle.code_spec.specs.Code.{Name, Expr, Exprs, no_exprs, an_expr, OptionalExpr, absent, present, Entries, no_entries, an_entry, Clauses, no_clauses, for_clause, if_clause, Pieces, no_pieces, text_piece, expr_piece, Parameters, no_parameters, required, defaulted, bare_star, starred_parameter, double_starred_parameter, Statement, evaluate, assign, augment, load, return, break, continue, pass}
 use Rattle.value_spec.specs.Keys.{same_key}
+use Rattle.value_spec.specs.Outcomes.{Reply, answer, call_then}
+use Rattle.ytt_base.specs.declared.fault.Fault.{Fault}
 use Rattle.value_spec.specs.Numbers.{range_count, progression}
 use Rattle.value_spec.specs.Values.{Value, none_value, bool_value, int_value, text_value, tuple_value, range_value, struct_value, fragment_value, list_value, dict_value, function_value, module_value, native_value, builtin, method, host_native, replacement, Values, no_values, a_value, Fields, no_fields, a_field, Child, child, Children, no_children, a_child, Body, one, map_of, list_of, Arguments, arguments, Contents, of_list, of_dict, of_box, of_function, Store}
 
@@ -178,3 +180,14 @@ HeldStore (o ∷ os) = HeldContents o.contents × HeldStore os
 
 abbrev pub HeldArguments : Arguments → Type 0
 HeldArguments (arguments vs fs) = HeldValues vs × HeldFields fs
+
+-- ---- what a host answers
+
+abbrev pub HeldReply : Reply → Type 0
+HeldReply (answer v) = HeldValue v
+HeldReply (call_then f vs tag) = HeldValue f × HeldArguments vs
+
+-- a reply, or a fault
+abbrev pub HeldAnswer : Result Reply Fault → Type 0
+HeldAnswer (Ok r) = HeldReply r
+HeldAnswer (Err e) = Unit {0}

@@ -3,6 +3,7 @@ pub mod Calls
 pub mod Eval
 pub mod Flow
 pub mod Held
+pub mod Hosts
 pub mod Lambdas
 pub mod Language
 pub mod Names

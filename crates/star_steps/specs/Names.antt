@@ -32,7 +32,7 @@ pub use Rattle.value_spec.specs.Built.{body_paid, body_tree, children_paid, chil
 pub use Rattle.value_spec.specs.Keys.{AreKeys, IsKey, first_offence, key_offence, place_of_key, text_cost}
 pub use Rattle.value_spec.specs.Members.{as_int, as_text, count_in, is_empty, keys_in, members_in, numbers_of, truth_in}
 pub use Rattle.value_spec.specs.Numbers.{at_least_zero, progression, range_count, steps_up}
-pub use Rattle.value_spec.specs.Outcomes.{Computation, Ending, State, acting, after_act, bad, done, fail, give, need, new_dict, new_list, or_fail, paid, paid_by, reads, take_if, take_steps, then_do, ◌>>=◌}
+pub use Rattle.value_spec.specs.Outcomes.{Computation, Ending, State, acting, after_act, asks, bad, done, fail, give, need, new_dict, new_list, or_fail, paid, paid_by, reads, take_if, take_steps, then_do, ◌>>=◌}
 pub use Rattle.value_spec.specs.Store.{Answer, dict_put, did, list_at, list_extend, list_set, may_change, object, on_found, pairs_at, put_key, put_pair, put_pairs, refused, value_at_place, value_of_key, with_object}
 pub use Rattle.value_spec.specs.Values.{Body, Children, Contents, Fields, Object, Store, Values, a_child, a_value, bool_value, child, dict_value, fragment_value, function_value, int_value, list_of, list_value, map_of, module_value, native_value, no_built, no_children, no_values, none_value, of_dict, one, range_value, struct_value, text_value, tuple_value, values_from, values_in}
 pub use Rattle.ytt_base.specs.Outcomes.{fault_at}

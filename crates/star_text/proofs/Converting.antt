@@ -4,14 +4,16 @@ use Rattle.std.proofs.lemmas.Bool.{eqb-true}
 use Rattle.std.specs.List.{after_first, before_first, position_or_len}
 use Rattle.ytt_base.specs.Outcomes.{fault_at}
 use Rattle.ytt_base.specs.declared.fault.FaultKind.TheVariants as kind
+use Rattle.ytt_base.specs.declared.fault.Fault.{Fault}
 use Rattle.ytt_base.specs.declared.fault.Place.{Place}
 use Rattle.ytt_base.specs.declared.fault.Stop.{Stop}
 use Rattle.ytt_base.specs.declared.fault.Stop.TheVariants as stop
 use Rattle.star_shown.specs.Pushes.{behind}
 use Rattle.star_steps.specs.Meets.{Gives, Meets, as_is, state_in}
-use Rattle.text_spec.specs.Percent.{by_conversion, by_next, filled, text_before}
+use Rattle.text_spec.specs.Percent as percent
+use Rattle.text_spec.specs.Percent.{by_conversion, by_next, converted, filled, text_before}
 use Rattle.text_spec.proofs.Filling.{AllPass, is_it, is_plain, onto_before, run_filled}
-use Rattle.value_spec.specs.Outcomes.{Computation, Ending, State, bad, done, give, then_do}
+use Rattle.value_spec.specs.Outcomes.{Computation, Ending, State, asks, bad, done, give, then_do}
 use Rattle.value_spec.specs.Values.{Value, text_value}
 use Rattle.object_arena.specs.Made.{Makes}
 use Rattle.star_values.proofs.Growing.{grows_same}
@@ -61,6 +63,33 @@ by_sign p text more c vs made new s h e f put =
     ap (λ m. behind made m s) (by_its_conversion p text more c vs h ∙ is_sign p c vs (filled p more) e f)
     ∙ onto_before made (37 ∷ []) (filled p more vs) s
     ∙ ap (λ l. behind l (filled p more vs) s) (sym put)
+
+-- ---- the next value
+
+module _ (p : Place) (c : percent.Conversion) (v : Value) (vs all : List Value) (made : List ℕ) (rest : List Value → Texts) (s : Here) (is : all ≡ v ∷ vs) where
+  next_first : behind made (by_next p c all rest) s ≡ then_do (then_do (converted p c v s) (λ t. text_before t (rest vs))) (λ u. give (made ++ u))
+  next_first = ap (λ l. behind made (by_next p c l rest) s) is
+
+  pub next_shown : (new : List ℕ) (after : Here) → behind made (converted p c v) s ≡ done new after → behind made (by_next p c all rest) s ≡ behind new (rest vs) after
+  next_shown new after h = next_first ∙ by (converted p c v s) h where
+    by : (o : Ending (Unit {0}) (List ℕ)) → then_do o (λ t. give (made ++ t)) ≡ done new after → then_do (then_do o (λ t. text_before t (rest vs))) (λ u. give (made ++ u)) ≡ behind new (rest vs) after
+    by (done t q) h =
+        let text : made ++ t ≡ new = cc in
+        let state : q ≡ after = cc in
+        onto_before made t (rest vs) q ∙ (λ i. behind (text i) (rest vs) (state i))
+    by (bad d q) h = cc
+    by (asks w q k) h = cc
+
+  next_bad : (d : Fault) (after : Here) → behind made (converted p c v) s ≡ bad d after → behind made (by_next p c all rest) s ≡ bad d after
+  next_bad d after h = next_first ∙ by (converted p c v s) h where
+    by : (o : Ending (Unit {0}) (List ℕ)) → then_do o (λ t. give (made ++ t)) ≡ bad d after → then_do (then_do o (λ t. text_before t (rest vs))) (λ u. give (made ++ u)) ≡ bad d after
+    by (done t q) h = cc
+    by (bad g q) h = cc
+    by (asks w q k) h = cc
+
+  pub next_stopped : {A B : Type 0} (x : Stop) (r : Result B Stop) (view : A → List ℕ) (next : B → Ending (Unit {0}) (List ℕ)) (after : Here) → r ≡ Err x → Meets view (Err x) after (behind made (converted p c v) s) → GoesOn r (behind made (by_next p c all rest) s) next after
+  next_stopped (stop.Fault d) r view next after e h = subst (λ r. GoesOn r (behind made (by_next p c all rest) s) next after) (sym e) (next_bad d after h)
+  next_stopped stop.Memory r view next after e h = subst (λ r. GoesOn r (behind made (by_next p c all rest) s) next after) (sym e) tt
 
 -- ---- up to a sign
 

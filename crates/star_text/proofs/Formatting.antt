@@ -10,7 +10,7 @@ use Rattle.ytt_base.specs.declared.fault.Place.{Place}
 use Rattle.star_values.specs.Owns.{OwnsAll, OwnsFields, OwnsOption}
 use Rattle.star_values.specs.View.{View, arguments_in, fields_in, value_of, values_of}
 use Rattle.star_values.specs.declared.value.Value.{Value}
-use Rattle.value_spec.specs.Outcomes.{Computation, Ending, State, bad, done, fail, give, need, then_do, ◌>>=◌}
+use Rattle.value_spec.specs.Outcomes.{Computation, Ending, State, asks, bad, done, fail, give, need, then_do, ◌>>=◌}
 use Rattle.std.specs.List.{after_first, before_first, position_or_len}
 use Rattle.std.proofs.Math.Seq.{split_at}
 use Rattle.std.proofs.lemmas.Bool.{eqb-true}
@@ -115,6 +115,7 @@ module _ (a : View) (p : Place) (args : CallArgs) (made : List ℕ) (m : Met) (f
       by : (o : Ending (Unit {0}) (List ℕ)) → then_do o (λ t. give (made ++ t)) ≡ bad d after → then_do (then_do o (λ t. give (t, n))) (behind_made made) ≡ bad d after
       by (done t r) e = cc
       by (bad g r) e = cc
+      by (asks q r k) e = cc
 
     pub unshown_met : {A B : Type 0} (x : Stop) (r : Result A Stop) (view : A → List ℕ × Met) (seen : B → List ℕ) (after : Here) → r ≡ Err x → Meets seen (Err x) after (behind made (converted p (conversion_in c) v) s) → Meets view r after (filled_here a p args made m f s)
     unshown_met (stop.Fault d) r view seen after e h = subst (λ r. Meets view r after (filled_here a p args made m f s)) (sym e) (unshown d after h)
@@ -125,6 +126,7 @@ module _ (a : View) (p : Place) (args : CallArgs) (made : List ℕ) (m : Met) (f
       by : (o : Ending (Unit {0}) (List ℕ)) → then_do o (λ t. give (made ++ t)) ≡ done new after → then_do (then_do o (λ t. give (t, n))) (behind_made made) ≡ done (new, n) after
       by (done t r) e = cc
       by (bad g r) e = cc
+      by (asks q r k) e = cc
 
 -- a name, which isn't this one
 pub name_passed : (a : View) (x : List ℕ) (q : NamedValue) (qs : List NamedValue) → bytes_eq x q.name ≡ false → field_of x (fields_in a.held (q ∷ qs)) ≡ field_of x (fields_in a.held qs)
@@ -236,12 +238,14 @@ module _ (a : View) (p : Place) (args : CallArgs) (made : List ℕ) (s : Here) w
           let state : q ≡ after = cc in
           onto_before made r.0 (formatted p vs fs r.1 0 more) q ∙ (λ i. behind (text i) (formatted p vs fs (kind i) 0 more) (state i))
       by (bad d q) h = cc
+      by (asks w q k) h = cc
 
     field_bad : (d : Fault) (after : Here) → filled_here a p args made m (field_in f) s ≡ bad d after → behind made (formatted_here a p args m (123 ∷ t)) s ≡ bad d after
     field_bad d after h = closed ∙ by (field_filled p vs fs m (field_in f) s) h where
       by : (o : Ending (Unit {0}) (List ℕ × Met)) → then_do o (behind_made made) ≡ bad d after → then_do (then_do o (λ r. text_before r.0 (formatted p vs fs r.1 0 more))) (λ t. give (made ++ t)) ≡ bad d after
       by (done r q) h = cc
       by (bad g q) h = cc
+      by (asks w q k) h = cc
 
     pub field_stopped : {A B : Type 0} (x : Stop) (r : Result B Stop) (view : A → List ℕ × Met) (next : B → Ending (Unit {0}) (List ℕ)) (after : Here) → r ≡ Err x → Meets view (Err x) after (filled_here a p args made m (field_in f) s) → GoesOn r (behind made (formatted_here a p args m (123 ∷ t)) s) next after
     field_stopped (stop.Fault d) r view next after e h = subst (λ r. GoesOn r (behind made (formatted_here a p args m (123 ∷ t)) s) next after) (sym e) (field_bad d after h)

@@ -88,18 +88,25 @@ fn filled_by(
     requires { Owns (seen arena.now) operand }
     ensures { Meets string_bytes result (state_in (seen arena.now) steps.new) (filled place text.now (values_for (value_of (seen arena.now) operand)) (state_in (seen arena.now) steps.old)) }
 {
-    let mut made = String::new(arena.alloc());
     match operand {
-        Value::Tuple(tuple) => fill(
-            arena,
-            place,
-            text,
-            tuple_members(arena, tuple),
-            &mut made,
-            steps,
-        )?,
-        _ => fill(arena, place, text, &[operand], &mut made, steps)?,
+        Value::Tuple(tuple) => filled_with(arena, place, text, tuple_members(arena, tuple), steps),
+        _ => filled_with(arena, place, text, &[operand], steps),
     }
+}
+
+/// The text, filled by these values.
+fn filled_with(
+    arena: &Arena,
+    place: Place,
+    text: &str,
+    values: &[Value],
+    steps: &mut u64,
+) -> Result<String, Stop>
+    requires { OwnsAll (seen arena.now) values.now }
+    ensures { Meets string_bytes result (state_in (seen arena.now) steps.new) (filled place text.now (values_of (seen arena.now) values.now) (state_in (seen arena.now) steps.old)) }
+{
+    let mut made = String::new(arena.alloc());
+    fill(arena, place, text, values, &mut made, steps)?;
     Ok(made)
 }
 

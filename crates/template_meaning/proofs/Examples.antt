@@ -9,7 +9,7 @@ use Rattle.yaml_spec.specs.Scalars.{form}
 use Rattle.yaml_spec.specs.Text.{fits_plain}
 use Rattle.code_spec.specs.Code.{Expr, int, text, name, tuple, unary, binary, negation, addition, multiplication, floor_division, equal, no_exprs, an_expr, assign}
 use Rattle.code_spec.specs.Program.{document_item, pair_item, element_item}
-use Rattle.value_spec.specs.Outcomes.{State, Ending, done, bad}
+use Rattle.value_spec.specs.Outcomes.{State, Ending, done, asks, bad}
 use Rattle.star_spec.specs.Calls.{no_natives}
 use Rattle.star_spec.specs.Eval.{starlark}
 use Rattle.template_spec.specs.Template.{Item, Items, no_items, an_item, node, code, if_block, for_block, no_notes, no_key, written_key, else_branch, elif_branch, Content, written_value, value_from, pairs, elements}
@@ -21,10 +21,12 @@ use Rattle.template_meaning.specs.Meaning.{BuildFile, RunFile, documents}
 pub data Seen : Type 0 where
   gives : Trees → (steps : ℕ) → Seen
   faults : Fault → Seen
+  asked : Seen
 
 abbrev seen : Ending (Unit {0}) FileResult → Seen
 seen (done r s) = gives (documents r.documents) s.steps
 seen (bad f s) = faults f
+seen (asks q s k) = asked
 
 abbrev at_start : ℕ → State (Unit {0})
 at_start steps = record { store = []; steps = steps; host = tt }

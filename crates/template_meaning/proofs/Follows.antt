@@ -3,7 +3,7 @@ use Rattle.std.proofs.Common.{◌≡◌, List, [], ◌∷◌, Option, Some, None
 use Rattle.ytt_base.specs.declared.fault.Place.{Place}
 use Rattle.code_spec.specs.Code.{Expr}
 use Rattle.value_spec.specs.Values.{Value, Env}
-use Rattle.value_spec.specs.Outcomes.{State, Ending, done, bad, then_do, Computation, ◌>>=◌, give, take_steps, paid, finally, on_store}
+use Rattle.value_spec.specs.Outcomes.{State, Ending, done, asks, bad, then_do, Computation, ◌>>=◌, give, take_steps, paid, finally, on_store}
 use Rattle.value_spec.specs.Store.{begin_loop, end_loop}
 use Rattle.star_spec.specs.Language.{Call, Language, Word, breaks, continues, returns}
 use Rattle.value_spec.specs.Members.{walked_in}
@@ -23,6 +23,7 @@ pub record Follows {H K L : Type 0} (g : K → L) (a : Part H K) (b : Part H L) 
 pub value_follows : {H A K L : Type 0} (g : K → L) (r : Ending H A) (f : A → Computation H (Flow K)) (f' : A → Computation H (Flow L)) → ((a : A) (s : State H) → f' a s ≡ mapped g (f a s)) → then_do r f' ≡ mapped g (then_do r f)
 value_follows g (done a s) f f' h = h a s
 value_follows g (bad e s) f f' h = refl
+value_follows g (asks q s k) f f' h = λ i. asks q s (λ got t. value_follows g (k got t) f f' h i)
 
 pub paid_follows : {H K L : Type 0} (g : K → L) (p : Place) (m : Computation H (Flow K)) (m' : Computation H (Flow L)) (s : State H) → ((s : State H) → m' s ≡ mapped g (m s)) → paid p m' s ≡ mapped g (paid p m s)
 paid_follows g p m m' s h = value_follows g (take_steps 1 p s) (λ u. m) (λ u. m') (λ u s. h s)
@@ -51,6 +52,7 @@ next_follows g x x' h (out (returns v) k) s = refl
 flow_follows : {H K L : Type 0} (g : K → L) (r : Ending H (Flow K)) (f : Flow K → Computation H (Flow K)) (f' : Flow L → Computation H (Flow L)) → ((a : Flow K) (s : State H) → f' (flow_map g a) s ≡ mapped g (f a s)) → then_do (mapped g r) f' ≡ mapped g (then_do r f)
 flow_follows g (done a s) f f' h = h a s
 flow_follows g (bad e s) f f' h = refl
+flow_follows g (asks q s k) f f' h = λ i. asks q s (λ got t. flow_follows g (k got t) f f' h i)
 
 pub turns_follow : {H K L : Type 0} (g : K → L) (p : Place) (x : Value → Part H K) (x' : Value → Part H L) → ((v : Value) → Follows g (x v) (x' v)) → (vs : List Value) → Follows g (turns p x vs) (turns p x' vs)
 turns_follow g p x x' h [] = record { by = λ k s. refl }
@@ -63,6 +65,7 @@ turns_follow g p x x' h (v ∷ vs) = record {
 finally_mapped : {H K L : Type 0} (g : K → L) (r : Ending H (Flow K)) (f : State H → State H) → finally (mapped g r) f ≡ mapped g (finally r f)
 finally_mapped g (done a s) f = refl
 finally_mapped g (bad e s) f = refl
+finally_mapped g (asks q s k) f = λ i. asks q s (λ got t. finally_mapped g (k got t) f i)
 
 pub walk_follows : {H K L : Type 0} (g : K → L) (v : Value) (x : Part H K) (x' : Part H L) → Follows g x x' → Follows g (walk v x) (walk v x')
 walk_follows g v x x' h = record {

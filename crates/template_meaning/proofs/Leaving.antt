@@ -1,10 +1,11 @@
 -- In a template whose control words stand where they may, none leaves a node.
-use Rattle.std.proofs.Common.{ℕ, List, [], ◌∷◌, Option, Some, None, Bool, true, false, if◌then◌else◌}
+use Rattle.std.proofs.Common.{ℕ, List, [], ◌∷◌, Option, Some, None, Result, Bool, true, false, if◌then◌else◌}
+use Rattle.ytt_base.specs.declared.fault.Fault.{Fault}
 use Rattle.ytt_base.specs.declared.fault.Place.{Place}
 use Rattle.code_spec.specs.Code.{Name, Expr, Parameters, Statement, evaluate, assign, augment, load, return, break, continue, pass}
 use Rattle.template_spec.specs.Template.{Item, node, code, if_block, for_block, def_block, Items, no_items, an_item, Branches, no_branch, else_branch, elif_branch}
 use Rattle.value_spec.specs.Values.{Value, Children, Env}
-use Rattle.value_spec.specs.Outcomes.{State, Ending, done, bad, then_do, Computation, ◌>>=◌, give, take_steps, paid, finally, on_store}
+use Rattle.value_spec.specs.Outcomes.{State, Reply, Ending, done, asks, bad, then_do, Computation, ◌>>=◌, give, take_steps, paid, finally, on_store}
 use Rattle.value_spec.specs.Store.{begin_loop, end_loop}
 use Rattle.star_spec.specs.Language.{Call, Language, new_function, execute, define, Word, breaks, continues, returns}
 use Rattle.value_spec.specs.Members.{walked_in}
@@ -17,6 +18,7 @@ use Rattle.template_spec.specs.ControlWords.{Around, free, in_loop, in_node, wit
 abbrev pub IfDone : {H A : Type 0} → (A → Type 0) → Ending H A → Type 0
 IfDone P (done a s) = P a
 IfDone P (bad e s) = Unit {0}
+IfDone {H = H} P (asks q s k) = (got : Result Reply Fault) (t : State H) → IfDone P (k got t)
 
 pub record OnDone {H A : Type 0} (P : A → Type 0) (r : Ending H A) : Type 0 where
   pub by : IfDone P r
@@ -24,10 +26,12 @@ pub record OnDone {H A : Type 0} (P : A → Type 0) (r : Ending H A) : Type 0 wh
 on_then : {H A B : Type 0} (P : A → Type 0) (Q : B → Type 0) (r : Ending H A) (k : A → Computation H B) → OnDone P r → ((a : A) (s : State H) → P a → OnDone Q (k a s)) → OnDone Q (then_do r k)
 on_then P Q (done a s) k h f = f a s h.by
 on_then P Q (bad e s) k h f = record { by = tt }
+on_then P Q (asks q s n) k h f = record { by = λ got t. (on_then P Q (n got t) k (record { by = h.by got t }) f).by }
 
 any_then : {H A B : Type 0} (Q : B → Type 0) (r : Ending H A) (k : A → Computation H B) → ((a : A) (s : State H) → OnDone Q (k a s)) → OnDone Q (then_do r k)
 any_then Q (done a s) k f = f a s
 any_then Q (bad e s) k f = record { by = tt }
+any_then Q (asks q s n) k f = record { by = λ got t. (any_then Q (n got t) k f).by }
 
 on_paid : {H A : Type 0} (P : A → Type 0) (p : Place) (m : Computation H A) (s : State H) → ((s : State H) → OnDone P (m s)) → OnDone P (paid p m s)
 on_paid P p m s h = any_then P (take_steps 1 p s) (λ u. m) (λ u s. h s)
@@ -35,6 +39,7 @@ on_paid P p m s h = any_then P (take_steps 1 p s) (λ u. m) (λ u s. h s)
 on_finally : {H A : Type 0} (P : A → Type 0) (r : Ending H A) (f : State H → State H) → OnDone P r → OnDone P (finally r f)
 on_finally P (done a s) f h = record { by = h.by }
 on_finally P (bad e s) f h = record { by = tt }
+on_finally P (asks q s n) f h = record { by = λ got t. (on_finally P (n got t) f (record { by = h.by got t })).by }
 
 -- the words that may leave
 abbrev pub WordFits : Around → Word → Type 0
@@ -55,6 +60,7 @@ OptFits w (Some x) = WordFits w x
 no_word : {H A : Type 0} (w : Around) (r : Ending H A) → OnDone (OptFits w) (then_do r (λ u. give None))
 no_word w (done a s) = record { by = tt }
 no_word w (bad e s) = record { by = tt }
+no_word w (asks q s n) = record { by = λ got t. (no_word w (n got t)).by }
 
 execute_fits : {H : Type 0} (language : Language H) (call : Call H) (w : Around) (x : Statement) (env : Env) (s : State H) → MayStand w x → OnDone (OptFits w) (execute language call x env s)
 execute_fits language call w (evaluate p e) env s h = on_paid (OptFits w) p _ s (λ s. no_word w (language.eval call e env s))

@@ -7,7 +7,7 @@ use Rattle.code_spec.specs.Program.{ItemKind, Holds, holds_one, holds_map, holds
 use Rattle.template_spec.specs.Template.{Notes, no_notes, note, Key, no_key, written_key, key_from, Item, node, code, if_block, for_block, def_block, Items, no_items, an_item, Branches, no_branch, else_branch, elif_branch, Content, written_value, value_from, pairs, elements, is_void}
 use Rattle.template_spec.specs.Compiled.{holds_of}
 use Rattle.value_spec.specs.Values.{Value, Arguments, Children, no_children, BuiltNotes, no_built, a_built, one, map_of, list_of, Taken, taken, Env}
-use Rattle.value_spec.specs.Outcomes.{State, Ending, done, bad, then_do, Computation, ◌>>=◌, give}
+use Rattle.value_spec.specs.Outcomes.{State, Ending, done, asks, bad, then_do, Computation, ◌>>=◌, give}
 use Rattle.star_spec.specs.Language.{Call, Language, execute, define}
 use Rattle.star_spec.specs.Flow.{Flow, on, out, Part, go_on, plain, test_of}
 use Rattle.template_meaning.specs.Build.{collected, notes_meaning, build, builds, choose, content, key_meaning, built}
@@ -46,14 +46,17 @@ one_note : {H : Type 0} (r : Ending H Arguments) (g : Arguments → List Node) (
     ((vs : Arguments) (s : State H) → b (g vs) s ≡ then_do (h s) (λ ms. q (and_notes ns (a_built x vs ms)))) →
     then_do (then_do r (λ vs. give (on (g vs)))) (go_on b) ≡ then_do (then_do r (λ vs. h >>= λ ms. give (a_built x vs ms))) (λ ms. q (and_notes ns ms))
 one_note (bad e s) g b x ns h q f = refl
+one_note (asks w s k) g b x ns h q f = λ i. asks w s (λ got t. one_note (k got t) g b x ns h q f i)
 one_note (done vs s) g b x ns h q f = f vs s ∙ sym (then_assoc (h s) (λ ms. give (a_built x vs ms)) (λ ms. q (and_notes ns ms)))
 
 from_key : {H : Type 0} (r : Ending H Value) (f : Value → Computation H (Option Scalar)) (g : Option Scalar → List Node) (b : Part H (List Node)) → then_do (then_do r (λ v. f v >>= λ k. give (on (g k)))) (go_on b) ≡ then_do (then_do r f) (λ k. b (g k))
 from_key (bad e s) f g b = refl
+from_key (asks q s k) f g b = λ i. asks q s (λ got t. from_key (k got t) f g b i)
 from_key (done v s) f g b = then_assoc (f v s) _ _
 
 from_value : {H : Type 0} (r : Ending H Value) (f : Value → Computation H Taken) (g : Taken → List Node) (b : Part H (List Node)) (c : Taken → Computation H (Flow (List Node))) → ((x : Taken) (s : State H) → b (g x) s ≡ c x s) → then_do (then_do r (λ v. f v >>= λ x. give (on (g x)))) (go_on b) ≡ then_do (then_do r f) c
 from_value (bad e s) f g b c h = refl
+from_value (asks q s k) f g b c h = λ i. asks q s (λ got t. from_value (k got t) f g b c h i)
 from_value (done v s) f g b c h = then_assoc (f v s) _ _ ∙ then_ext (f v s) _ _ h
 
 -- a key, a value and what is done with both, and then the rest
@@ -81,17 +84,20 @@ module _ {H : Type 0} (language : Language H) where
   no_more call env top below (done (on k) s) = refl
   no_more call env top below (done (out w k) s) = refl
   no_more call env top below (bad e s) = refl
+  no_more call env top below (asks q s k) = λ i. asks q s (λ got t. no_more call env top below (k got t) i)
 
   -- one part, and then the rest
   one_more : (call : Call H) (os : Ops) (env : Env) (top : Node) (below : List Node) (r : Ending H (Flow Children)) → then_do (mapped (onto top below) r) (go_on (runs language call os env)) ≡ after call os env top below r
   one_more call os env top below (done f s) = refl
   one_more call os env top below (bad e s) = refl
+  one_more call os env top below (asks q s k) = λ i. asks q s (λ got t. one_more call os env top below (k got t) i)
 
   -- two parts, one after the other
   two_parts : (call : Call H) (os : Ops) (env : Env) (top : Node) (below : List Node) (r : Ending H (Flow Children)) (a : Part H Children) (b : Part H (List Node)) → ((k : Children) (s : State H) → b (onto top below k) s ≡ after call os env top below (a k s)) → then_do r (λ f. go_on b (flow_map (onto top below) f)) ≡ after call os env top below (then_do r (go_on a))
   two_parts call os env top below (done (on k) s) a b h = h k s
   two_parts call os env top below (done (out w k) s) a b h = refl
   two_parts call os env top below (bad e s) a b h = refl
+  two_parts call os env top below (asks q s k) a b h = λ i. asks q s (λ got t. two_parts call os env top below (k got t) a b h i)
 
   -- the end of a node: what it gives goes to the node below
   abbrev ends : Call H → Ops → Env → Node → List Node → Place → BuiltNotes → Option Scalar → Taken → Computation H (Flow (List Node))
@@ -117,6 +123,7 @@ module _ {H : Type 0} (language : Language H) where
   from_children : (call : Call H) (q : Place) (os : Ops) (env : Env) (n top : Node) (below : List Node) (mk : Children → Taken) (r : Ending H (Flow Children)) → ((k : Children) → closed_with n.holds n.value k ≡ mk k) → OnDone (Fits in_node) r →
       after call (an_op (op_part (node_end q)) os) env n (top ∷ below) r ≡ then_do (then_do r (λ f. give (mk (built f)))) (λ got. ends call os env top below n.place n.notes n.key got)
   from_children call q os env n top below mk (bad e s) h ok = refl
+  from_children call q os env n top below mk (asks w s k) h ok = λ i. asks w s (λ got t. from_children call q os env n top below mk (k got t) h (record { by = ok.by got t }) i)
   from_children call q os env n top below mk (done (on k) s) h ok = end_runs call q os env (record n { children = k }) top below s ∙ (λ i. ends call os env top below n.place n.notes n.key (h k i) s)
   from_children call q os env n top below mk (done (out w k) s) h ok = absurd ok.by
 

@@ -3,7 +3,7 @@ use Rattle.std.proofs.Common.{◌≡◌, ℕ, zero, suc, List, [], ◌∷◌, Op
 use Rattle.ytt_base.specs.declared.fault.Place.{Place}
 use Rattle.code_spec.specs.Program.{Instruction}
 use Rattle.value_spec.specs.Values.{Value, Arguments, Children, no_children, Env}
-use Rattle.value_spec.specs.Outcomes.{State, Ending, done, bad, then_do, ◌>>=◌, give, or_ill_formed}
+use Rattle.value_spec.specs.Outcomes.{State, Ending, done, asks, bad, then_do, ◌>>=◌, give, or_ill_formed}
 use Rattle.star_spec.specs.Language.{Call, Language}
 use Rattle.star_spec.specs.Names.{with_boxes}
 use Rattle.star_spec.specs.Flow.{Flow, on, out}
@@ -32,6 +32,7 @@ at_bottom : {H B : Type 0} (n : ℕ) (h : Flow Children → B) (r : Ending H (Fl
 at_bottom n h (done (on k) s) = refl
 at_bottom n h (done (out w k) s) = refl
 at_bottom n h (bad e s) = refl
+at_bottom n h (asks q s k) = λ i. asks q s (λ got t. at_bottom n h (k got t) i)
 
 module _ {H : Type 0} (language : Language H) where
   block_agrees : {B : Type 0} (call : Call H) (n : ℕ) (h : Flow Children → B) (t : Items) (env : Env) (s : State H) → WordsStand free t →

@@ -5,7 +5,7 @@ use Rattle.std.specs.Fmt.{digit_glyph, digits, digits_onto}
 use Rattle.std.specs.List.{after_first, before_first, position_or_len}
 use Rattle.ytt_base.specs.declared.fault.FaultKind.TheVariants as kind
 use Rattle.ytt_base.specs.declared.fault.Place.{Place}
-use Rattle.value_spec.specs.Outcomes.{Computation, Ending, State, bad, done, fail, give, then_do, ◌>>=◌}
+use Rattle.value_spec.specs.Outcomes.{Computation, Ending, State, asks, bad, done, fail, give, then_do, ◌>>=◌}
 use Rattle.value_spec.specs.Values.{Value, Values, Fields}
 use Rattle.text_spec.specs.Fields.{Met, begins, cut_at, formatted, onto_first, opened}
 use Rattle.text_spec.specs.Percent.{at_end, by_conversion, conversion_of, filled, text_before}
@@ -50,6 +50,7 @@ onto made m = m >>= λ t. give (made ++ t)
 ended_twice : {H : Type 0} (a b : List ℕ) (e : Ending H (List ℕ)) → then_do (then_do e (λ t. give (b ++ t))) (λ t. give (a ++ t)) ≡ then_do e (λ t. give ((a ++ b) ++ t))
 ended_twice a b (done t s) = ap (λ x. done x s) (sym (append_assoc a b t))
 ended_twice a b (bad f s) = refl
+ended_twice a b (asks q s k) = λ i. asks q s (λ got t. ended_twice a b (k got t) i)
 
 pub onto_before : {H : Type 0} (a b : List ℕ) (m : Texts H) (s : State H) → onto a (text_before b m) s ≡ onto (a ++ b) m s
 onto_before a b m s = ended_twice a b (m s)

@@ -1,12 +1,13 @@
--- What a computation gives: a value or a fault, each with the state that it leaves; and the steps that it takes. The
--- host's own state is a parameter.
-use Rattle.std.specs.Prelude.{ℕ, ◌-◌, nat_le, Bool, true, false, List, [], length, Option, Some, None}
+-- What a computation gives: a value or a fault, each with the state that it leaves, or a question to the host; and the steps
+-- that it takes. The host's own state is a parameter.
+use Rattle.std.specs.Prelude.{ℕ, ◌-◌, nat_le, Bool, true, false, List, [], length, Option, Some, None, Result}
 use Rattle.ytt_base.specs.declared.fault.Fault.{Fault}
 use Rattle.ytt_base.specs.declared.fault.FaultKind.{FaultKind}
 use Rattle.ytt_base.specs.declared.fault.FaultKind.TheVariants as kind
 use Rattle.ytt_base.specs.declared.fault.Place.{Place}
 use Rattle.ytt_base.specs.Outcomes.{fault_of}
-use Rattle.value_spec.specs.Values.{Value, list_value, dict_value, Store, Contents, of_list, of_dict}
+use Rattle.code_spec.specs.Code.{Name}
+use Rattle.value_spec.specs.Values.{Value, Values, Arguments, list_value, dict_value, Store, Contents, of_list, of_dict}
 use Rattle.value_spec.specs.Store.{Refusal, frozen, iterating, index_range, key_missing, Answer, did, refused, Act, with_object}
 
 -- the objects; the steps that are left; and the host's own state
@@ -15,10 +16,22 @@ pub record State (H : Type 0) : Type 0 where
   pub steps : ℕ
   pub host : H
 
--- how a computation ends
+-- what a host is asked: a native of it is called, or what it asked for has come to a value or a fault
+pub data Question : Type 0 where
+  called : Place → Name → (held : Values) → Arguments → Question
+  resumed : Place → Name → (held : Values) → (tag : ℕ) → Result Value Fault → Question
+
+-- what a native answers: a value, or a call that it asks for
+pub data Reply : Type 0 where
+  answer : Value → Reply
+  call_then : (function : Value) → Arguments → (tag : ℕ) → Reply
+
+-- how a computation ends: with a value, with a fault, or where the host is asked, with what comes of each reply or fault of it and
+-- of the state that it leaves
 pub data Ending (H A : Type 0) : Type 0 where
   done : A → State H → Ending H A
   bad : Fault → State H → Ending H A
+  asks : Question → State H → (Result Reply Fault → State H → Ending H A) → Ending H A
 
 infixl 4 ◌>>=◌
 abbrev pub Computation : Type 0 → Type 0 → Type 0
@@ -27,6 +40,7 @@ Computation H A = State H → Ending H A
 abbrev pub then_do : {H A B : Type 0} → Ending H A → (A → Computation H B) → Ending H B
 then_do (done a s) f = f a s
 then_do (bad e s) f = bad e s
+then_do (asks q s k) f = asks q s (λ got t. then_do (k got t) f)
 
 -- one computation, and then what follows from its value; the first fault is the end
 abbrev pub ◌>>=◌ : {H A B : Type 0} → Computation H A → (A → Computation H B) → Computation H B
@@ -86,6 +100,7 @@ paid p m = paid_by 1 p m
 abbrev pub finally : {H A : Type 0} → Ending H A → (State H → State H) → Ending H A
 finally (done a s) f = done a (f s)
 finally (bad e s) f = bad e (f s)
+finally (asks q s k) f = asks q s (λ got t. finally (k got t) f)
 
 abbrev pub on_store : {H : Type 0} → (Store → Store) → State H → State H
 on_store f s = record s { store = f s.store }
@@ -117,16 +132,3 @@ new_list vs = new_object (of_list vs) >>= λ r. give (list_value r)
 
 abbrev pub new_dict : {H : Type 0} → List (Value × Value) → Computation H Value
 new_dict ps = new_object (of_dict ps) >>= λ r. give (dict_value r)
-
--- ---- what needs no host
-
-abbrev pub without_host : {H : Type 0} → State H → State (Unit {0})
-without_host s = record { store = s.store; steps = s.steps; host = tt }
-
-abbrev pub with_host : {H A : Type 0} → H → Ending (Unit {0}) A → Ending H A
-with_host h (done a s) = done a (record { store = s.store; steps = s.steps; host = h })
-with_host h (bad e s) = bad e (record { store = s.store; steps = s.steps; host = h })
-
--- a computation that no host takes part in, in a state that has one
-abbrev pub hosted : {H A : Type 0} → Computation (Unit {0}) A → Computation H A
-hosted m = λ s. with_host s.host (m (without_host s))

@@ -14,7 +14,7 @@ use Rattle.template_meaning.specs.Take.{tree_of_value}
 use Rattle.value_spec.specs.Store.{pairs_at}
 use Rattle.ytt_laws.proofs.Lists.{dropped}
 use Rattle.node_build.proofs.Forms.{dict_form, list_form, struct_form, tuple_form}
-use Rattle.node_build.proofs.Taking.{drop_get, left_members, left_pairs, member_form, members_all, members_next, members_stop, meets_then, pair_done, pair_key_stop, pair_tree_stop, pairs_done, pairs_next, pairs_stop}
+use Rattle.node_build.proofs.Taking.{drop_get, left_members, left_pairs, member_form, members_all, members_begin, members_next, members_stop, meets_then, pair_done, pair_key_stop, pair_tree_stop, pairs_begin, pairs_done, pairs_next, pairs_stop}
 use Rattle.node_build.specs.Taking.{field_pair, field_pairs}
 use Rattle.node_build.proofs.take.+taken.Goals as goal
 
@@ -79,6 +79,9 @@ member_trees-returns-in_err-tree t c =
     members_stop c.args.levels c.args.place _ c.loop-member.trees _ _ (state_in a c.loop-member.steps) (left_members c.args.levels c.args.place _ _ _ _ _ left c.loop-member.invariant)
     c.in_err-tree.field-0.0 (state_in a c.member_tree.new.steps) c.from_residual.result c.in_err-tree.ensures stopped
 
+pub member_trees-loop-member-init : goal.member_trees-loop-member-init
+member_trees-loop-member-init t c = members_begin c.args.levels c.args.place _ (values_of (seen c.args.arena.now) c.args.members.now) (state_in (seen c.args.arena.now) c.args.steps.now) c.new-trees.ensures
+
 pub member_trees-loop-member-preserved : goal.member_trees-loop-member-preserved
 member_trees-loop-member-preserved t c =
     let a = seen c.args.arena.now in
@@ -119,6 +122,9 @@ dict_pairs-returns-in_err-pair t c =
     let left = drop_get (pairs_at c.args.dict.at a.store) c.loop-i.i _ c.pair_at.ensures.pair in
     pairs_stop c.args.levels c.args.place _ c.loop-i.pairs _ _ (state_in a c.loop-i.steps) (left_pairs c.args.levels c.args.place _ _ _ _ _ left c.loop-i.invariant)
     c.in_err-pair.field-0.0 (state_in a c.dict_pair.new.steps) c.from_residual.result c.in_err-pair.ensures stopped
+
+pub dict_pairs-loop-i-init : goal.dict_pairs-loop-i-init
+dict_pairs-loop-i-init t c = pairs_begin c.args.levels c.args.place _ (pairs_at c.args.dict.at (seen c.args.arena.now).store) (state_in (seen c.args.arena.now) c.args.steps.now) c.new-pairs.ensures
 
 pub dict_pairs-loop-i-preserved : goal.dict_pairs-loop-i-preserved
 dict_pairs-loop-i-preserved t c =
@@ -161,6 +167,9 @@ struct_pairs-returns-in_err-pair t c =
     let left = ap (field_pairs a.held) (dropped c.args.fields.now c.loop-field.field-index c.field-item.result c.loop-field-test.true c.field-item.is) in
     pairs_stop c.args.levels c.args.place _ c.loop-field.pairs _ _ (state_in a c.loop-field.steps) (left_pairs c.args.levels c.args.place _ _ _ _ _ left c.loop-field.invariant)
     c.in_err-pair.field-0.0 (state_in a c.struct_pair.new.steps) c.from_residual.result c.in_err-pair.ensures stopped
+
+pub struct_pairs-loop-field-init : goal.struct_pairs-loop-field-init
+struct_pairs-loop-field-init t c = pairs_begin c.args.levels c.args.place _ (field_pairs (seen c.args.arena.now).held c.args.fields.now) (state_in (seen c.args.arena.now) c.args.steps.now) c.new-pairs.ensures
 
 pub struct_pairs-loop-field-preserved : goal.struct_pairs-loop-field-preserved
 struct_pairs-loop-field-preserved t c =

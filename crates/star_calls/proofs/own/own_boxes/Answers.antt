@@ -1,12 +1,25 @@
-use Rattle.std.proofs.Common.{ap, length, subst, sym, [], ◌++◌, ◌∙◌, ◌∷◌}
+use Rattle.std.proofs.Common.{ℕ, ap, length, subst, sym, [], ◌++◌, ◌∙◌, ◌∷◌}
 use Rattle.std.proofs.lemmas.List.{nil_from_length}
 use Rattle.code_spec.specs.Allowed.{parameter_names}
-use Rattle.object_arena.specs.Names.{OwnsAll, env_in, seen, value_of, values_of}
+use Rattle.object_arena.specs.Names.{OwnsAll, OwnsEnv, env_in, seen, value_of, values_of}
 use Rattle.star_steps.specs.Meets.{state_in}
 use Rattle.star_tree.specs.Whole.{parameters_of}
-use Rattle.star_values.proofs.Growing.{grows_then, owns_all_kept, values_kept}
-use Rattle.star_calls.proofs.Called.{box_next, names_end, values_end, state_boxed}
+use Rattle.star_spec.specs.Binding.{boxes_for}
+use Rattle.value_spec.specs.Outcomes.{give, then_do}
+use Rattle.star_values.proofs.Growing.{grows_same, grows_then, owns_all_kept, values_kept}
+use Rattle.star_calls.proofs.Called.{box_next, names_end, none_boxed, values_end, state_boxed}
 use Rattle.star_calls.proofs.own.own_boxes.Goals as goal
+
+pub loop-value-init : goal.loop-value-init
+loop-value-init c =
+    let a = seen c.args.arena.now in
+    let boxes = λ (file n : ℕ). boxes_for (parameter_names (parameters_of file c.args.params.now)) (values_of a c.args.values.now) (state_in a n) in
+    record {
+      same = λ file n. none_boxed (boxes file n) ∙ (λ i. then_do (boxes file n) (λ more. give (env_in a.held (sym c.new-made.ensures i) ++ more)));
+      made = subst (OwnsEnv a) (sym c.new-made.ensures) tt;
+      rest = c.requires;
+      grows = grows_same a;
+    }
 
 pub loop-value-preserved : goal.loop-value-preserved
 loop-value-preserved c =

@@ -1,6 +1,6 @@
 use Rattle.star_steps.proofs.Names.{subst, give, value_of_scalar, key_of, seen, Owns, OwnsPair, value_of, OwnsAll, values_of}
 use Rattle.star_fragments.specs.Fresh.{Builds, OwnsPairs, each_made, pair_made, pair_of, pairs_of, value_made}
-use Rattle.star_fragments.proofs.Making.{dict_built, keeps_pair, keeps_value, list_built, made_next, pair_built}
+use Rattle.star_fragments.proofs.Making.{dict_built, keeps_pair, keeps_value, list_built, made_next, none_made, pair_built}
 use Rattle.star_fragments.proofs.fresh.+fresh.Goals as goal
 
 pub fresh_pair-returns : goal.fresh_pair-returns
@@ -34,3 +34,9 @@ fresh_value-returns-in_ok-pairs-in-Map t c =
     dict_built c.args.tree.now c.in-Map.entries c.in_ok-pairs-in-Map.pairs c.dict_of.result (seen c.args.arena.now) (seen c.fresh_pairs.new.arena) (seen c.dict_of.new.arena) c.in-Map.is
     (subst (λ r. Builds pairs_of OwnsPairs (each_made pair_made c.in-Map.entries) r (seen c.args.arena.now) (seen c.fresh_pairs.new.arena)) c.in_ok-pairs-in-Map.was c.fresh_pairs.ensures)
     (rw c.as_slice-in-Map.ensures at c.dict_of.ensures)
+
+pub fresh_values-loop-tree-init : goal.fresh_values-loop-tree-init
+fresh_values-loop-tree-init t c = none_made value_of Owns value_made c.args.trees.now _ (seen c.args.arena.now) c.new-values.ensures
+
+pub fresh_pairs-loop-key-init : goal.fresh_pairs-loop-key-init
+fresh_pairs-loop-key-init t c = none_made pair_of OwnsPair pair_made c.args.entries.now _ (seen c.args.arena.now) c.new-pairs.ensures

@@ -1,5 +1,5 @@
 use Rattle.star_steps.proofs.Names.{◌≡◌, ◌+◌, ◌<◌, ◌++◌, ◌∙◌}
-use Rattle.star_index.proofs.Names.{BytesSoFar, ap, bytes_done, bytes_next, bytes_refused, done, drop, false, is_whole, place_count, places_in, rules, seen, state_in, string_bytes, subst, sym, take, true}
+use Rattle.star_index.proofs.Names.{BytesSoFar, ap, bytes_begin, bytes_done, bytes_next, bytes_refused, done, drop, false, is_whole, place_count, places_in, rules, seen, state_in, string_bytes, subst, sym, take, true}
 use Rattle.star_index.proofs.texts.picked_bytes.Goals as goal
 
 pub returns-in-None : goal.returns-in-None
@@ -25,3 +25,6 @@ returns c n =
     let all : c.loop-number.number ≡ place_count (places_in q) = search rules in
     bytes_done c.args.text.now (string_bytes c.loop-number.bytes) (place_count (places_in q)) q.first q.step (subst (BytesSoFar c.args.text.now (place_count (places_in q)) q.first q.step (string_bytes c.loop-number.bytes)) all c.loop-number.invariant) c.args.place (state_in (seen c.args.arena.now) n)
     ∙ ap (λ l. done l (state_in (seen c.args.arena.now) n)) (sym c.of_string.ensures)
+
+pub loop-number-init : goal.loop-number-init
+loop-number-init c = bytes_begin c.args.text.now _ (place_count (places_in c.args.places.now)) c.args.places.now.first c.args.places.now.step c.new-bytes.ensures.bytes
