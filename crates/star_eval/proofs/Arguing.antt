@@ -10,9 +10,9 @@ use Rattle.star_values.specs.Owns.{Owns, OwnsAll, OwnsArguments, OwnsFields, fie
 use Rattle.star_values.specs.View.{View}
 use Rattle.star_values.specs.declared.value.BuiltNote.{BuiltNote}
 use Rattle.star_values.specs.declared.value.NamedValue.{NamedValue}
-use Rattle.value_spec.specs.Outcomes.{Computation, Ending, bad, done, give, then_do, ◌>>=◌}
+use Rattle.value_spec.specs.Outcomes.{Computation, Ending, asks, bad, done, give, then_do, ◌>>=◌}
 use Rattle.value_spec.specs.Values.{Value, Arguments, arguments, no_values, a_value, no_fields, a_field, values_from}
-use Rattle.star_eval.specs.Doing.{Setting, argument_form, argument_then, argument_value, arguments_then, evaluated}
+use Rattle.star_eval.specs.Doing.{Setting, all_calls, argument_form, argument_then, argument_value, arguments_then, evaluated}
 use Rattle.star_eval.specs.Meets.{Here}
 use Rattle.star_eval.proofs.Chaining.{chained}
 
@@ -20,6 +20,7 @@ use Rattle.star_eval.proofs.Chaining.{chained}
 given_once : {X Y Z A : Type 0} (r : Ending Here X) (g : X → Y) (h : Y → Z) (f : Z → Computation Here A) → then_do (then_do (then_do r (λ x. give (g x))) (λ y. give (h y))) f ≡ then_do r (λ x. f (h (g x)))
 given_once (done x s) g h f = refl
 given_once (bad e s) g h f = refl
+given_once (asks q s k) g h f = λ i. asks q s (λ got t. given_once (k got t) g h f i)
 
 module _ {A : Type 0} (c : Setting) (before : Arguments) (f : Arguments → Computation Here A) where
   -- nothing stands behind
@@ -28,24 +29,24 @@ module _ {A : Type 0} (c : Setting) (before : Arguments) (f : Arguments → Comp
 
   -- what is worked out first is put before the rest
   put_first : {X : Type 0} (m : Computation Here X) (g : X → Arguments → Arguments) (mine : X → Arguments) (es : plain.Exprs) → ((x : X) (rest : Arguments) → g x rest ≡ both (mine x) rest) →
-      ((m >>= λ x. eval_arguments c.call es c.env >>= λ rest. give (g x rest)) >>= λ rest. f (both before rest)) ≡ (m >>= λ x. arguments_then c es (both before (mine x)) f)
+      ((m >>= λ x. eval_arguments (all_calls c) es c.env >>= λ rest. give (g x rest)) >>= λ rest. f (both before rest)) ≡ (m >>= λ x. arguments_then c es (both before (mine x)) f)
   put_first m g mine es h =
-      chained m (λ x. eval_arguments c.call es c.env >>= λ rest. give (g x rest)) (λ rest. f (both before rest))
-      ∙ (λ i. m >>= λ x. chained (eval_arguments c.call es c.env) (λ rest. give (g x rest)) (λ rest. f (both before rest)) i)
-      ∙ (λ i. m >>= λ x. eval_arguments c.call es c.env >>= λ rest. (ap (λ all. f (both before all)) (h x rest) ∙ ap f (sym (both_in_a_row before (mine x) rest))) i)
+      chained m (λ x. eval_arguments (all_calls c) es c.env >>= λ rest. give (g x rest)) (λ rest. f (both before rest))
+      ∙ (λ i. m >>= λ x. chained (eval_arguments (all_calls c) es c.env) (λ rest. give (g x rest)) (λ rest. f (both before rest)) i)
+      ∙ (λ i. m >>= λ x. eval_arguments (all_calls c) es c.env >>= λ rest. (ap (λ all. f (both before all)) (h x rest) ∙ ap f (sym (both_in_a_row before (mine x) rest))) i)
 
   positional_first : (e : plain.Expr) (es : plain.Exprs) →
-      ((evaluated c e >>= λ v. eval_arguments c.call es c.env >>= λ rest. give (with_values (v ∷ []) rest)) >>= λ rest. f (both before rest)) ≡ (evaluated c e >>= argument_then c positional es before f)
+      ((evaluated c e >>= λ v. eval_arguments (all_calls c) es c.env >>= λ rest. give (with_values (v ∷ []) rest)) >>= λ rest. f (both before rest)) ≡ (evaluated c e >>= argument_then c positional es before f)
   positional_first e es = put_first (evaluated c e) (λ v. with_values (v ∷ [])) (λ v. arguments (a_value v no_values) no_fields) es (λ v. with_values_both (v ∷ []))
 
   star_first : (p : Place) (es : plain.Exprs) (v : Value) →
-      ((members_of p v >>= λ vs. eval_arguments c.call es c.env >>= λ rest. give (with_values vs rest)) >>= λ rest. f (both before rest)) ≡ argument_then c (star p) es before f v
+      ((members_of p v >>= λ vs. eval_arguments (all_calls c) es c.env >>= λ rest. give (with_values vs rest)) >>= λ rest. f (both before rest)) ≡ argument_then c (star p) es before f v
   star_first p es v =
       put_first (members_of p v) with_values (λ vs. arguments (values_from vs) no_fields) es with_values_both
       ∙ (λ i s. sym (given_once (members_of p v s) (λ vs. arguments (values_from vs) no_fields) (both before) (λ more. arguments_then c es more f)) i)
 
   stars_first : (p : Place) (es : plain.Exprs) (v : Value) →
-      ((spread_fields p v >>= λ fs. eval_arguments c.call es c.env >>= λ rest. give (with_fields fs rest)) >>= λ rest. f (both before rest)) ≡ argument_then c (two_stars p) es before f v
+      ((spread_fields p v >>= λ fs. eval_arguments (all_calls c) es c.env >>= λ rest. give (with_fields fs rest)) >>= λ rest. f (both before rest)) ≡ argument_then c (two_stars p) es before f v
   stars_first p es v =
       put_first (spread_fields p v) with_fields (λ fs. arguments no_values fs) es with_fields_both
       ∙ (λ i s. sym (given_once (spread_fields p v s) (λ fs. arguments no_values fs) (both before) (λ more. arguments_then c es more f)) i)
@@ -55,9 +56,9 @@ module _ {A : Type 0} (c : Setting) (before : Arguments) (f : Arguments → Comp
   argument_first (plain.named p x e) es =
       put_first (evaluated c e) (λ v. with_fields (a_field x v no_fields)) (λ v. arguments no_values (a_field x v no_fields)) es (λ v. with_fields_both (a_field x v no_fields))
   argument_first (plain.starred p e) es =
-      chained (evaluated c e) (λ v. members_of p v >>= λ vs. eval_arguments c.call es c.env >>= λ rest. give (with_values vs rest)) (λ rest. f (both before rest)) ∙ (λ i. evaluated c e >>= λ v. star_first p es v i)
+      chained (evaluated c e) (λ v. members_of p v >>= λ vs. eval_arguments (all_calls c) es c.env >>= λ rest. give (with_values vs rest)) (λ rest. f (both before rest)) ∙ (λ i. evaluated c e >>= λ v. star_first p es v i)
   argument_first (plain.double_starred p e) es =
-      chained (evaluated c e) (λ v. spread_fields p v >>= λ fs. eval_arguments c.call es c.env >>= λ rest. give (with_fields fs rest)) (λ rest. f (both before rest)) ∙ (λ i. evaluated c e >>= λ v. stars_first p es v i)
+      chained (evaluated c e) (λ v. spread_fields p v >>= λ fs. eval_arguments (all_calls c) es c.env >>= λ rest. give (with_fields fs rest)) (λ rest. f (both before rest)) ∙ (λ i. evaluated c e >>= λ v. stars_first p es v i)
   argument_first e es = positional_first e es
 
 -- ---- notes

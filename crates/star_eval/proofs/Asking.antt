@@ -17,7 +17,7 @@ use Rattle.star_sorting.specs.declared.wanted.Wanted.{Wanted}
 use Rattle.star_spec.specs.Calls.{keys_by}
 use Rattle.star_values.specs.View.{View, value_in, value_of, values_of}
 use Rattle.star_values.specs.declared.value.Value.{Value}
-use Rattle.value_spec.specs.Outcomes.{Computation, Ending, State, bad, done, give, then_do, ◌>>=◌}
+use Rattle.value_spec.specs.Outcomes.{Computation, Ending, State, asks, bad, done, give, then_do, ◌>>=◌}
 use Rattle.value_spec.specs.Values as plain
 use Rattle.value_spec.specs.Values.{one_value}
 use Rattle.star_eval.specs.declared.frame.Control.TheVariants as control
@@ -26,6 +26,7 @@ use Rattle.star_eval.specs.declared.frame.Frame.TheVariants as frame
 use Rattle.star_eval.specs.declared.frame.InValue.{InValue}
 use Rattle.star_eval.specs.declared.frame.Machine.{Machine}
 use Rattle.star_eval.specs.declared.session.Session.{Session}
+use Rattle.star_eval.specs.Calling.{calls_from}
 use Rattle.star_eval.specs.Doing.{Setting, keys_then}
 use Rattle.star_eval.specs.Frames.{Goes, around_value}
 use Rattle.star_eval.specs.Meets.{Here, arena_of, state_of}
@@ -36,26 +37,28 @@ use Rattle.star_eval.proofs.Growing.{Kept, kept}
 
 -- ---- one key after another
 
-module _ (c : Setting) (p : Place) (w : spec.Wanted) (f : plain.Value) (vs ks : List plain.Value) where
-  pub none_wanting : (s : State Here) → slice_get vs (length ks) ≡ None → keys_then c p w f vs ks s ≡ wanted_row p w vs ks s
+module _ (c : Setting) (left : ℕ) (p : Place) (w : spec.Wanted) (f : plain.Value) (vs ks : List plain.Value) where
+  pub none_wanting : (s : State Here) → slice_get vs (length ks) ≡ None → keys_then c left p w f vs ks s ≡ wanted_row p w vs ks s
   none_wanting s h =
-      ap (λ l. then_do (keys_by c.call p f l s) (λ more. wanted_row p w vs (ks ++ more))) (none_left vs (length ks) h)
+      ap (λ l. then_do (keys_by (calls_from c.function left) p f l s) (λ more. wanted_row p w vs (ks ++ more))) (none_left vs (length ks) h)
       ∙ ap (λ l. wanted_row p w vs l s) (append-nil ks)
 
   with_first : (k : plain.Value) (e : Ending Here (List plain.Value)) → then_do (then_do e (λ more. give (k ∷ more))) (λ more. wanted_row p w vs (ks ++ more)) ≡ then_do e (λ more. wanted_row p w vs ((ks ++ k ∷ []) ++ more))
   with_first k (done more t) = ap (λ l. wanted_row p w vs l t) (sym (append_assoc ks (k ∷ []) more))
   with_first k (bad d t) = refl
+  with_first k (asks q t n) = λ i. asks q t (λ got u. with_first k (n got u) i)
 
-  after_first : (e : Ending Here plain.Value) → then_do (then_do e (λ k. keys_by c.call p f (drop (length ks + 1) vs) >>= λ more. give (k ∷ more))) (λ more. wanted_row p w vs (ks ++ more)) ≡ then_do e (value_goes c (next_key p w f vs ks))
+  after_first : (e : Ending Here plain.Value) → then_do (then_do e (λ k. keys_by (calls_from c.function left) p f (drop (length ks + 1) vs) >>= λ more. give (k ∷ more))) (λ more. wanted_row p w vs (ks ++ more)) ≡ then_do e (value_goes c (next_key left p w f vs ks))
   after_first (done k t) =
-      with_first k (keys_by c.call p f (drop (length ks + 1) vs) t)
-      ∙ ap (λ n. then_do (keys_by c.call p f (drop n vs) t) (λ more. wanted_row p w vs ((ks ++ k ∷ []) ++ more))) (sym (length-append ks (k ∷ [])))
+      with_first k (keys_by (calls_from c.function left) p f (drop (length ks + 1) vs) t)
+      ∙ ap (λ n. then_do (keys_by (calls_from c.function left) p f (drop n vs) t) (λ more. wanted_row p w vs ((ks ++ k ∷ []) ++ more))) (sym (length-append ks (k ∷ [])))
   after_first (bad d t) = refl
+  after_first (asks q t n) = λ i. asks q t (λ got u. after_first (n got u) i)
 
-  pub first_wanting : (v : plain.Value) (s : State Here) → slice_get vs (length ks) ≡ Some v → keys_then c p w f vs ks s ≡ then_do (c.call p f (one_value v) s) (value_goes c (next_key p w f vs ks))
+  pub first_wanting : (v : plain.Value) (s : State Here) → slice_get vs (length ks) ≡ Some v → keys_then c left p w f vs ks s ≡ then_do (calls_from c.function left p f (one_value v) s) (value_goes c (next_key left p w f vs ks))
   first_wanting v s h =
-      ap (λ l. then_do (keys_by c.call p f l s) (λ more. wanted_row p w vs (ks ++ more))) (split_at vs (length ks) (length ks + 1) v h refl)
-      ∙ after_first (c.call p f (one_value v) s)
+      ap (λ l. then_do (keys_by (calls_from c.function left) p f l s) (λ more. wanted_row p w vs (ks ++ more))) (split_at vs (length ks) (length ks + 1) v h refl)
+      ∙ after_first (calls_from c.function left p f (one_value v) s)
 
 -- the member at the place behind these keys
 pub at_next : (a : View) (vs ks : List Value) (i : ℕ) → i ≡ length ks → slice_get (values_of a vs) (length (values_of a ks)) ≡ option_map (value_in a.held) (slice_get vs i)

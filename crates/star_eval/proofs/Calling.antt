@@ -17,7 +17,7 @@ use Rattle.star_functions.specs.View.{code_of}
 use Rattle.star_functions.specs.declared.function.FunctionCode.{FunctionCode}
 use Rattle.star_functions.specs.declared.functions.Functions.{Functions}
 use Rattle.star_spec.specs.Binding.{scope_of_call}
-use Rattle.star_spec.specs.Calls.{Code, apply, call_by_kind, call_with_natives, enter_code, function_call, keys_by, native_call, no_keys, no_natives, names_of, parameters_of, too_deep, with_keys}
+use Rattle.star_spec.specs.Calls.{Code, asking, call_by_kind, enter_code, keys_by, native_call, no_keys, names_of, parameters_of, with_keys}
 use Rattle.star_spec.specs.Eval.{starlark}
 use Rattle.star_spec.specs.Flow.{Flow}
 use Rattle.star_spec.specs.Language.{Call}
@@ -34,7 +34,8 @@ use Rattle.star_values.specs.Objects.{env_in}
 use Rattle.star_values.specs.Owns.{OwnsEnv, Grows}
 use Rattle.star_values.specs.declared.object.NamedBox.{NamedBox}
 use Rattle.template_meaning.specs.Calls.{bottom, enter_ops, level_of}
-use Rattle.value_spec.specs.Outcomes.{Computation, Ending, State, bad, done, fail, give, or_fail, or_ill_formed, then_do, ◌>>=◌}
+use Rattle.value_spec.proofs.Computations.{then_ext}
+use Rattle.value_spec.specs.Outcomes.{Computation, Ending, Reply, State, asks, bad, called, done, fail, give, or_fail, or_ill_formed, then_do, ◌>>=◌}
 use Rattle.value_spec.specs.Store.{function_at}
 use Rattle.value_spec.specs.Values as plain
 use Rattle.value_spec.specs.Values.{Arguments, Function, function_value, native_value, builtin, method, host_native, one_value, replacement}
@@ -43,7 +44,8 @@ use Rattle.star_eval.specs.declared.frame.Control.{Control}
 use Rattle.star_eval.specs.declared.frame.Control.TheVariants as control
 use Rattle.star_eval.specs.declared.frame.Frame.TheVariants as frame
 use Rattle.star_eval.specs.declared.frame.Machine.{Machine}
-use Rattle.star_eval.specs.Calling.{calls_at, table_of}
+use Rattle.star_eval.specs.Calling.{after_question, after_replied, calls_at, calls_from, calls_of, functions_at, table_of}
+use Rattle.star_eval.specs.Hosts.{host_held, host_name, is_hosted}
 use Rattle.star_eval.specs.Doing.{Nodes}
 use Rattle.star_eval.specs.Frames.{Goes, Opened, around_flow, around_value}
 use Rattle.star_eval.specs.Meets.{Here, state_of}
@@ -56,14 +58,17 @@ abbrev Unasked : Ending Here Keyed → Type 0
 Unasked (done (without_keys v) s) = Unit {0}
 Unasked (done (asks_keys w f vs) s) = ⊥
 Unasked (bad e s) = Unit {0}
+Unasked (asks q s k) = (got : Result Reply Fault) (t : State Here) → Unasked (k got t)
 
 unasked_then : {A : Type 0} (e : Ending Here A) (f : A → Computation Here Keyed) → ((a : A) (s : State Here) → Unasked (f a s)) → Unasked (then_do e f)
 unasked_then (done a s) f h = h a s
 unasked_then (bad d s) f h = tt
+unasked_then (asks q s k) f h = λ got t. unasked_then (k got t) f h
 
 plain_unasked : (e : Ending Here plain.Value) → Unasked (then_do e (λ v. give (without_keys v)))
 plain_unasked (done v s) = tt
 plain_unasked (bad d s) = tt
+plain_unasked (asks q s k) = λ got t. plain_unasked (k got t)
 
 -- what may ask, without a key that is given
 abbrev RowUnasked : Option (Place → Arguments → Computation Here Keyed) → Type 0
@@ -99,42 +104,9 @@ no_difference : (call : Call Here) (p : Place) (e : Ending Here Keyed) → Unask
 no_difference call p (done (without_keys v) s) h = refl
 no_difference call p (done (asks_keys w f vs) s) h = absurd h
 no_difference call p (bad d s) h = refl
+no_difference call p (asks q s k) h = λ i. asks q s (λ got t. no_difference call p (k got t) (h got t) i)
 
 -- ---- what is called
-
--- no answer depends on the count that bounds the calls of natives
-module _ (f : Call Here) (p : Place) where
-  -- the call by which keys are asked for
-  abbrev for_keys : ℕ → Call Here
-  for_keys zero = call_by_kind starlark f (native_call no_natives f zero) no_keys
-  for_keys (suc n) = call_by_kind starlark f (native_call no_natives (call_with_natives starlark no_natives f n) (suc n)) no_keys
-
-  by_function : (vs : Arguments) (s : State Here) (n r : ℕ) → call_with_natives starlark no_natives f n p (function_value r) vs s ≡ f p (function_value r) vs s
-  by_function vs s zero r = refl
-  by_function vs s (suc n) r = refl
-
-  by_native : (vs : Arguments) (s : State Here) (n : ℕ) (x : plain.Native) → call_with_natives starlark no_natives f n p (native_value x) vs s ≡ then_do (asked_row p (native_value x) vs s) (with_keys starlark (for_keys n) p)
-  by_native vs s zero (builtin x) = refl
-  by_native vs s (suc n) (builtin x) = refl
-  by_native vs s zero (method x v) = refl
-  by_native vs s (suc n) (method x v) = refl
-  by_native vs s zero (host_native x held) = refl
-  by_native vs s (suc n) (host_native x held) = refl
-  by_native vs s zero (replacement v) = refl
-  by_native vs s (suc n) (replacement v) = refl
-
-  key_of_native : (v : plain.Value) (s : State Here) (n k : ℕ) (x : plain.Native) → for_keys n p (native_value x) (one_value v) s ≡ call_with_natives starlark no_natives f k p (native_value x) (one_value v) s
-  key_of_native v s n k x = unkeyed n x ∙ no_difference (for_keys k) p (asked_row p (native_value x) (one_value v) s) (never_asks p x v s) ∙ sym (by_native (one_value v) s k x)
-    where
-      unkeyed : (n : ℕ) (x : plain.Native) → for_keys n p (native_value x) (one_value v) s ≡ then_do (asked_row p (native_value x) (one_value v) s) (no_keys p)
-      unkeyed zero (builtin x) = refl
-      unkeyed (suc n) (builtin x) = refl
-      unkeyed zero (method x v) = refl
-      unkeyed (suc n) (method x v) = refl
-      unkeyed zero (host_native x held) = refl
-      unkeyed (suc n) (host_native x held) = refl
-      unkeyed zero (replacement v) = refl
-      unkeyed (suc n) (replacement v) = refl
 
 -- what is no function and no native
 abbrev pub is_called : plain.Value → Bool
@@ -142,80 +114,106 @@ is_called (function_value r) = true
 is_called (native_value x) = true
 is_called _ = false
 
-by_nothing : (f : Call Here) (p : Place) (vs : Arguments) (s : State Here) (n : ℕ) (v : plain.Value) → is_called v ≡ false → call_with_natives starlark no_natives f n p v vs s ≡ bad (fault_at kind.ValueKind p) s
-by_nothing f p vs s n (function_value r) h = cc
-by_nothing f p vs s n (native_value x) h = cc
-by_nothing f p vs s zero v h = refl
-by_nothing f p vs s (suc n) v h = refl
+module _ (f : Call Here) (left : ℕ) (p : Place) where
+  -- the call by which keys are asked for
+  abbrev for_keys : Call Here
+  for_keys = call_by_kind starlark f (native_call starlark asking f left) no_keys
 
--- a key is asked for as by any other call
-for_keys_called : (f : Call Here) (p : Place) (v : plain.Value) (s : State Here) (n k : ℕ) (g : plain.Value) → for_keys f p n p g (one_value v) s ≡ call_with_natives starlark no_natives f k p g (one_value v) s
-for_keys_called f p v s zero k (function_value r) = sym (by_function f p (one_value v) s k r)
-for_keys_called f p v s (suc n) k (function_value r) = sym (by_function f p (one_value v) s k r)
-for_keys_called f p v s n k (native_value x) = key_of_native f p v s n k x
-for_keys_called f p v s zero k g = sym (by_nothing f p (one_value v) s k g refl)
-for_keys_called f p v s (suc n) k g = sym (by_nothing f p (one_value v) s k g refl)
+  pub by_function : (vs : Arguments) (s : State Here) (r : ℕ) → calls_from f left p (function_value r) vs s ≡ f p (function_value r) vs s
+  unfolding calls_from
+  by_function vs s r = refl
 
-then_same : {A B : Type 0} (e : Ending Here A) (f g : A → Computation Here B) → ((a : A) (s : State Here) → f a s ≡ g a s) → then_do e f ≡ then_do e g
-then_same (done a s) f g h = h a s
-then_same (bad d s) f g h = refl
+  pub by_nothing : (vs : Arguments) (s : State Here) (v : plain.Value) → is_called v ≡ false → calls_from f left p v vs s ≡ bad (fault_at kind.ValueKind p) s
+  unfolding calls_from
+  by_nothing vs s (function_value r) h = cc
+  by_nothing vs s (native_value x) h = cc
+  by_nothing vs s v h = refl
+
+  -- a host is asked about its own
+  pub by_host : (vs : Arguments) (s : State Here) (x : plain.Native) → is_hosted x ≡ true → calls_from f left p (native_value x) vs s ≡ after_question f left p (host_name x) (host_held x) (called p (host_name x) (host_held x) vs) s
+  unfolding calls_from after_replied
+  by_host vs s (host_native x held) h = refl
+  by_host vs s (builtin x) h = cc
+  by_host vs s (method x v) h = cc
+  by_host vs s (replacement v) h = cc
+
+  by_language : (vs : Arguments) (s : State Here) (x : plain.Native) → is_hosted x ≡ false → calls_from f left p (native_value x) vs s ≡ then_do (asked_row p (native_value x) vs s) (with_keys starlark for_keys p)
+  unfolding calls_from
+  by_language vs s (builtin x) h = refl
+  by_language vs s (method x v) h = refl
+  by_language vs s (host_native x held) h = cc
+  by_language vs s (replacement v) h = refl
+
+  unkeyed : (v : plain.Value) (s : State Here) (x : plain.Native) → is_hosted x ≡ false → for_keys p (native_value x) (one_value v) s ≡ then_do (asked_row p (native_value x) (one_value v) s) (no_keys p)
+  unkeyed v s (builtin x) h = refl
+  unkeyed v s (method x y) h = refl
+  unkeyed v s (host_native x held) h = cc
+  unkeyed v s (replacement y) h = refl
+
+  key_of_native : (v : plain.Value) (s : State Here) (x : plain.Native) (b : Bool) → is_hosted x ≡ b → for_keys p (native_value x) (one_value v) s ≡ calls_from f left p (native_value x) (one_value v) s
+  unfolding calls_from
+  key_of_native v s (host_native x held) true h = refl
+  key_of_native v s (builtin x) true h = cc
+  key_of_native v s (method x y) true h = cc
+  key_of_native v s (replacement y) true h = cc
+  key_of_native v s x false h = unkeyed v s x h ∙ no_difference for_keys p (asked_row p (native_value x) (one_value v) s) (never_asks p x v s) ∙ sym (by_language (one_value v) s x h)
+
+  -- a key is asked for as by any other call
+  for_keys_called : (v : plain.Value) (s : State Here) (g : plain.Value) → for_keys p g (one_value v) s ≡ calls_from f left p g (one_value v) s
+  for_keys_called v s (function_value r) = sym (by_function (one_value v) s r)
+  for_keys_called v s (native_value x) = key_of_native v s x (is_hosted x) refl
+  for_keys_called v s g = sym (by_nothing (one_value v) s g refl)
 
 keys_same : (call other : Call Here) (p : Place) (g : plain.Value) (vs : List plain.Value) → ((v : plain.Value) (s : State Here) → call p g (one_value v) s ≡ other p g (one_value v) s) → (s : State Here) → keys_by call p g vs s ≡ keys_by other p g vs s
 keys_same call other p g [] h s = refl
 keys_same call other p g (v ∷ vs) h s =
     ap (λ e. then_do e (λ k. keys_by call p g vs >>= λ ks. give (k ∷ ks))) (h v s)
-    ∙ then_same (other p g (one_value v) s) _ _ (λ k t. ap (λ e. then_do e (λ ks. give (k ∷ ks))) (keys_same call other p g vs h t))
+    ∙ then_ext (other p g (one_value v) s) _ _ (λ k t. ap (λ e. then_do e (λ ks. give (k ∷ ks))) (keys_same call other p g vs h t))
 
 with_same : (call other : Call Here) (p : Place) → ((v : plain.Value) (s : State Here) (g : plain.Value) → call p g (one_value v) s ≡ other p g (one_value v) s) → (k : Keyed) (s : State Here) → with_keys starlark call p k s ≡ with_keys starlark other p k s
 with_same call other p h (without_keys v) s = refl
 with_same call other p h (asks_keys w g vs) s = ap (λ e. then_do e (wanted_row p w vs)) (keys_same call other p g vs (λ v s. h v s g) s)
 
+-- natives may ask for as many calls as there are steps
+pub by_steps : (f : Call Here) (p : Place) (g : plain.Value) (vs : Arguments) (s : State Here) → calls_of f p g vs s ≡ calls_from f s.steps p g vs s
+unfolding calls_of
+by_steps f p g vs s = refl
+
+-- a native of the language answers, or asks for keys by these calls
+pub by_own : (f : Call Here) (left : ℕ) (p : Place) (vs : Arguments) (s : State Here) (x : plain.Native) → is_hosted x ≡ false →
+    calls_from f left p (native_value x) vs s ≡ then_do (asked_row p (native_value x) vs s) (with_keys starlark (calls_from f left) p)
+by_own f left p vs s x h =
+    by_language f left p vs s x h ∙ then_ext (asked_row p (native_value x) vs s) _ _ (with_same (for_keys f left p) (calls_from f left) p (λ v t g. for_keys_called f left p v t g))
+
+-- ---- functions
+
 module _ (file : ℕ) (fs : Functions) (p : Place) (vs : Arguments) (s : State Here) where
-  pub nothing_called : (d : ℕ) (v : plain.Value) → is_called v ≡ false → calls_at file fs d p v vs s ≡ bad (fault_at kind.ValueKind p) s
-  unfolding calls_at
-  nothing_called zero v h = by_nothing too_deep p vs s s.steps v h
-  nothing_called (suc d) v h = by_nothing (function_call starlark ops_names (enter_ops starlark) (table_of file fs) (apply starlark no_natives ops_names (enter_ops starlark) (table_of file fs) d)) p vs s s.steps v h
-
-  -- a native answers, or asks for keys by these calls
-  pub native_called : (d : ℕ) (x : plain.Native) → calls_at file fs d p (native_value x) vs s ≡ then_do (asked_row p (native_value x) vs s) (with_keys starlark (calls_at file fs d) p)
-  unfolding calls_at
-  native_called zero x =
-      by_native too_deep p vs s s.steps x
-      ∙ then_same (asked_row p (native_value x) vs s) _ _ (with_same (for_keys too_deep p s.steps) (calls_at file fs zero) p (λ v t g. for_keys_called too_deep p v t s.steps t.steps g))
-  native_called (suc d) x =
-      let f = function_call starlark ops_names (enter_ops starlark) (table_of file fs) (apply starlark no_natives ops_names (enter_ops starlark) (table_of file fs) d) in
-      by_native f p vs s s.steps x ∙ then_same (asked_row p (native_value x) vs s) _ _ (with_same (for_keys f p s.steps) (calls_at file fs (suc d)) p (λ v t g. for_keys_called f p v t s.steps t.steps g))
-
-  called_at_end : (r : ℕ) (g : Function) → function_at r s.store ≡ Some g → calls_at file fs 0 p (function_value r) vs s ≡ bad (fault_at kind.Depth p) s
-  unfolding calls_at
-  called_at_end r g h = by_function too_deep p vs s s.steps r ∙ ap (λ o. then_do (or_fail kind.ValueKind p o s) (λ g. fail kind.Depth p)) h
-
-  pub depth_wanting : (d r : ℕ) (g : Function) → d ≡ 0 → function_at r s.store ≡ Some g → calls_at file fs d p (function_value r) vs s ≡ bad (fault_at kind.Depth p) s
-  depth_wanting zero r g z h = called_at_end r g h
+  pub depth_wanting : (d r : ℕ) (g : Function) → d ≡ 0 → function_at r s.store ≡ Some g → functions_at file fs d p (function_value r) vs s ≡ bad (fault_at kind.Depth p) s
+  unfolding functions_at
+  depth_wanting zero r g z h = ap (λ o. then_do (or_fail kind.ValueKind p o s) (λ g. fail kind.Depth p)) h
   depth_wanting (suc d) r g z h = absurd (omega (arith, z))
-
-  function_called : (d r : ℕ) (g : Function) → function_at r s.store ≡ Some g → calls_at file fs (suc d) p (function_value r) vs s ≡
-      (or_ill_formed (table_of file fs g.file g.number) >>= λ c. scope_of_call p (parameters_of c) (names_of ops_names c) g.defaults vs g.env >>= λ env. enter_code starlark (enter_ops starlark) (calls_at file fs d) c env) s
-  unfolding calls_at
-  function_called d r g h = by_function (function_call starlark ops_names (enter_ops starlark) (table_of file fs) (apply starlark no_natives ops_names (enter_ops starlark) (table_of file fs) d)) p vs s s.steps r
-      ∙ ap (λ o. then_do (or_fail kind.ValueKind p o s) (λ g. or_ill_formed (table_of file fs g.file g.number) >>= λ c. scope_of_call p (parameters_of c) (names_of ops_names c) g.defaults vs g.env >>= λ env. enter_code starlark (enter_ops starlark) (apply starlark no_natives ops_names (enter_ops starlark) (table_of file fs) d) c env)) h
 
   -- what a call of a function comes to
   abbrev Entered : ℕ → Function → Option (Code Ops) → Ending Here plain.Value
   Entered d g o = (or_ill_formed o >>= λ c. scope_of_call p (parameters_of c) (names_of ops_names c) g.defaults vs g.env >>= λ env. enter_code starlark (enter_ops starlark) (calls_at file fs d) c env) s
 
-  called : (d r : ℕ) (g : Function) → (d ≡ 0 → ⊥) → function_at r s.store ≡ Some g → calls_at file fs d p (function_value r) vs s ≡ Entered (d - 1) g (table_of file fs g.file g.number)
-  called zero r g z h = absurd (z refl)
-  called (suc d) r g z h =
+  function_called : (d r : ℕ) (g : Function) → function_at r s.store ≡ Some g → functions_at file fs (suc d) p (function_value r) vs s ≡ Entered d g (table_of file fs g.file g.number)
+  unfolding functions_at
+  function_called d r g h =
+      ap (λ o. then_do (or_fail kind.ValueKind p o s) (λ g. or_ill_formed (table_of file fs g.file g.number) >>= λ c. scope_of_call p (parameters_of c) (names_of ops_names c) g.defaults vs g.env >>= λ env. enter_code starlark (enter_ops starlark) (calls_at file fs d) c env)) h
+
+  called_so : (d r : ℕ) (g : Function) → (d ≡ 0 → ⊥) → function_at r s.store ≡ Some g → functions_at file fs d p (function_value r) vs s ≡ Entered (d - 1) g (table_of file fs g.file g.number)
+  called_so zero r g z h = absurd (z refl)
+  called_so (suc d) r g z h =
       let less : d ≡ suc d - 1 = omega arith in
       function_called d r g h ∙ (λ i. Entered (less i) g (table_of file fs g.file g.number))
 
-  pub not_found : (d r : ℕ) (g : Function) → (d ≡ 0 → ⊥) → function_at r s.store ≡ Some g → code_with g.number fs ≡ None → calls_at file fs d p (function_value r) vs s ≡ bad (fault_of kind.CodeForm) s
-  not_found d r g z h none = called d r g z h ∙ ap (λ o. Entered (d - 1) g (option_map (code_of file) o)) none
+  pub not_found : (d r : ℕ) (g : Function) → (d ≡ 0 → ⊥) → function_at r s.store ≡ Some g → code_with g.number fs ≡ None → functions_at file fs d p (function_value r) vs s ≡ bad (fault_of kind.CodeForm) s
+  not_found d r g z h none = called_so d r g z h ∙ ap (λ o. Entered (d - 1) g (option_map (code_of file) o)) none
 
-  pub found : (d r : ℕ) (g : Function) (c : FunctionCode) → (d ≡ 0 → ⊥) → function_at r s.store ≡ Some g → code_with g.number fs ≡ Some c → calls_at file fs d p (function_value r) vs s ≡
+  pub found : (d r : ℕ) (g : Function) (c : FunctionCode) → (d ≡ 0 → ⊥) → function_at r s.store ≡ Some g → code_with g.number fs ≡ Some c → functions_at file fs d p (function_value r) vs s ≡
       (scope_of_call p (parameters_of (code_of file c)) (names_of ops_names (code_of file c)) g.defaults vs g.env >>= λ env. enter_code starlark (enter_ops starlark) (calls_at file fs (d - 1)) (code_of file c) env) s
-  found d r g c z h some = called d r g z h ∙ ap (λ o. Entered (d - 1) g (option_map (code_of file) o)) some
+  found d r g c z h some = called_so d r g z h ∙ ap (λ o. Entered (d - 1) g (option_map (code_of file) o)) some
 
 -- the scope of a call, by the parameters of its code
 pub scope_given : (file n r : ℕ) (g : Function) (code : FunctionCode) (params : List Param) (fresh : List Name) (p : Place) (vs : Arguments) (a b : View) (result : Result (List NamedBox) Stop) →
@@ -256,7 +254,7 @@ module _ (m n : Machine) (fragment : Option ItemKind) (scope : List NamedBox) (o
   pub opened_grows : Grows (arena_in m) (arena_in n)
   opened_grows = subst (λ (x : Machine). Grows (arena_in m) (arena_in x)) (sym o.is) (grows_same (arena_in m))
 
-  pub opened_setting : setting_of n ≡ setting (calls_at m.code.file m.code.functions (m.depth - 1)) (env_in (arena_in m).held scope)
+  pub opened_setting : setting_of n ≡ setting (functions_at m.code.file m.code.functions (m.depth - 1)) (env_in (arena_in m).held scope)
   opened_setting = ap setting_of o.is
 
   pub opened_nodes : nodes_in n ≡ bottom (level_of (option_map item_kind_of fragment)) ∷ []

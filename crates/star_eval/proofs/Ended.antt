@@ -33,6 +33,7 @@ module _ (m : Machine) where
   block_ended form (control.Clauses p cs b) is h = cc
   block_ended form (control.Bagged b) is h = (λ i. bad (is i) (state_of m.session)) ∙ ap flow_ends (alone (control.Bagged b) h)
   block_ended form (control.Lost f) is h = ap flow_ends (alone (control.Lost f) h)
+  block_ended form (control.Ask k q) is h = cc
 
   pub scope_at_end : (x : Control) → is_active m x ≡ false → env_of m ≡ end_env (means m x)
   scope_at_end (control.Eval e) h = cc
@@ -45,3 +46,4 @@ module _ (m : Machine) where
   scope_at_end (control.Clauses p cs b) h = cc
   scope_at_end (control.Bagged b) h = ap end_env (alone (control.Bagged b) h)
   scope_at_end (control.Lost f) h = ap end_env (alone (control.Lost f) h)
+  scope_at_end (control.Ask k q) h = cc

@@ -1,5 +1,5 @@
 -- What is held stays owned, and the same, as the arena grows.
-use Rattle.std.proofs.Common.{◌≡◌, ℕ, List, [], ◌∷◌, drop, reverse, Option, Some, None, option_map, refl, ap, subst, sym, IsTrue, rules}
+use Rattle.std.proofs.Common.{◌≡◌, ℕ, List, [], ◌∷◌, drop, reverse, Option, Some, None, option_map, refl, ap, subst, sym, ◌∙◌, IsTrue, rules}
 use Rattle.std.proofs.lemmas.List.{reverse-append}
 use Rattle.star_blocks.specs.Nested.{ops_of}
 use Rattle.star_tree.specs.Listed.{clauses_of, entries_of, optional_of}
@@ -20,7 +20,7 @@ use Rattle.star_sorting.specs.View.{wanted_of}
 use Rattle.star_tree.specs.View.{item_kind_of}
 use Rattle.star_values.specs.declared.value.CallArgs.{CallArgs}
 use Rattle.value_spec.specs.Values.{arguments, values_from}
-use Rattle.star_eval.specs.Calling.{calls_at}
+use Rattle.star_eval.specs.Calling.{functions_at}
 use Rattle.star_eval.specs.Doing as doing
 use Rattle.star_eval.specs.declared.frame.Bag as held_bag
 use Rattle.star_eval.specs.declared.frame.Bag.TheVariants as bag
@@ -41,13 +41,17 @@ use Rattle.star_eval.specs.declared.frame.InStatement.TheVariants as in_statemen
 use Rattle.star_eval.specs.declared.frame.InValue as held_value
 use Rattle.star_eval.specs.declared.frame.InValue.TheVariants as in_value
 use Rattle.star_eval.specs.declared.frame.Machine.{Machine}
+use Rattle.star_eval.specs.declared.frame.Pending.{Pending}
+use Rattle.star_eval.specs.Hosts.{OwnsHosted, host_held, host_name, is_hosted, native_at}
+use Rattle.star_values.specs.declared.value.Value.TheVariants as value
+use Rattle.value_spec.specs.Values as plain_value
 use Rattle.star_eval.specs.declared.session.Session.{Session}
 use Rattle.star_eval.specs.declared.source.Members.{Members}
 use Rattle.star_eval.specs.declared.source.Members.TheVariants as members
 use Rattle.star_eval.specs.declared.source.Source.{Source}
 use Rattle.star_eval.specs.Meets.{arena_of}
 use Rattle.star_eval.specs.Sources.{OwnsMembers, OwnsSource, Walked, all_members, left_of, walked_sort}
-use Rattle.star_eval.specs.View.{OwnsBag, OwnsCaller, OwnsFrame, OwnsInBlock, OwnsInClauses, OwnsInElement, OwnsInIndex, OwnsInStatement, OwnsInValue, Sound, arena_in, bag_of, block_frame, caller_of, clauses_frame, element_frame, frame_of, frames_of, gathering_of, index_frame, making_of, nodes_in, setting_of, statement_frame, value_frame, waiting_in}
+use Rattle.star_eval.specs.View.{OwnsBag, OwnsCaller, OwnsFrame, OwnsInBlock, OwnsInClauses, OwnsInElement, OwnsInIndex, OwnsInStatement, OwnsInValue, OwnsPending, Sound, arena_in, bag_of, block_frame, caller_of, clauses_frame, element_frame, frame_of, frames_of, gathering_of, index_frame, making_of, native_frame, nodes_in, setting_of, statement_frame, value_frame, waiting_in}
 use Rattle.star_eval.specs.Waiting as plain
 use Rattle.star_eval.specs.Waiting.{setting}
 
@@ -130,8 +134,8 @@ module _ (a b : View) (file : ℕ) (g : Grows a b) where
   in_value_kept (in_value.Default m ps vs) w = (owns_all_kept a b vs g w, ap (plain.default_of (making_of m) (parameters_of file ps.now)) (values_kept a b vs g w))
   in_value_kept (in_value.First p cs x) w = let k = bag_kept x w in (k.0, ap (plain.first_members p (clauses_of file cs.now)) k.1)
   in_value_kept (in_value.Attribute p x) w = (tt, refl)
-  in_value_kept (in_value.Key p k f vs ks) w =
-      ((owns_kept a b f g w.0, owns_all_kept a b vs g w.1, owns_all_kept a b ks g w.2), λ i. plain.next_key p (wanted_of k) (value_kept a b f g w.0 i) (values_kept a b vs g w.1 i) (values_kept a b ks g w.2 i))
+  in_value_kept (in_value.Key left p k f vs ks) w =
+      ((owns_kept a b f g w.0, owns_all_kept a b vs g w.1, owns_all_kept a b ks g w.2), λ i. plain.next_key left p (wanted_of k) (value_kept a b f g w.0 i) (values_kept a b vs g w.1 i) (values_kept a b ks g w.2 i))
   in_value_kept (in_value.Unbuilt p) w = (tt, refl)
 
   in_statement_kept : (f : held_statement.InStatement) → OwnsInStatement a f → OwnsInStatement b f × (statement_frame b file f ≡ statement_frame a file f)
@@ -169,12 +173,33 @@ module _ (a b : View) (file : ℕ) (g : Grows a b) where
   in_clauses_kept (in_clauses.Turn p x cs s) w = let k = source_kept a b s g w in (k.0, ap (plain.clause_turn p (expr_of file x.now) (clauses_of file cs.now)) k.1)
   in_clauses_kept (in_clauses.WalkEnd r) w = (walked_kept a b r g w, refl)
 
+-- ---- natives of a host
+
+abbrev native_or : plain_value.Value → plain_value.Native
+native_or (plain_value.native_value x) = x
+native_or _ = plain_value.builtin []
+
+pub native_kept : (a b : View) (r : Ref) → Grows a b → OwnsHosted a r → native_at b r ≡ native_at a r
+native_kept a b r g w = ap native_or (value_kept a b (value.Native r) g w.0)
+
+pub hosted_kept : (a b : View) (r : Ref) → Grows a b → OwnsHosted a r → OwnsHosted b r
+hosted_kept a b r g w = (owns_kept a b (value.Native r) g w.0, ap is_hosted (native_kept a b r g w) ∙ w.1)
+
+module _ (a b : View) (g : Grows a b) where
+  pub pending_kept : (p : Pending) → OwnsPending a p → OwnsPending b p × (native_frame b p ≡ native_frame a p)
+  pending_kept p w =
+      let x = native_kept a b p.asking.native g w.0 in
+      let nodes = nodes_kept a b p.nodes g w.1 in (
+        (hosted_kept a b p.asking.native g w.0, nodes.0),
+        λ i. plain.in_native (record { left = p.asking.left; place = p.asking.place; name = host_name (x i); held = host_held (x i); tag = p.tag }) (nodes.1 i),
+      )
+
 module _ (a b : View) (code : Code) (g : Grows a b) where
   pub caller_kept : (c : Caller) → OwnsCaller a c → OwnsCaller b c × (caller_of b code c ≡ caller_of a code c)
   caller_kept c w =
       let env = env_kept a b c.scope g w.0 in
       let nodes = nodes_kept a b c.nodes g w.1 in
-      ((env.0, nodes.0), λ i. plain.caller (calls_at code.file code.functions c.depth) (env.1 i) (nodes.1 i) (option_map item_kind_of c.fragment))
+      ((env.0, nodes.0), λ i. plain.caller (functions_at code.file code.functions c.depth) (env.1 i) (nodes.1 i) (option_map item_kind_of c.fragment))
 
   frame_kept : (f : Frame) → OwnsFrame a f → OwnsFrame b f × (frame_of b code f ≡ frame_of a code f)
   frame_kept (frame.Value f) w = let k = in_value_kept a b code.file g f w in (k.0, ap plain.in_value k.1)
@@ -184,6 +209,7 @@ module _ (a b : View) (code : Code) (g : Grows a b) where
   frame_kept (frame.Clauses f) w = let k = in_clauses_kept a b code.file g f w in (k.0, ap plain.in_clauses k.1)
   frame_kept (frame.Gather scope) w = let k = env_kept a b scope g w in (k.0, ap plain.gather k.1)
   frame_kept (frame.Call c) w = caller_kept c w
+  frame_kept (frame.Native p) w = pending_kept a b g p w
 
   pub frames_kept : (fs : List Frame) → Each (OwnsFrame a) fs → Each (OwnsFrame b) fs × (frames_of b code fs ≡ frames_of a code fs)
   frames_kept [] w = (tt, refl)
@@ -214,7 +240,7 @@ kept m s g w =
     let env = env_kept a b m.scope g w.scope in
     let nodes = nodes_kept a b m.nodes g w.nodes in
     record {
-      setting = λ i. setting (calls_at m.code.file m.code.functions m.depth) (env.1 i);
+      setting = λ i. setting (functions_at m.code.file m.code.functions m.depth) (env.1 i);
       nodes = nodes.1;
       waiting = (frames_kept a b m.code g (reverse m.frames) (reversed_each (OwnsFrame a) m.frames w.frames)).1;
       sound = record { scope = env.0; nodes = nodes.0; frames = (frames_kept a b m.code g m.frames w.frames).0 };

@@ -1,5 +1,6 @@
 pub mod Arguing
 pub mod Asking
+pub mod Asks
 pub mod Calling
 pub mod Chaining
 pub mod Clauses
@@ -8,6 +9,8 @@ pub mod Ended
 pub mod FileRuns
 pub mod Going
 pub mod Growing
+pub mod Hosting
+pub mod Loops
 pub mod Making
 pub mod Open
 pub mod Pieces

@@ -1,5 +1,5 @@
 -- Rows of targets, and steps that are taken or wanting.
-use Rattle.std.proofs.Common.{◌≡◌, ℕ, zero, suc, ◌-◌, nat_le, ◌==◌, true, false, List, [], ◌∷◌, length, Some, refl, ap, sym, ◌∙◌, rules, arith}
+use Rattle.std.proofs.Common.{◌≡◌, ℕ, zero, suc, ◌-◌, nat_le, ◌==◌, Bool, true, false, List, [], ◌∷◌, length, Some, refl, ap, sym, ◌∙◌, rules, arith}
 use Rattle.std.proofs.lemmas.Bool.{le-leb}
 use Rattle.ytt_base.specs.declared.fault.FaultKind.TheVariants as kind
 use Rattle.ytt_base.specs.declared.fault.Place.{Place}
@@ -10,10 +10,10 @@ use Rattle.star_spec.specs.Eval.{count_exprs}
 use Rattle.star_tree.specs.Whole.{exprs_of}
 use Rattle.star_tree.specs.declared.code.Expr.{Expr}
 use Rattle.value_spec.specs.Members.{members_in}
-use Rattle.value_spec.specs.Outcomes.{Computation, Ending, State, bad, done, give, need, or_fail, paid, take_if, then_do, ◌>>=◌}
+use Rattle.value_spec.specs.Outcomes.{Computation, Ending, State, asks, bad, done, give, ill_formed, need, or_fail, paid, take_if, then_do, ◌>>=◌}
 use Rattle.value_spec.specs.Values.{Value, none_value}
 use Rattle.star_eval.specs.Meets.{Here}
-use Rattle.star_eval.specs.Doing.{Setting, assigned, assigned_each, spread_over}
+use Rattle.star_eval.specs.Doing.{Nodes, Setting, assigned, assigned_each, augmented, spread_over}
 use Rattle.star_eval.specs.Waiting.{with_none}
 
 pub as_many : (file : ℕ) (es : List Expr) → count_exprs (exprs_of file es) ≡ length es
@@ -33,6 +33,7 @@ first_by : (p : Place) (c : Setting) (es : Exprs) (vs : List Value) (r : Ending 
     then_do (then_do r (λ u. give none_value)) (λ x. with_none (assigned_each c p es vs)) ≡ then_do (then_do r (λ u. assigned_each c p es vs)) (λ u. give none_value)
 first_by p c es vs (done u s) = refl
 first_by p c es vs (bad f s) = refl
+first_by p c es vs (asks q s k) = λ i. asks q s (λ got t. first_by p c es vs (k got t) i)
 
 pub first_assigned : (p : Place) (c : Setting) (t : plain.Expr) (es all : Exprs) (v : Value) (vs members : List Value) (s : State Here) → all ≡ an_expr t es → members ≡ v ∷ vs →
     then_do (with_none (assigned c p t v) s) (λ x. with_none (assigned_each c p es vs)) ≡ with_none (assigned_each c p all members) s
@@ -47,6 +48,19 @@ module _ (p : Place) (c : Setting) (es : Exprs) (v : Value) (vs : List Value) (s
 
   pub spread_refused : (length vs == count_exprs es) ≡ false → bad (fault_at kind.ValueKind p) s ≡ with_none (spread_over c p es v) s
   spread_refused h = sym (ap (λ o. then_do o (λ u. give none_value)) (spread_by ∙ ap (λ b. (need kind.ValueKind p b >>= λ u. assigned_each c p es vs) s) h))
+
+-- ---- augmented assignments
+
+-- a name or an index
+abbrev pub takes_augment : plain.Expr → Bool
+takes_augment (plain.name r x) = true
+takes_augment (plain.index r a i) = true
+takes_augment _ = false
+
+pub not_augmented : (c : Setting) (o : plain.BinaryOperator) (q : Place) (x e : plain.Expr) (k : Nodes) → takes_augment x ≡ false → augmented c o q x e k ≡ ill_formed
+not_augmented c o q (plain.name r x) e k h = cc
+not_augmented c o q (plain.index r a i) e k h = cc
+not_augmented c o q x e k h = refl
 
 -- ---- steps
 

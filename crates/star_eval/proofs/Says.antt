@@ -17,9 +17,9 @@ use Rattle.star_spec.specs.Language.{Call, Word, breaks, continues, returns, def
 use Rattle.star_spec.specs.Names.{box_of, read_name, with_boxes, write_name}
 use Rattle.template_meaning.proofs.Follows.{Follows, mapped, turns_follow, value_follows, walk_follows}
 use Rattle.template_meaning.specs.Run.{node_part, run_arms}
-use Rattle.value_spec.specs.Outcomes.{Computation, Ending, State, bad, done, give, new_dict, new_list, paid, take_steps, then_do, ◌>>=◌}
+use Rattle.value_spec.specs.Outcomes.{Computation, Ending, State, asks, bad, done, give, new_dict, new_list, paid, take_steps, then_do, ◌>>=◌}
 use Rattle.value_spec.specs.Values.{Arguments, arguments, Env, Value, none_value}
-use Rattle.star_eval.specs.Doing.{Bag, Nodes, Setting, acted, arms_done, assigned, augmented, bag_made, bound_then, changed_at, comprehended, cut, done_after, element_done, evaluated, flow_made, making, op_place, op_through, pairs_bag, part_done, place_in, op_done, stated, statement_place, step_at, through, values_bag}
+use Rattle.star_eval.specs.Doing.{Bag, Nodes, Setting, acted, all_calls, arms_done, assigned, augmented, bag_made, bound_then, changed_at, comprehended, cut, done_after, element_done, evaluated, flow_made, making, op_done, op_place, op_through, pairs_bag, part_done, place_in, stated, statement_place, step_at, through, values_bag}
 use Rattle.star_eval.specs.Meets.{Here}
 use Rattle.star_eval.proofs.Chaining.{chained}
 
@@ -71,46 +71,47 @@ made_of : {K : Type 0} (g : K → Bag) (make : K → Computation Here Value) →
 made_of g make h (done (on k) s) = λ i. h k i s
 made_of g make h (done (out w k) s) = λ i. h k i s
 made_of g make h (bad f s) = refl
+made_of g make h (asks q s k) = λ i. asks q s (λ got t. made_of g make h (k got t) i)
 
 module _ (c : Setting) where
   list_gathered : (p : Place) (e : plain.Expr) (cs : plain.Clauses) →
-      comprehended c p cs (values_bag e []) ≡ (comprehend c.call p (λ scope vs. eval c.call e scope >>= λ v. give (on (vs ++ v ∷ []))) cs c.env [] >>= λ f. new_list (built_so_far f))
+      comprehended c p cs (values_bag e []) ≡ (comprehend (all_calls c) p (λ scope vs. eval (all_calls c) e scope >>= λ v. give (on (vs ++ v ∷ []))) cs c.env [] >>= λ f. new_list (built_so_far f))
   list_gathered p e cs = λ i s.
       (ap (λ r. then_do r flow_made)
-      ((comprehend_follows c.call p (values_bag e) (λ scope vs. eval c.call e scope >>= λ v. give (on (vs ++ v ∷ []))) (element_done c.call p) (λ env. record { by = λ vs s. value_follows (values_bag e) (eval c.call e env s) _ _ (λ v s. refl) }) cs c.env).by [] s)
-      ∙ made_of (values_bag e) new_list (λ vs. refl) (comprehend c.call p (λ scope vs. eval c.call e scope >>= λ v. give (on (vs ++ v ∷ []))) cs c.env [] s)) i
+      ((comprehend_follows (all_calls c) p (values_bag e) (λ scope vs. eval (all_calls c) e scope >>= λ v. give (on (vs ++ v ∷ []))) (element_done (all_calls c) p) (λ env. record { by = λ vs s. value_follows (values_bag e) (eval (all_calls c) e env s) _ _ (λ v s. refl) }) cs c.env).by [] s)
+      ∙ made_of (values_bag e) new_list (λ vs. refl) (comprehend (all_calls c) p (λ scope vs. eval (all_calls c) e scope >>= λ v. give (on (vs ++ v ∷ []))) cs c.env [] s)) i
 
   abbrev Pair : Place → plain.Expr → plain.Expr → Env → Part Here (List (Value × Value))
-  Pair p e d scope ps = eval c.call e scope >>= λ k. eval c.call d scope >>= λ v. turn_pair p ps k v >>= λ all. give (on all)
+  Pair p e d scope ps = eval (all_calls c) e scope >>= λ k. eval (all_calls c) d scope >>= λ v. turn_pair p ps k v >>= λ all. give (on all)
 
-  pair_follows : (p : Place) (e d : plain.Expr) (env : Env) → Follows (pairs_bag e d) (Pair p e d env) (element_done c.call p env)
+  pair_follows : (p : Place) (e d : plain.Expr) (env : Env) → Follows (pairs_bag e d) (Pair p e d env) (element_done (all_calls c) p env)
   pair_follows p e d env = record {
-    by = λ ps s. value_follows (pairs_bag e d) (eval c.call e env s) _ _ (λ k s. value_follows (pairs_bag e d) (eval c.call d env s) _ _ (λ v s. value_follows (pairs_bag e d) (turn_pair p ps k v s) _ _ (λ all s. refl)));
+    by = λ ps s. value_follows (pairs_bag e d) (eval (all_calls c) e env s) _ _ (λ k s. value_follows (pairs_bag e d) (eval (all_calls c) d env s) _ _ (λ v s. value_follows (pairs_bag e d) (turn_pair p ps k v s) _ _ (λ all s. refl)));
   }
 
-  dict_gathered : (p : Place) (e d : plain.Expr) (cs : plain.Clauses) → comprehended c p cs (pairs_bag e d []) ≡ (comprehend c.call p (Pair p e d) cs c.env [] >>= λ f. new_dict (built_so_far f))
+  dict_gathered : (p : Place) (e d : plain.Expr) (cs : plain.Clauses) → comprehended c p cs (pairs_bag e d []) ≡ (comprehend (all_calls c) p (Pair p e d) cs c.env [] >>= λ f. new_dict (built_so_far f))
   dict_gathered p e d cs = λ i s.
-      (ap (λ r. then_do r flow_made) ((comprehend_follows c.call p (pairs_bag e d) (Pair p e d) (element_done c.call p) (pair_follows p e d) cs c.env).by [] s)
-      ∙ made_of (pairs_bag e d) new_dict (λ ps. refl) (comprehend c.call p (Pair p e d) cs c.env [] s)) i
+      (ap (λ r. then_do r flow_made) ((comprehend_follows (all_calls c) p (pairs_bag e d) (Pair p e d) (element_done (all_calls c) p) (pair_follows p e d) cs c.env).by [] s)
+      ∙ made_of (pairs_bag e d) new_dict (λ ps. refl) (comprehend (all_calls c) p (Pair p e d) cs c.env [] s)) i
 
   -- ---- expressions
 
   -- the value of a part of a slice, and what follows
-  bound_says : (o : plain.OptionalExpr) (f : Value → Computation Here Value) → bound_then c o f ≡ (eval_optional c.call o c.env >>= λ v. f (unwrap_or v none_value))
+  bound_says : (o : plain.OptionalExpr) (f : Value → Computation Here Value) → bound_then c o f ≡ (eval_optional (all_calls c) o c.env >>= λ v. f (unwrap_or v none_value))
   bound_says plain.absent f = refl
   bound_says (plain.present e) f = sym (chained (evaluated c e) (λ v. give (Some v)) (λ v. f (unwrap_or v none_value)))
 
   slice_says : (p : Place) (a : plain.Expr) (l u d : plain.OptionalExpr) → paid p (acted c p (plain.slice p a l u d)) ≡ evaluated c (plain.slice p a l u d)
   slice_says p a l u d =
       (λ i. paid p (evaluated c a >>= λ x. bound_says l (λ y. bound_then c u (λ z. bound_then c d (λ w. slice_row p x (cut y z w)))) i))
-      ∙ (λ i. paid p (evaluated c a >>= λ x. eval_optional c.call l c.env >>= λ y. bound_says u (λ z. bound_then c d (λ w. slice_row p x (cut (unwrap_or y none_value) z w))) i))
-      ∙ (λ i. paid p (evaluated c a >>= λ x. eval_optional c.call l c.env >>= λ y. eval_optional c.call u c.env >>= λ z. bound_says d (λ w. slice_row p x (cut (unwrap_or y none_value) (unwrap_or z none_value) w)) i))
+      ∙ (λ i. paid p (evaluated c a >>= λ x. eval_optional (all_calls c) l c.env >>= λ y. bound_says u (λ z. bound_then c d (λ w. slice_row p x (cut (unwrap_or y none_value) z w))) i))
+      ∙ (λ i. paid p (evaluated c a >>= λ x. eval_optional (all_calls c) l c.env >>= λ y. eval_optional (all_calls c) u c.env >>= λ z. bound_says d (λ w. slice_row p x (cut (unwrap_or y none_value) (unwrap_or z none_value) w)) i))
 
   abbrev Stepped : plain.Expr → Computation Here Value
   Stepped e = step_at (place_in e) (λ p. acted c p e)
 
   says : (e : plain.Expr) → Stepped e ≡ evaluated c e
-  says (plain.call p f es) = λ i. paid p (evaluated c f >>= λ g. eval_arguments c.call es c.env >>= λ vs. c.call p g (none_before vs i))
+  says (plain.call p f es) = λ i. paid p (evaluated c f >>= λ g. eval_arguments (all_calls c) es c.env >>= λ vs. all_calls c p g (none_before vs i))
   says (plain.slice p a l u d) = slice_says p a l u d
   says (plain.list_comprehension p e cs) = λ i. paid p (list_gathered p e cs i)
   says (plain.dict_comprehension p e d cs) = λ i. paid p (dict_gathered p e d cs i)
@@ -131,7 +132,7 @@ module _ (c : Setting) where
       ∙ (λ i. evaluated c j >>= λ y. index_row r x y >>= λ old. chained (evaluated c e) (λ v. assignment_row q o old v >>= λ w. set_index_row r x y w) (λ u. give (on k)) i)
       ∙ (λ i. evaluated c j >>= λ y. index_row r x y >>= λ old. evaluated c e >>= λ v. chained (assignment_row q o old v) (λ w. set_index_row r x y w) (λ u. give (on k)) i)
 
-  augmented_says : (p : Place) (o : plain.BinaryOperator) (q : Place) (x e : plain.Expr) (k : Nodes) → augmented c o q x e k ≡ (augment_to c.call p o q x e c.env >>= λ u. give (on k))
+  augmented_says : (p : Place) (o : plain.BinaryOperator) (q : Place) (x e : plain.Expr) (k : Nodes) → augmented c o q x e k ≡ (augment_to (all_calls c) p o q x e c.env >>= λ u. give (on k))
   augmented_says p o q (plain.name r x) e k = sym (
       chained (read_name r x (box_of x c.env)) (λ old. evaluated c e >>= λ v. assignment_row q o old v >>= λ w. write_name r x w (box_of x c.env)) (λ u. give (on k))
       ∙ (λ i. read_name r x (box_of x c.env) >>= λ old. chained (evaluated c e) (λ v. assignment_row q o old v >>= λ w. write_name r x w (box_of x c.env)) (λ u. give (on k)) i)
@@ -148,11 +149,11 @@ module _ (c : Setting) where
   ends : {A : Type 0} (p : Place) (m : Computation Here A) (f : A → Computation Here (Option Word)) (k : Nodes) → paid p (m >>= λ a. f a >>= Then k) ≡ as_part (paid p (m >>= f)) k
   ends p m f k = sym (paid_on p (m >>= f) (Then k) ∙ (λ i. paid p (chained m f (Then k) i)))
 
-  simple_says : (s : plain.Statement) (k : Nodes) → paid (statement_place s) (stated c (statement_place s) s k) ≡ as_part (execute starlark c.call s c.env) k
+  simple_says : (s : plain.Statement) (k : Nodes) → paid (statement_place s) (stated c (statement_place s) s k) ≡ as_part (execute starlark (all_calls c) s c.env) k
   simple_says (plain.evaluate p e) k = ends p (evaluated c e) (λ v. give None) k
   simple_says (plain.assign p x e) k =
       (λ i. paid p (evaluated c e >>= λ v. sym (chained (assigned c p x v) (λ u. give None) (Then k)) i)) ∙ ends p (evaluated c e) (λ v. assigned c p x v >>= λ u. give None) k
-  simple_says (plain.augment p o q x e) k = (λ i. paid p (augmented_says p o q x e k i)) ∙ ends p (augment_to c.call p o q x e c.env) (λ u. give None) k
+  simple_says (plain.augment p o q x e) k = (λ i. paid p (augmented_says p o q x e k i)) ∙ ends p (augment_to (all_calls c) p o q x e c.env) (λ u. give None) k
   simple_says (plain.load p path xs) k = sym (paid_on p (give None) (Then k))
   simple_says (plain.return p e) k = ends p (evaluated c e) (λ v. give (Some (returns v))) k
   simple_says (plain.break p) k = sym (paid_on p (give (Some breaks)) (Then k))
@@ -160,31 +161,31 @@ module _ (c : Setting) where
   simple_says (plain.pass p) k = sym (paid_on p (give None) (Then k))
 
   define_says : (p : Place) (n : ℕ) (x : plain.Name) (ps : plain.Parameters) (k : Nodes) →
-      paid p (making c (record { place = p; name = x; number = n }) ps [] >>= λ f. write_name p x f (box_of x c.env) >>= λ u. give (on k)) ≡ as_part (define starlark c.call p n x ps c.env) k
+      paid p (making c (record { place = p; name = x; number = n }) ps [] >>= λ f. write_name p x f (box_of x c.env) >>= λ u. give (on k)) ≡ as_part (define starlark (all_calls c) p n x ps c.env) k
   define_says p n x ps k =
       (λ i. paid p (making c (record { place = p; name = x; number = n }) ps [] >>= λ f. sym (chained (write_name p x f (box_of x c.env)) (λ u. give None) (Then k)) i))
       ∙ ends p (making c (record { place = p; name = x; number = n }) ps []) (λ f. write_name p x f (box_of x c.env) >>= λ u. give None) k
 
-  arms_say : (bs : Arms) (k : Nodes) → arms_done c bs k ≡ run_arms starlark c.call bs c.env k
+  arms_say : (bs : Arms) (k : Nodes) → arms_done c bs k ≡ run_arms starlark (all_calls c) bs c.env k
   arms_say no_arm k = refl
   arms_say (else_arm os) k = refl
   arms_say (arm e os bs) k =
       (λ i. evaluated c e >>= λ v. truth_of v >>= λ holds. if holds then through c os k else arms_say bs k i)
-      ∙ (λ i. evaluated c e >>= λ v. truth_of v >>= λ holds. chosen holds (through c os) (run_arms starlark c.call bs c.env) k i)
-      ∙ sym (chained (evaluated c e) truth_of (λ holds. (if holds then through c os else run_arms starlark c.call bs c.env) k))
+      ∙ (λ i. evaluated c e >>= λ v. truth_of v >>= λ holds. chosen holds (through c os) (run_arms starlark (all_calls c) bs c.env) k i)
+      ∙ sym (chained (evaluated c e) truth_of (λ holds. (if holds then through c os else run_arms starlark (all_calls c) bs c.env) k))
 
   -- ---- parts of nodes
 
-  value_says : (p : Place) (e : plain.Expr) (k : Nodes) → part_done c (node_value_from p e) k ≡ node_part starlark c.call (node_value_from p e) c.env k
+  value_says : (p : Place) (e : plain.Expr) (k : Nodes) → part_done c (node_value_from p e) k ≡ node_part starlark (all_calls c) (node_value_from p e) c.env k
   value_says p e [] = refl
   value_says p e (n ∷ []) = refl
   value_says p e (n ∷ m ∷ ls) = refl
 
-  note_says : (p : Place) (x : plain.Name) (es : plain.Exprs) (k : Nodes) → part_done c (node_note p x es) k ≡ node_part starlark c.call (node_note p x es) c.env k
+  note_says : (p : Place) (x : plain.Name) (es : plain.Exprs) (k : Nodes) → part_done c (node_note p x es) k ≡ node_part starlark (all_calls c) (node_note p x es) c.env k
   note_says p x es [] = refl
-  note_says p x es (n ∷ ns) = λ i. eval_arguments c.call es c.env >>= λ vs. noting x (none_before vs i) (n ∷ ns)
+  note_says p x es (n ∷ ns) = λ i. eval_arguments (all_calls c) es c.env >>= λ vs. noting x (none_before vs i) (n ∷ ns)
 
-  pub part_says : (o : NodePart) (k : Nodes) → part_done c o k ≡ node_part starlark c.call o c.env k
+  pub part_says : (o : NodePart) (k : Nodes) → part_done c o k ≡ node_part starlark (all_calls c) o c.env k
   part_says (node_start p j g) k = refl
   part_says (node_note p x es) k = note_says p x es k
   part_says (node_key p x) k = refl

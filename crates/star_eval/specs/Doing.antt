@@ -21,6 +21,7 @@ use Rattle.star_spec.specs.Eval.{assign_each, assign_to, built_so_far, clauses_i
 use Rattle.star_spec.specs.Flow.{Flow, on, out, Part, over_members}
 use Rattle.star_spec.specs.Language.{Call, breaks, continues, returns}
 use Rattle.star_spec.specs.Names.{box_of, read_name, with_boxes, write_name}
+use Rattle.star_eval.specs.Calling.{calls_from, calls_of}
 use Rattle.star_eval.specs.Meets.{Here}
 use Rattle.star_tree.specs.Whole.{Entry}
 use Rattle.template_meaning.specs.Run.{Node, node_part, on_top, opened, run, runs}
@@ -30,18 +31,22 @@ use Rattle.value_spec.specs.Values.{Arguments, Env, function_value, int_value, n
 abbrev pub Nodes : Type 0
 Nodes = List Node
 
--- the calls that code may make, and its scope
+-- the calls of functions that code may make, and its scope
 pub record Setting : Type 0 where
-  pub call : Call Here
+  pub function : Call Here
   pub env : Env
+
+-- all calls that it may make
+abbrev pub all_calls : Setting → Call Here
+all_calls c = calls_of c.function
 
 -- ---- parts of code
 
 abbrev pub evaluated : Setting → Expr → Computation Here Value
-evaluated c e = eval c.call e c.env
+evaluated c e = eval (all_calls c) e c.env
 
 abbrev pub all_evaluated : Setting → Exprs → Computation Here (List Value)
-all_evaluated c es = eval_all c.call es c.env
+all_evaluated c es = eval_all (all_calls c) es c.env
 
 -- a part of a slice, None where it is absent, and what follows
 abbrev pub bound_then : Setting → OptionalExpr → (Value → Computation Here Value) → Computation Here Value
@@ -54,7 +59,7 @@ cut from to step = record { from = from; to = to; step = step }
 
 -- a new dict of these pairs and of those of the entries behind them
 abbrev pub entries_done : Setting → Place → Entries → List (Value × Value) → Computation Here Value
-entries_done c p es ps = eval_entries c.call p es c.env ps >>= new_dict
+entries_done c p es ps = eval_entries (all_calls c) p es c.env ps >>= new_dict
 
 -- an entry in front of others
 abbrev pub with_entry : Entry → Entries → Entries
@@ -74,13 +79,13 @@ written_text (plain.expr_piece e ps) = written_text ps
 
 -- the text that pieces are
 abbrev pub pieces_done : Setting → Place → Pieces → Computation Here Value
-pieces_done c p ps = eval_pieces c.call p ps c.env >>= λ t. give (text_value t)
+pieces_done c p ps = eval_pieces (all_calls c) p ps c.env >>= λ t. give (text_value t)
 
 abbrev pub assigned : Setting → Place → Expr → Value → Computation Here (Unit {0})
-assigned c p x v = assign_to c.call p x v c.env
+assigned c p x v = assign_to (all_calls c) p x v c.env
 
 abbrev pub assigned_each : Setting → Place → Exprs → List Value → Computation Here (Unit {0})
-assigned_each c p es vs = assign_each c.call p es vs c.env
+assigned_each c p es vs = assign_each (all_calls c) p es vs c.env
 
 -- the members of a value, which has as many, to these targets
 abbrev pub spread_over : Setting → Place → Exprs → Value → Computation Here (Unit {0})
@@ -88,10 +93,10 @@ spread_over c p es v = members_of p v >>= λ vs. need kind.ValueKind p (length v
 
 -- a block, and a part of one
 abbrev pub through : Setting → Ops → Part Here Nodes
-through c os = runs starlark c.call os c.env
+through c os = runs starlark (all_calls c) os c.env
 
 abbrev pub op_through : Setting → Op → Part Here Nodes
-op_through c o = run starlark c.call o c.env
+op_through c o = run starlark (all_calls c) o c.env
 
 -- ---- arguments
 
@@ -110,7 +115,7 @@ argument_value e = e
 
 -- what follows from these arguments, with others behind them
 abbrev pub arguments_then : {A : Type 0} → Setting → Exprs → (before : Arguments) → (Arguments → Computation Here A) → Computation Here A
-arguments_then c es before f = eval_arguments c.call es c.env >>= λ rest. f (both before rest)
+arguments_then c es before f = eval_arguments (all_calls c) es c.env >>= λ rest. f (both before rest)
 
 -- the same behind one more argument
 abbrev pub argument_then : {A : Type 0} → Setting → Form → Exprs → (before : Arguments) → (Arguments → Computation Here A) → Value → Computation Here A
@@ -119,8 +124,8 @@ argument_then c form es before f v = and_argument form v before >>= λ more. arg
 -- ---- keys
 
 -- what is wanted of members by these keys of theirs, and those that a function gives for the members that are left
-abbrev pub keys_then : Setting → Place → Wanted → (function : Value) → (members before : List Value) → Computation Here Value
-keys_then c p w f vs ks = keys_by c.call p f (drop (length ks) vs) >>= λ more. wanted_row p w vs (ks ++ more)
+abbrev pub keys_then : Setting → (left : ℕ) → Place → Wanted → (function : Value) → (members before : List Value) → Computation Here Value
+keys_then c left p w f vs ks = keys_by (calls_from c.function left) p f (drop (length ks) vs) >>= λ more. wanted_row p w vs (ks ++ more)
 
 -- ---- functions
 
@@ -135,7 +140,7 @@ function_made env k ds = new_object (of_function (record { name = k.name; file =
 
 -- the function with these defaults, and behind them those of the parameters
 abbrev pub making : Setting → Making → Parameters → (before : List Value) → Computation Here Value
-making c k ps before = default_values c.call ps c.env >>= λ ds. function_made c.env k (before ++ ds)
+making c k ps before = default_values (all_calls c) ps c.env >>= λ ds. function_made c.env k (before ++ ds)
 
 -- the first parameter with a default, with those behind it
 abbrev pub next_default : Parameters → Option (Expr × Parameters)
@@ -167,7 +172,7 @@ flow_made f = bag_made (built_so_far f)
 
 -- the elements of these clauses, in their scope
 abbrev pub clauses_done : Setting → Place → Clauses → Part Here Bag
-clauses_done c p cs = clauses_in_turn c.call p (element_done c.call p) cs c.env
+clauses_done c p cs = clauses_in_turn (all_calls c) p (element_done (all_calls c) p) cs c.env
 
 -- a loop of a clause over the members of a value
 abbrev pub clause_looped : Setting → Place → (target : Expr) → Clauses → Value → Part Here Bag
@@ -175,7 +180,7 @@ clause_looped c p x cs v = over_members p (members_of p v) (λ w. assigned c p x
 
 -- a whole comprehension, and what it makes of the members of its first clause: the names of all clauses are one scope
 abbrev pub comprehended : Setting → Place → Clauses → Bag → Computation Here Value
-comprehended c p cs b = comprehend c.call p (element_done c.call p) cs c.env b >>= flow_made
+comprehended c p cs b = comprehend (all_calls c) p (element_done (all_calls c) p) cs c.env b >>= flow_made
 
 abbrev pub in_scope : Setting → Env → Setting
 in_scope c own = record c { env = own ++ c.env }
@@ -224,7 +229,7 @@ acted c p (plain.binary q o a b) = evaluated c a >>= λ x. evaluated c b >>= ope
 acted c p (plain.conjunction q a b) = evaluated c a >>= λ x. truth_of x >>= λ holds. if holds then evaluated c b else give x
 acted c p (plain.disjunction q a b) = evaluated c a >>= λ x. truth_of x >>= λ holds. if holds then give x else evaluated c b
 acted c p (plain.conditional q d a b) = evaluated c d >>= λ x. truth_of x >>= λ holds. if holds then evaluated c a else evaluated c b
-acted c p (plain.call q f es) = evaluated c f >>= λ g. arguments_then c es none_given (c.call p g)
+acted c p (plain.call q f es) = evaluated c f >>= λ g. arguments_then c es none_given (all_calls c p g)
 acted c p (plain.named q x e) = ill_formed
 acted c p (plain.starred q e) = ill_formed
 acted c p (plain.double_starred q e) = ill_formed
@@ -329,7 +334,7 @@ part_done c (node_key p x) ns = written_part (node_key p x) ns
 part_done c (node_value p x) ns = written_part (node_value p x) ns
 part_done c (node_end p) ns = written_part (node_end p) ns
 part_done c (node_note p x es) ns = on_top (λ n ms. arguments_then c es none_given (λ vs. noting x vs (n ∷ ms))) ns
-part_done c (node_key_from p e) ns = node_part starlark c.call (node_key_from p e) c.env ns
+part_done c (node_key_from p e) ns = node_part starlark (all_calls c) (node_key_from p e) c.env ns
 part_done c (node_value_from p e) ns = with_two ns (evaluated c e >>= λ v. taking v ns)
 
 -- ---- steps

@@ -21,9 +21,12 @@ use Rattle.star_eval.specs.declared.frame.Flow as held
 use Rattle.star_eval.specs.declared.looped.Finished.{Finished}
 use Rattle.star_eval.specs.declared.session.Session.{Session}
 
--- A block ended so, in this scope: what is left is owned by an arena that has grown from the one there was.
-pub record Finishes (a : View) (variables : Env) (ending : Ending Here (Flow Nodes)) (e : Finished) : Type 0 where
-  pub ended : flow_ending_of (arena_of e.session) e.result (nodes_of (arena_of e.session) e.nodes) (state_of e.session) ≡ ending
+-- how a block ended
+abbrev pub block_ending : Finished → Ending Here (Flow Nodes)
+block_ending e = flow_ending_of (arena_of e.session) e.result (nodes_of (arena_of e.session) e.nodes) (state_of e.session)
+
+-- A block ended in this scope: what is left is owned by an arena that has grown from the one there was.
+pub record Finishes (a : View) (variables : Env) (e : Finished) : Type 0 where
   pub env : env_in (arena_of e.session).held e.scope ≡ variables
   pub scope : OwnsEnv (arena_of e.session) e.scope
   pub nodes : OwnsNodes (arena_of e.session) e.nodes
@@ -42,12 +45,6 @@ result_of a r = record { documents = built_in a.held r.documents; globals = glob
 pub record Owned (a : View) (r : FileResult) : Type 0 where
   pub documents : OwnsBuilt a r.documents
   pub globals : OwnsFields a r.globals
-
--- what holds of each result but want of memory
-abbrev pub UnlessMemory : {A : Type 0} → Result A Stop → Type 0 → Type 0
-UnlessMemory (Ok x) holds = holds
-UnlessMemory (Err (stop.Fault f)) holds = holds
-UnlessMemory (Err stop.Memory) holds = Unit {0}
 
 -- A file ends in this scope, with these children: it gives this, and all that it made is frozen.
 pub record EndsFile (made_before : ℕ) (env : Env) (children : Children) (after before : Session) (r : FileResult) : Type 0 where

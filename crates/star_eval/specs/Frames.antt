@@ -1,5 +1,5 @@
 -- What the machine stands for: what comes of a control in what waits around it.
-use Rattle.std.specs.Prelude.{◌≡◌, ◌-◌, ◌++◌, ◌∷◌, [], length, Bool, true, not, List, Option, Result, Ok, Err, IfOk}
+use Rattle.std.specs.Prelude.{◌≡◌, ℕ, ◌-◌, ◌++◌, ◌∷◌, [], length, Bool, true, false, not, List, Option, Result, Ok, Err, IfOk}
 use Rattle.std.specs.Option.{option_map}
 use Rattle.code_spec.specs.Code.{Name}
 use Rattle.node_build.specs.View.{OwnsNodes, nodes_of}
@@ -16,7 +16,7 @@ use Rattle.template_meaning.specs.Calls.{bottom, bottom_flow, level_of, result_o
 use Rattle.value_spec.specs.Values.{Env}
 use Rattle.ytt_base.specs.declared.fault.Fault.{Fault}
 use Rattle.value_spec.specs.Members.{is_empty}
-use Rattle.value_spec.specs.Outcomes.{State, Ending, Computation, done, bad}
+use Rattle.value_spec.specs.Outcomes.{State, Reply, Ending, Computation, done, bad}
 use Rattle.value_spec.specs.Values as plain
 use Rattle.star_spec.specs.Flow.{Flow, on, out}
 use Rattle.star_spec.specs.Language.{breaks, continues, returns}
@@ -24,12 +24,16 @@ use Rattle.star_tree.specs.Listed.{clauses_of}
 use Rattle.star_tree.specs.Whole.{expr_of}
 use Rattle.star_blocks.specs.Nested.{ops_of}
 use Rattle.star_values.specs.View.{View, value_of}
+use Rattle.star_eval.specs.declared.frame.Asking.{Asking}
 use Rattle.star_eval.specs.declared.frame.Control.{Control}
 use Rattle.star_eval.specs.declared.frame.Control.TheVariants as control
 use Rattle.star_eval.specs.declared.frame.Flow as held
 use Rattle.star_eval.specs.declared.frame.Flow.TheVariants as flow
 use Rattle.star_eval.specs.declared.frame.Frame.TheVariants as frame
 use Rattle.star_eval.specs.declared.frame.Machine.{Machine}
+use Rattle.star_eval.specs.declared.frame.Question.{Question}
+use Rattle.star_eval.specs.Calling.{after_question, after_replied}
+use Rattle.star_eval.specs.Hosts.{host_held, host_name, native_at, question_of}
 use Rattle.star_eval.specs.declared.session.Session.{Session}
 use Rattle.star_eval.specs.Meets.{Here, arena_of, state_of}
 use Rattle.star_eval.specs.Doing.{Bag, Nodes, assigned, clauses_done, evaluated, through}
@@ -54,6 +58,16 @@ flow_of a flow.Break k = out breaks k
 flow_of a flow.Continue k = out continues k
 flow_of a (flow.Return v) k = out (returns (value_of a v)) k
 
+-- what follows from what a host is asked
+abbrev pub asked_in : Machine → Asking → Question → Computation Here plain.Value
+asked_in m k q =
+    let x = native_at (arena_in m) k.native in
+    after_question (setting_of m).function k.left k.place (host_name x) (host_held x) (question_of (arena_in m) k q)
+
+-- and from what it answered
+abbrev pub after_answer : Machine → Asking → Reply → Computation Here plain.Value
+after_answer m k r = let x = native_at (arena_in m) k.native in after_replied (setting_of m).function k.left k.place (host_name x) (host_held x) r
+
 -- what comes of a control in what waits
 abbrev pub inside : Machine → List Waiting → Control → Final
 inside m ws (control.Eval e) = around_value m ws (evaluated (setting_of m) (expr_of m.code.file e.now) (state_of m.session))
@@ -66,6 +80,7 @@ inside m ws (control.Assign p x v) = around_value m ws (with_none (assigned (set
 inside m ws (control.Clauses p cs b) = around_bag m ws (clauses_done (setting_of m) p (clauses_of m.code.file cs.now) (bag_of (arena_in m) m.code.file b) (state_of m.session))
 inside m ws (control.Bagged b) = around_bag m ws (done (on (bag_of (arena_in m) m.code.file b)) (state_of m.session))
 inside m ws (control.Lost f) = around_bag m ws (bad f (state_of m.session))
+inside m ws (control.Ask k q) = around_value m ws (asked_in m k q (state_of m.session))
 
 abbrev pub means : Machine → Control → Final
 means m c = inside m (waiting_in m) c
@@ -99,6 +114,11 @@ is_active m (control.Bagged b) = not (is_empty m.frames)
 is_active m (control.Lost f) = not (is_empty m.frames)
 is_active m _ = true
 
+-- a host is asked
+abbrev pub asks_host : Control → Bool
+asks_host (control.Ask k q) = true
+asks_host _ = false
+
 -- how a block ended that goes on to this, with this fault where something else comes
 abbrev pub left_by : Fault → Control → Result held.Flow Fault
 left_by form (control.Went w) = Ok w
@@ -124,6 +144,12 @@ pub record Opened (fragment : Option ItemKind) (scope : List NamedBox) (before a
     frames = before.frames ++ frame.Call (record { depth = before.depth; scope = before.scope; nodes = before.nodes; fragment = fragment }) ∷ [];
   }
   pub meaning : (a : View) → nodes_of a nodes ≡ bottom (level_of (option_map item_kind_of fragment)) ∷ []
+  pub owned : (a : View) → OwnsNodes a nodes
+
+-- A native waits for the call with this tag, which it asked for, with the nodes that were open.
+pub record Waits (asking : Asking) (tag : ℕ) (before after : Machine) : Type 0 where
+  pub nodes : Builder
+  pub is : after ≡ record before { nodes = nodes; frames = before.frames ++ frame.Native (record { asking = asking; tag = tag; nodes = before.nodes }) ∷ [] }
   pub owned : (a : View) → OwnsNodes a nodes
 
 -- What a call gives whose block ended so. Nothing that waits has changed.

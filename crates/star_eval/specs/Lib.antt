@@ -4,6 +4,8 @@ pub mod Doing
 pub mod Finishes
 pub mod FileRun
 pub mod Frames
+pub mod Hosted
+pub mod Hosts
 pub mod Meets
 pub mod Scope
 pub mod Settled

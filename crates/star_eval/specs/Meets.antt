@@ -1,6 +1,7 @@
 -- The state that a run is in, and what a call does to it.
-use Rattle.std.specs.Prelude.{◌≡◌, ℕ, Result, Some}
+use Rattle.std.specs.Prelude.{◌≡◌, ℕ, Result, Ok, Err, Some}
 use Rattle.ytt_base.specs.declared.fault.Stop.{Stop}
+use Rattle.ytt_base.specs.declared.fault.Stop.TheVariants as stop
 use Rattle.value_spec.specs.Outcomes.{State, Computation, on_store}
 use Rattle.value_spec.specs.Store.{begin_loop, end_loop}
 use Rattle.value_spec.specs.Values as plain
@@ -11,7 +12,7 @@ use Rattle.star_values.specs.declared.value.Value.{Value}
 use Rattle.star_steps.specs.Meets.{Gives, Meets, as_is, state_in}
 use Rattle.star_eval.specs.declared.session.Session.{Session}
 
--- so far no host takes part
+-- no host takes part in what the machine does: where one is asked, its loop asks it
 abbrev pub Here : Type 0
 Here = Unit {0}
 
@@ -35,6 +36,12 @@ Does view result after before m = Meets view result (state_of after) (m (state_o
 -- a call gives the value of a computation, or ends as it does
 abbrev pub GivesFrom : Computation Here plain.Value → Result Value Stop → (after before : Session) → Type 0
 GivesFrom m result after before = Gives (m (state_of before)) result (arena_of before) (arena_of after) after.work.steps
+
+-- what holds of each result but want of memory
+abbrev pub UnlessMemory : {A : Type 0} → Result A Stop → Type 0 → Type 0
+UnlessMemory (Ok x) holds = holds
+UnlessMemory (Err (stop.Fault f)) holds = holds
+UnlessMemory (Err stop.Memory) holds = Unit {0}
 
 -- a call does what a computation does, and what is held in the arena stays the same
 pub record Acts (m : Computation Here Here) (result : Result Here Stop) (after before : Session) : Type 0 where

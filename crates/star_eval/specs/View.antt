@@ -42,8 +42,10 @@ use Rattle.star_eval.specs.declared.frame.InValue as held_value
 use Rattle.star_eval.specs.declared.frame.InValue.TheVariants as in_value
 use Rattle.star_eval.specs.declared.frame.Machine.{Machine}
 use Rattle.star_eval.specs.declared.frame.Making as held_making
+use Rattle.star_eval.specs.declared.frame.Pending.{Pending}
+use Rattle.star_eval.specs.Hosts.{OwnsHosted, OwnsQuestion, host_held, host_name, native_at}
 use Rattle.star_eval.specs.Meets.{arena_of}
-use Rattle.star_eval.specs.Calling.{calls_at}
+use Rattle.star_eval.specs.Calling.{functions_at}
 use Rattle.star_eval.specs.Doing as doing
 use Rattle.star_eval.specs.Doing.{Nodes, Setting}
 use Rattle.star_eval.specs.Sources.{OwnsSource, Walked, left_of}
@@ -101,7 +103,7 @@ value_frame a file (in_value.Argument p g f es given) = plain.argument p (value_
 value_frame a file (in_value.Default k ps vs) = plain.default_of (making_of k) (parameters_of file ps.now) (values_of a vs)
 value_frame a file (in_value.First p cs b) = plain.first_members p (clauses_of file cs.now) (bag_of a file b)
 value_frame a file (in_value.Attribute p x) = plain.attribute_of p x.now
-value_frame a file (in_value.Key p w f vs ks) = plain.next_key p (wanted_of w) (value_of a f) (values_of a vs) (values_of a ks)
+value_frame a file (in_value.Key left p w f vs ks) = plain.next_key left p (wanted_of w) (value_of a f) (values_of a vs) (values_of a ks)
 value_frame a file (in_value.Unbuilt p) = plain.unbuilt p
 
 abbrev pub statement_frame : View → (file : ℕ) → held_statement.InStatement → plain.InStatement
@@ -137,7 +139,12 @@ clauses_frame a file (in_clauses.Turn p x cs s) = plain.clause_turn p (expr_of f
 clauses_frame a file (in_clauses.WalkEnd r) = plain.clause_walk_end r.at
 
 abbrev pub caller_of : View → Code → Caller → plain.Waiting
-caller_of a code c = plain.caller (calls_at code.file code.functions c.depth) (env_in a.held c.scope) (nodes_of a c.nodes) (option_map item_kind_of c.fragment)
+caller_of a code c = plain.caller (functions_at code.file code.functions c.depth) (env_in a.held c.scope) (nodes_of a c.nodes) (option_map item_kind_of c.fragment)
+
+abbrev pub native_frame : View → Pending → plain.Waiting
+native_frame a p =
+    let x = native_at a p.asking.native in
+    plain.in_native (record { left = p.asking.left; place = p.asking.place; name = host_name x; held = host_held x; tag = p.tag }) (nodes_of a p.nodes)
 
 abbrev pub frame_of : View → Code → Frame → plain.Waiting
 frame_of a code (frame.Value f) = plain.in_value (value_frame a code.file f)
@@ -147,6 +154,7 @@ frame_of a code (frame.Element f) = plain.in_element (element_frame a code.file 
 frame_of a code (frame.Clauses f) = plain.in_clauses (clauses_frame a code.file f)
 frame_of a code (frame.Gather scope) = plain.gather (env_in a.held scope)
 frame_of a code (frame.Call c) = caller_of a code c
+frame_of a code (frame.Native p) = native_frame a p
 
 abbrev pub frames_of : View → Code → List Frame → List plain.Waiting
 frames_of a code fs = each (frame_of a code) fs
@@ -160,7 +168,7 @@ abbrev pub env_of : Machine → Env
 env_of m = env_in (arena_in m).held m.scope
 
 abbrev pub setting_of : Machine → Setting
-setting_of m = record { call = calls_at m.code.file m.code.functions m.depth; env = env_of m }
+setting_of m = plain.setting (functions_at m.code.file m.code.functions m.depth) (env_of m)
 
 abbrev pub nodes_in : Machine → Nodes
 nodes_in m = nodes_of (arena_in m) m.nodes
@@ -194,7 +202,7 @@ OwnsInValue a (in_value.Index f) = OwnsInIndex a f
 OwnsInValue a (in_value.Argument p g f es given) = Owns a g × OwnsArguments a given
 OwnsInValue a (in_value.Default k ps vs) = OwnsAll a vs
 OwnsInValue a (in_value.First p cs b) = OwnsBag a b
-OwnsInValue a (in_value.Key p w f vs ks) = Owns a f × OwnsAll a vs × OwnsAll a ks
+OwnsInValue a (in_value.Key left p w f vs ks) = Owns a f × OwnsAll a vs × OwnsAll a ks
 OwnsInValue a _ = Unit {0}
 
 abbrev pub OwnsInStatement : View → held_statement.InStatement → Type 0
@@ -225,6 +233,9 @@ OwnsInClauses a (in_clauses.WalkEnd r) = Walked a r
 abbrev pub OwnsCaller : View → Caller → Type 0
 OwnsCaller a c = OwnsEnv a c.scope × OwnsNodes a c.nodes
 
+abbrev pub OwnsPending : View → Pending → Type 0
+OwnsPending a p = OwnsHosted a p.asking.native × OwnsNodes a p.nodes
+
 abbrev pub OwnsFrame : View → Frame → Type 0
 OwnsFrame a (frame.Value f) = OwnsInValue a f
 OwnsFrame a (frame.Statement f) = OwnsInStatement a f
@@ -233,6 +244,7 @@ OwnsFrame a (frame.Element f) = OwnsInElement a f
 OwnsFrame a (frame.Clauses f) = OwnsInClauses a f
 OwnsFrame a (frame.Gather scope) = OwnsEnv a scope
 OwnsFrame a (frame.Call c) = OwnsCaller a c
+OwnsFrame a (frame.Native p) = OwnsPending a p
 
 abbrev pub OwnsFlow : View → held.Flow → Type 0
 OwnsFlow a (flow.Return v) = Owns a v
@@ -244,6 +256,7 @@ OwnsControl a (control.Went w) = OwnsFlow a w
 OwnsControl a (control.Assign p x v) = Owns a v
 OwnsControl a (control.Clauses p cs b) = OwnsBag a b
 OwnsControl a (control.Bagged b) = OwnsBag a b
+OwnsControl a (control.Ask k q) = OwnsHosted a k.native × OwnsQuestion a q
 OwnsControl a _ = Unit {0}
 
 -- all that the machine holds is owned by its arena

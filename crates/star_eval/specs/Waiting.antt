@@ -7,7 +7,7 @@ use Rattle.code_spec.specs.Code.{BinaryOperator, Clauses, Entries, Expr, Exprs, 
 use Rattle.code_spec.specs.Program.{ItemKind}
 use Rattle.value_spec.specs.Outcomes.{Computation, Ending, finally, give, ill_formed, new_list, not_built, on_store, then_do, ◌>>=◌}
 use Rattle.value_spec.specs.Store.{begin_loop, end_loop}
-use Rattle.value_spec.specs.Values.{Arguments, Env, Value, none_value, tuple_value, values_from}
+use Rattle.value_spec.specs.Values.{Arguments, Env, Value, Values, none_value, tuple_value, values_from}
 use Rattle.builtin_spec.specs.Attributes.{attribute_row}
 use Rattle.builtin_spec.specs.Operators.{assignment_row, operator_row}
 use Rattle.builtin_spec.specs.Sorting.{Wanted}
@@ -15,13 +15,15 @@ use Rattle.operator_spec.specs.Operators.{unary_row}
 use Rattle.index_spec.specs.Index.{index_row, set_index_row}
 use Rattle.index_spec.specs.Slices.{slice_row}
 use Rattle.star_calls.specs.Arguments.{Form, none_given}
+use Rattle.star_spec.specs.Calls.{asking, resumed_with}
 use Rattle.star_spec.specs.Eval.{display_pair, truth_of, turn_pair}
 use Rattle.star_spec.specs.Flow.{Flow, Part, go_on, next_turn, on, out, turns}
 use Rattle.star_spec.specs.Language.{Call, returns}
 use Rattle.star_spec.specs.Names.{box_of, write_name}
 use Rattle.node_build.specs.Parts.{noting, taking}
 use Rattle.template_meaning.specs.Calls.{bottom_flow, result_of}
-use Rattle.star_eval.specs.Doing.{Bag, Making, Nodes, Setting, all_evaluated, argument_then, arguments_then, assigned, assigned_each, augmented_in, bound_then, branched, changed_at, clause_looped, clauses_done, cut, entries_done, evaluated, first_done, flow_made, keys_then, looped, making, pairs_bag, through, values_bag}
+use Rattle.star_eval.specs.Calling.{after_replied}
+use Rattle.star_eval.specs.Doing.{Bag, Making, Nodes, Setting, all_calls, all_evaluated, argument_then, arguments_then, assigned, assigned_each, augmented_in, bound_then, branched, changed_at, clause_looped, clauses_done, cut, entries_done, evaluated, first_done, flow_made, keys_then, looped, making, pairs_bag, through, values_bag}
 use Rattle.star_eval.specs.Meets.{Here}
 
 -- what members are gathered for
@@ -58,7 +60,7 @@ pub data InValue : Type 0 where
   default_of : Making → Parameters → (before : List Value) → InValue
   first_members : Place → Clauses → Bag → InValue
   attribute_of : Place → Name → InValue
-  next_key : Place → Wanted → (function : Value) → (members before : List Value) → InValue
+  next_key : (left : ℕ) → Place → Wanted → (function : Value) → (members before : List Value) → InValue
   unbuilt : Place → InValue
 
 -- a value in a statement, or in a node
@@ -97,8 +99,16 @@ pub data InClauses : Type 0 where
   clause_turn : Place → Expr → Clauses → List Value → InClauses
   clause_walk_end : (object : ℕ) → InClauses
 
+-- a native of a host, for the end of the call with this tag, which it asked for; so many more it may ask for
+pub record InNative : Type 0 where
+  pub left : ℕ
+  pub place : Place
+  pub name : Name
+  pub held : Values
+  pub tag : ℕ
+
 -- `gather` waits for what a comprehension has gathered, in the scope around it; `caller` for the end of a call, with what its
--- block built as a fragment or not
+-- block built as a fragment or not; `in_native` with the nodes that are open around it
 pub data Waiting : Type 0 where
   in_value : InValue → Waiting
   in_statement : InStatement → Waiting
@@ -106,7 +116,8 @@ pub data Waiting : Type 0 where
   in_element : InElement → Waiting
   in_clauses : InClauses → Waiting
   gather : Env → Waiting
-  caller : Call Here → Env → Nodes → (fragment : Option ItemKind) → Waiting
+  caller : (function : Call Here) → Env → Nodes → (fragment : Option ItemKind) → Waiting
+  in_native : InNative → Nodes → Waiting
 
 -- ---- what comes of each
 
@@ -133,12 +144,12 @@ value_goes c (step_of p x y k) z = bound_then c k (λ w. slice_row p x (cut y z 
 value_goes c (cut_at p x y z) w = slice_row p x (cut y z w)
 value_goes c (target_of p i v) x = evaluated c i >>= λ y. with_none (set_index_row p x y v)
 value_goes c (target_at p x v) y = with_none (set_index_row p x y v)
-value_goes c (callee p es) g = arguments_then c es none_given (c.call p g)
-value_goes c (argument p g form es before) v = argument_then c form es before (c.call p g) v
+value_goes c (callee p es) g = arguments_then c es none_given (all_calls c p g)
+value_goes c (argument p g form es before) v = argument_then c form es before (all_calls c p g) v
 value_goes c (default_of k ps before) v = making c k ps (before ++ v ∷ [])
 value_goes c (first_members p cs b) v = first_done c p cs b v
 value_goes c (attribute_of p x) v = attribute_row p v x
-value_goes c (next_key p w f vs ks) k = keys_then c p w f vs (ks ++ k ∷ [])
+value_goes c (next_key left p w f vs ks) k = keys_then c left p w f vs (ks ++ k ∷ [])
 value_goes c (unbuilt p) v = not_built p
 
 abbrev pub statement_goes : Setting → InStatement → Value → Part Here Nodes
@@ -192,12 +203,16 @@ pub data Final : Type 0 where
 abbrev pub in_env : Setting → Env → Setting
 in_env c env = record c { env = env }
 
-abbrev pub setting : Call Here → Env → Setting
-setting call env = record { call = call; env = env }
+abbrev pub setting : (function : Call Here) → Env → Setting
+setting f env = record { function = f; env = env }
 
 -- what a call gives at the end of its block
 abbrev pub call_gives : (fragment : Option ItemKind) → Ending Here (Flow Nodes) → Ending Here Value
 call_gives fragment r = then_do r (λ f. give (result_of fragment (bottom_flow f)))
+
+-- what a native goes on to from how the call ended that it asked for: it is told of a fault too
+abbrev pub native_ends : Setting → InNative → Ending Here Value → Ending Here Value
+native_ends c w r = then_do (resumed_with asking w.place w.name w.held w.tag r) (after_replied c.function w.left w.place w.name w.held)
 
 -- What comes of what waits around a value, with the nodes that are open, around the end of a block, or around what a
 -- comprehension has gathered, the innermost first. Where another one comes, the program is in no proper form.
@@ -210,7 +225,8 @@ abbrev mutual
   unwind_value c k (in_element w ∷ ws) r = unwind_bag c k ws (then_do r (element_goes c w))
   unwind_value c k (in_clauses w ∷ ws) r = unwind_bag c k ws (clauses_end c w (then_do r (λ v. ill_formed)))
   unwind_value c k (gather env ∷ ws) r = unwind_value (in_env c env) k ws (then_do r (λ v. ill_formed))
-  unwind_value c k (caller call env j fragment ∷ ws) r = unwind_value (setting call env) j ws r
+  unwind_value c k (caller f env j fragment ∷ ws) r = unwind_value (setting f env) j ws r
+  unwind_value c k (in_native w j ∷ ws) r = unwind_value c j ws (native_ends c w r)
 
   pub unwind_flow : Setting → List Waiting → Ending Here (Flow Nodes) → Final
   unwind_flow c [] r = flow_end c.env r
@@ -220,7 +236,8 @@ abbrev mutual
   unwind_flow c (in_element w ∷ ws) r = unwind_bag c [] ws (then_do r (λ f. ill_formed))
   unwind_flow c (in_clauses w ∷ ws) r = unwind_bag c [] ws (clauses_end c w (then_do r (λ f. ill_formed)))
   unwind_flow c (gather env ∷ ws) r = unwind_value (in_env c env) [] ws (then_do r (λ f. ill_formed))
-  unwind_flow c (caller call env j fragment ∷ ws) r = unwind_value (setting call env) j ws (call_gives fragment r)
+  unwind_flow c (caller f env j fragment ∷ ws) r = unwind_value (setting f env) j ws (call_gives fragment r)
+  unwind_flow c (in_native w j ∷ ws) r = unwind_value c j ws (native_ends c w (then_do r (λ f. ill_formed)))
 
   pub unwind_bag : Setting → Nodes → List Waiting → Ending Here (Flow Bag) → Final
   unwind_bag c k [] r = bag_end c.env r
@@ -230,7 +247,8 @@ abbrev mutual
   unwind_bag c k (in_element w ∷ ws) r = unwind_bag c k ws (then_do r (λ f. ill_formed))
   unwind_bag c k (in_clauses w ∷ ws) r = unwind_bag c k ws (clauses_end c w r)
   unwind_bag c k (gather env ∷ ws) r = unwind_value (in_env c env) k ws (then_do r flow_made)
-  unwind_bag c k (caller call env j fragment ∷ ws) r = unwind_value (setting call env) j ws (then_do r (λ f. ill_formed))
+  unwind_bag c k (caller f env j fragment ∷ ws) r = unwind_value (setting f env) j ws (then_do r (λ f. ill_formed))
+  unwind_bag c k (in_native w j ∷ ws) r = unwind_value c j ws (native_ends c w (then_do r (λ f. ill_formed)))
 
 -- how the expression ended, or the block
 abbrev pub value_ends : Final → Ending Here Value

@@ -5,7 +5,7 @@ ghost use Rattle.star_calls.specs.View.{form_of};
 ghost use Rattle.star_tree.specs.Whole.{expr_of, exprs_of};
 ghost use Rattle.star_values.specs.Owns.{Owns, OwnsArguments};
 ghost use Rattle.star_values.specs.View.{arguments_in, value_of};
-ghost use Rattle.star_eval.specs.Doing.{argument_form, argument_then, argument_value, arguments_then};
+ghost use Rattle.star_eval.specs.Doing.{all_calls, argument_form, argument_then, argument_value, arguments_then};
 ghost use Rattle.star_eval.specs.Frames.{GoesToFlow, GoesToValue};
 ghost use Rattle.star_eval.specs.View.{Sound, arena_in, nodes_in, setting_of};
 
@@ -78,7 +78,7 @@ pub(crate) fn call_with<'p>(
     requires sound { Sound m.old }
     requires function { Owns (arena_in m.old) function }
     requires given { OwnsArguments (arena_in m.old) given }
-    ensures { GoesToValue result m.new m.old (arguments_then (setting_of m.old) (exprs_of m.old.code.file exprs.now) (arguments_in (arena_in m.old).held given) ((setting_of m.old).call place (value_of (arena_in m.old) function))) }
+    ensures { GoesToValue result m.new m.old (arguments_then (setting_of m.old) (exprs_of m.old.code.file exprs.now) (arguments_in (arena_in m.old).held given) (all_calls (setting_of m.old) place (value_of (arena_in m.old) function))) }
 {
     match exprs.split_first() {
         None => call(m, place, function, given),
@@ -104,7 +104,7 @@ pub(crate) fn argued<'p>(
     requires function { Owns (arena_in m.old) function }
     requires given { OwnsArguments (arena_in m.old) given }
     requires value { Owns (arena_in m.old) value }
-    ensures { GoesToValue result m.new m.old (argument_then (setting_of m.old) (form_of form.entry) (exprs_of m.old.code.file rest.now) (arguments_in (arena_in m.old).held given) ((setting_of m.old).call place (value_of (arena_in m.old) function)) (value_of (arena_in m.old) value)) }
+    ensures { GoesToValue result m.new m.old (argument_then (setting_of m.old) (form_of form.entry) (exprs_of m.old.code.file rest.now) (arguments_in (arena_in m.old).held given) (all_calls (setting_of m.old) place (value_of (arena_in m.old) function)) (value_of (arena_in m.old) value)) }
 {
     match add_argument(&m.session.arena, form, value, given) {
         Ok(more) => call_with(m, place, function, rest, more),

@@ -1,5 +1,5 @@
 // Calls of values, and their ends.
-ghost use Rattle.std.specs.Prelude.{◌≡◌, ◌-◌, ◌≤◌, ◌∷◌, [], ℕ, IfOk, option_map};
+ghost use Rattle.std.specs.Prelude.{false, ◌≡◌, ◌-◌, ◌≤◌, ◌∷◌, [], ℕ, IfOk, option_map};
 ghost use Rattle.star_spec.specs.Calls.{enter_code, parameters_of};
 ghost use Rattle.star_tree.specs.View.{item_kind_of};
 ghost use Rattle.star_tree.specs.Whole as whole;
@@ -13,13 +13,16 @@ ghost use Rattle.star_values.specs.declared.value.Value.TheVariants as value;
 ghost use Rattle.template_meaning.specs.Calls.{enter_ops, level_of};
 ghost use Rattle.value_spec.specs.Values.{function_value};
 ghost use Rattle.star_eval.specs.declared.frame.Control.TheVariants as control;
-ghost use Rattle.star_eval.specs.Calling.{calls_at};
+ghost use Rattle.star_eval.specs.Calling.{calls_at, calls_from};
 ghost use Rattle.star_eval.specs.Asking.{called_with, keys_in};
+ghost use Rattle.star_eval.specs.Doing.{all_calls};
+ghost use Rattle.star_eval.specs.Hosts.{is_hosted, native_at};
 ghost use Rattle.star_eval.specs.Frames.{Goes, GoesToValue, Opened, ResultGiven, inside};
 ghost use Rattle.star_eval.specs.View.{OwnsCaller, OwnsFlow, Sound, arena_in, caller_of, setting_of, waiting_in};
 
-use crate::frame::{Caller, Control, Flow, Frame, InValue, Machine};
+use crate::frame::{Asking, Caller, Control, Flow, Frame, InValue, Machine, Question};
 use crate::machine::{failed, ill_formed, settle};
+use crate::natives::is_hosted;
 use node_build::Builder;
 use object_arena::{Boxes, CallArgs, Ref, Value, Values};
 use sqlite_items::Items;
@@ -44,11 +47,28 @@ pub(crate) fn call<'p>(
     requires sound { Sound m.old }
     requires function { Owns (arena_in m.old) function }
     requires args { OwnsArguments (arena_in m.old) args }
-    ensures { GoesToValue result m.new m.old ((setting_of m.old).call place (value_of (arena_in m.old) function) (arguments_in (arena_in m.old).held args)) }
+    ensures { GoesToValue result m.new m.old (all_calls (setting_of m.old) place (value_of (arena_in m.old) function) (arguments_in (arena_in m.old).held args)) }
+{
+    let left = m.session.work.steps;
+    call_within(m, left, place, function, args)
+}
+
+/// A call of a value, in which natives may ask for so many calls.
+pub(crate) fn call_within<'p>(
+    m: &mut Machine<'p>,
+    left: u64,
+    place: Place,
+    function: Value,
+    args: CallArgs,
+) -> Result<Control<'p>, Memory>
+    requires sound { Sound m.old }
+    requires function { Owns (arena_in m.old) function }
+    requires args { OwnsArguments (arena_in m.old) args }
+    ensures { GoesToValue result m.new m.old (calls_from (setting_of m.old).function left place (value_of (arena_in m.old) function) (arguments_in (arena_in m.old).held args)) }
 {
     match function {
         Value::Func(function) => call_function(m, place, function, args),
-        Value::Native(native) => call_native(m, place, native, args),
+        Value::Native(native) => call_native(m, left, place, native, args),
         Value::None
         | Value::Bool(_)
         | Value::Int(_)
@@ -63,9 +83,10 @@ pub(crate) fn call<'p>(
     }
 }
 
-/// A call of a native: the language's own answer it, or ask for keys, and no host knows any other.
+/// A call of a native: a host is asked for its own.
 fn call_native<'p>(
     m: &mut Machine<'p>,
+    left: u64,
     place: Place,
     native: Ref,
     args: CallArgs,
@@ -73,7 +94,32 @@ fn call_native<'p>(
     requires sound { Sound m.old }
     requires native { Owns (arena_in m.old) (value.Native native) }
     requires args { OwnsArguments (arena_in m.old) args }
-    ensures { GoesToValue result m.new m.old ((setting_of m.old).call place (value_of (arena_in m.old) (value.Native native)) (arguments_in (arena_in m.old).held args)) }
+    ensures { GoesToValue result m.new m.old (calls_from (setting_of m.old).function left place (value_of (arena_in m.old) (value.Native native)) (arguments_in (arena_in m.old).held args)) }
+{
+    if is_hosted(&m.session.arena, native) {
+        let asking = Asking {
+            left,
+            place,
+            native,
+        };
+        return Ok(Control::Ask(asking, Question::Called(args)));
+    }
+    call_own(m, left, place, native, args)
+}
+
+/// A call of a native of the language, which answers it, or asks for keys.
+fn call_own<'p>(
+    m: &mut Machine<'p>,
+    left: u64,
+    place: Place,
+    native: Ref,
+    args: CallArgs,
+) -> Result<Control<'p>, Memory>
+    requires sound { Sound m.old }
+    requires native { Owns (arena_in m.old) (value.Native native) }
+    requires own { is_hosted (native_at (arena_in m.old) native) ≡ false }
+    requires args { OwnsArguments (arena_in m.old) args }
+    ensures { GoesToValue result m.new m.old (calls_from (setting_of m.old).function left place (value_of (arena_in m.old) (value.Native native)) (arguments_in (arena_in m.old).held args)) }
 {
     match own_call(
         &mut m.session.arena,
@@ -85,7 +131,7 @@ fn call_native<'p>(
         Ok(Asked::Value(value)) => Ok(Control::Gave(value)),
         Ok(Asked::Keys(wanted, function, members)) => {
             let keys = Items::new(m.session.arena.alloc());
-            next_key(m, place, wanted, function, members, keys)
+            next_key(m, left, place, wanted, function, members, keys)
         }
         Err(Stop::Fault(fault)) => Ok(Control::Failed(fault)),
         Err(Stop::Memory) => Err(Memory),
@@ -95,6 +141,7 @@ fn call_native<'p>(
 /// What is wanted of members by these keys of theirs, and those that a function gives for the members that are left.
 pub(crate) fn next_key<'p>(
     m: &mut Machine<'p>,
+    left: u64,
     place: Place,
     wanted: Wanted,
     function: Value,
@@ -105,7 +152,7 @@ pub(crate) fn next_key<'p>(
     requires function { Owns (arena_in m.old) function }
     requires members { OwnsAll (arena_in m.old) members }
     requires keys { OwnsAll (arena_in m.old) keys }
-    ensures { GoesToValue result m.new m.old (keys_in m.old place wanted function members keys) }
+    ensures { GoesToValue result m.new m.old (keys_in m.old left place wanted function members keys) }
 {
     match members.get(keys.len()) {
         None => settle(choose(
@@ -118,9 +165,9 @@ pub(crate) fn next_key<'p>(
         )),
         Some(member) => {
             let member = *member;
-            let frame = InValue::Key(place, wanted, function, members, keys);
+            let frame = InValue::Key(left, place, wanted, function, members, keys);
             m.frames.push(Frame::Value(frame))?;
-            call_for_key(m, place, function, member)
+            call_for_key(m, left, place, function, member)
         }
     }
 }
@@ -138,6 +185,7 @@ fn one_argument(alloc: Global, value: Value) -> Result<CallArgs, Memory>
 /// A call of a value with one argument.
 fn call_for_key<'p>(
     m: &mut Machine<'p>,
+    left: u64,
     place: Place,
     function: Value,
     member: Value,
@@ -145,12 +193,12 @@ fn call_for_key<'p>(
     requires sound { Sound m.old }
     requires function { Owns (arena_in m.old) function }
     requires member { Owns (arena_in m.old) member }
-    ensures { GoesToValue result m.new m.old (called_with m.old place function member) }
+    ensures { GoesToValue result m.new m.old (called_with m.old left place function member) }
 {
     let args = one_argument(m.session.arena.alloc(), member)?;
     match function {
         Value::Func(function) => call_function(m, place, function, args),
-        Value::Native(native) => native_for_key(m, place, native, member, args),
+        Value::Native(native) => native_for_key(m, left, place, native, member, args),
         Value::None
         | Value::Bool(_)
         | Value::Int(_)
@@ -165,9 +213,10 @@ fn call_for_key<'p>(
     }
 }
 
-/// A call of a native with this member as its one argument, for which none asks for keys.
+/// A call of a native with this member as its one argument: a host is asked for its own.
 fn native_for_key<'p>(
     m: &mut Machine<'p>,
+    left: u64,
     place: Place,
     native: Ref,
     member: Value,
@@ -177,7 +226,34 @@ fn native_for_key<'p>(
     requires native { Owns (arena_in m.old) (value.Native native) }
     requires member { Owns (arena_in m.old) member }
     requires args { args ≡ record { positional = member ∷ []; named = [] } }
-    ensures { GoesToValue result m.new m.old (called_with m.old place (value.Native native) member) }
+    ensures { GoesToValue result m.new m.old (called_with m.old left place (value.Native native) member) }
+{
+    if is_hosted(&m.session.arena, native) {
+        let asking = Asking {
+            left,
+            place,
+            native,
+        };
+        return Ok(Control::Ask(asking, Question::Called(args)));
+    }
+    own_for_key(m, left, place, native, member, args)
+}
+
+/// A call of a native of the language with this member as its one argument, for which none asks for keys.
+fn own_for_key<'p>(
+    m: &mut Machine<'p>,
+    left: u64,
+    place: Place,
+    native: Ref,
+    member: Value,
+    args: CallArgs,
+) -> Result<Control<'p>, Memory>
+    requires sound { Sound m.old }
+    requires native { Owns (arena_in m.old) (value.Native native) }
+    requires own { is_hosted (native_at (arena_in m.old) native) ≡ false }
+    requires member { Owns (arena_in m.old) member }
+    requires args { args ≡ record { positional = member ∷ []; named = [] } }
+    ensures { GoesToValue result m.new m.old (called_with m.old left place (value.Native native) member) }
 {
     match own_call(
         &mut m.session.arena,
@@ -203,7 +279,7 @@ fn call_function<'p>(
     requires sound { Sound m.old }
     requires function { OwnsObjectRef (arena_in m.old) sort.Func function }
     requires args { OwnsArguments (arena_in m.old) args }
-    ensures { GoesToValue result m.new m.old ((setting_of m.old).call place (function_value function.at) (arguments_in (arena_in m.old).held args)) }
+    ensures { GoesToValue result m.new m.old ((setting_of m.old).function place (function_value function.at) (arguments_in (arena_in m.old).held args)) }
 {
     let number = m.session.arena.function(function).code as usize;
     if m.depth == 0 {

@@ -9,7 +9,7 @@ ghost use Rattle.star_values.specs.Objects.{env_in, pairs_in};
 ghost use Rattle.star_values.specs.Owns.{Each, Owns, OwnsEnv, OwnsPair};
 ghost use Rattle.star_values.specs.View.{value_of};
 ghost use Rattle.value_spec.specs.Outcomes.{give, then_do};
-ghost use Rattle.star_eval.specs.Doing.{bag_made, clause_looped, clauses_done, comprehended, element_done, first_done, pairs_bag};
+ghost use Rattle.star_eval.specs.Doing.{all_calls, bag_made, clause_looped, clauses_done, comprehended, element_done, first_done, pairs_bag};
 ghost use Rattle.star_eval.specs.declared.frame.Frame.TheVariants as frames;
 ghost use Rattle.star_eval.specs.Frames.{Goes, GoesToBag, GoesToValue, OpensClauses, inside};
 ghost use Rattle.star_eval.specs.Meets.{arena_of};
@@ -46,7 +46,7 @@ pub(crate) fn comprehension<'p>(
     ensures { GoesToValue result m.new m.old (comprehended (setting_of m.old) place (clauses_of m.old.code.file clauses.now) (bag_of (arena_in m.old) m.old.code.file bag.entry)) }
 {
     match clauses.as_slice().split_first() {
-        Some((Clause::ForIn(_, members), _)) => {
+        Some((Clause::ForIn(_target, members), _rest)) => {
             let frame = InValue::First(place, clauses, bag);
             push(m, Frame::Value(frame), Control::Eval(members.get()))
         }
@@ -249,7 +249,7 @@ pub(crate) fn clauses<'p>(
 fn element<'p>(m: &mut Machine<'p>, place: Place, bag: Bag<'p>) -> Result<Control<'p>, Memory>
     requires sound { Sound m.old }
     requires bag { OwnsBag (arena_in m.old) bag }
-    ensures { GoesToBag result m.new m.old (element_done (setting_of m.old).call place (setting_of m.old).env (bag_of (arena_in m.old) m.old.code.file bag.entry)) }
+    ensures { GoesToBag result m.new m.old (element_done (all_calls (setting_of m.old)) place (setting_of m.old).env (bag_of (arena_in m.old) m.old.code.file bag.entry)) }
 {
     match bag {
         Bag::Values(expr, values) => {

@@ -16,6 +16,7 @@ ghost use Rattle.star_eval.specs.Finishes.{EndsFile, Leaves, globals_of};
 ghost use Rattle.star_eval.specs.Meets.{arena_of};
 
 use crate::frame::Code;
+use crate::host::Host;
 use crate::looped::{Finished, run_block};
 use crate::session::Session;
 use node_build::Builder;
@@ -85,23 +86,25 @@ fn end(
     Ok(FileResult { documents, globals })
 }
 
-/// Runs a program in a session, where it loads nothing and its scope has the names of its file, as `compile` of `template_program`
-/// gives it. The result is what the program means, from the objects and the steps that the session has: its documents and its
-/// globals, or the fault that it ends with, at its place; and the session is left with the objects and the steps that are left, and
-/// as deep as it was. What it held before stays what it was, after a fault too. All that the file made is frozen at its end, but not
-/// where it ends with a fault.
+/// Runs a program in a session, with a host that answers the natives which aren't the language's own, where it loads nothing and its
+/// scope has the names of its file, as `compile` of `template_program` gives it. The result is what the program means, from the objects
+/// and the steps that the session has and the host's state: its documents and its globals, or the fault that it ends with, at its place.
+/// The session is left with the objects and the steps that are left, and as deep as it was, and the host in the state that its last answer
+/// left. What the session held before stays what it was, after a fault too. All that the file made is frozen at its end, but not where it
+/// ends with a fault.
 ///
 /// A pair whose key stands already is `KeyTwice` with the key, a name that has no value yet `NameUnset` with the
 /// name, a value that an operator, a loop or a target isn't for `ValueKind`, an integer outside 128 bits
 /// `IntOverflow`, a division by zero `DivideZero`, tuples that nest too deep `TooDeep`, arguments that don't fit parameters `ArgBind`,
 /// a call past the session's depth `Depth`, and an act for which no step is left `Steps`. A program whose blocks aren't closed as they
 /// should be is `CodeForm` at no place. After want of memory the session is of no use.
-pub fn run_file(
+pub fn run_file<H: Host>(
     alloc: Global,
     resolved: &Resolved,
     session: &mut Session,
+    host: &mut H,
 ) -> Result<FileResult, Stop>
-    ensures runs { resolved.now.globals ≡ each_once (program_names (program_of resolved.now.program)) → RunsAs (program_of resolved.now.program) session.old.work.depth result session.new session.old }
+    ensures runs { resolved.now.globals ≡ each_once (program_names (program_of resolved.now.program)) → RunsAs H.answers (program_of resolved.now.program) session.old.work.depth result session.new session.old host.new host.old }
     ensures depth { session.new.work.depth ≡ session.old.work.depth }
 {
     let program = &resolved.program;
@@ -118,7 +121,16 @@ pub fn run_file(
     };
     let own = mem::replace(session, Session::new(alloc, 0, depth));
     let nodes = Builder::new(alloc);
-    let finished = run_block(alloc, code, depth, block.as_slice(), scope, own, nodes)?;
+    let finished = run_block(
+        alloc,
+        code,
+        depth,
+        block.as_slice(),
+        scope,
+        own,
+        nodes,
+        host,
+    )?;
     left(alloc, finished, mark, depth, session)
 }
 

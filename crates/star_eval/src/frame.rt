@@ -103,8 +103,8 @@ pub(crate) enum InValue<'p> {
     First(Place, &'p Items<Clause>, Bag<'p>),
     /// The attribute of the value.
     Attribute(Place, &'p Text),
-    /// The key of the next of these members, which a function gives, behind these keys.
-    Key(Place, Wanted, Value, Values, Values),
+    /// The key of the next of these members, which a function gives, behind these keys; so many calls natives may ask for.
+    Key(u64, Place, Wanted, Value, Values, Values),
     /// What isn't built yet.
     Unbuilt(Place),
 }
@@ -185,6 +185,31 @@ pub(crate) struct Caller {
     pub fragment: Option<ItemKind>,
 }
 
+/// A native of a host that was called: how many calls it may still ask for, where it was called, and which it is.
+#[derive(Clone, Copy)]
+pub(crate) struct Asking {
+    pub left: u64,
+    pub place: Place,
+    pub native: Ref,
+}
+
+/// What a host is asked.
+#[derive(Drop)]
+pub(crate) enum Question {
+    /// The native is called with these arguments.
+    Called(CallArgs),
+    /// The call with this tag, which the native asked for, has come to this.
+    Resumed(u64, Result<Value, Fault>),
+}
+
+/// What goes on where a call ends that a native asked for: the native, the tag of the call, and the open nodes.
+#[derive(Drop)]
+pub(crate) struct Pending {
+    pub asking: Asking,
+    pub tag: u64,
+    pub nodes: Builder,
+}
+
 /// What waits for a value, for the end of a block, or for what a comprehension has gathered.
 #[derive(Drop)]
 pub(crate) enum Frame<'p> {
@@ -196,6 +221,7 @@ pub(crate) enum Frame<'p> {
     /// What is made of what a comprehension has gathered, in this scope.
     Gather(Boxes),
     Call(Caller),
+    Native(Pending),
 }
 
 /// What is to be done next.
@@ -216,6 +242,8 @@ pub(crate) enum Control<'p> {
     Bagged(Bag<'p>),
     /// A fault in the place of what a comprehension has gathered.
     Lost(Fault),
+    /// The host is asked about a native.
+    Ask(Asking, Question),
 }
 
 /// The code of a file: its number, and its functions.

@@ -18,6 +18,7 @@ use crate::frame::{Control, Flow, Frame, InStatement, InValue, Machine};
 use crate::functions::make_function;
 use crate::indexes::give_index;
 use crate::machine::{failed, push, settle_flow};
+use crate::natives::resume;
 use crate::run::{choose, within};
 use crate::walk::walk;
 use crate::went::misplaced;
@@ -45,6 +46,7 @@ pub(crate) fn give<'p>(
             restore(m, caller);
             Ok(Control::Gave(value))
         }
+        Frame::Native(pending) => Ok(resume(m, pending, Ok(value))),
         Frame::Block(inner) => Ok(misplaced(m, Frame::Block(inner))),
         Frame::Clauses(inner) => Ok(misplaced(m, Frame::Clauses(inner))),
         Frame::Gather(scope) => Ok(misplaced(m, Frame::Gather(scope))),
@@ -114,9 +116,9 @@ fn give_value<'p>(
         }
         InValue::First(place, clauses, bag) => first(m, place, clauses, bag, value),
         InValue::Attribute(place, name) => attribute(m, place, name, value),
-        InValue::Key(place, wanted, function, members, mut keys) => {
+        InValue::Key(left, place, wanted, function, members, mut keys) => {
             keys.push(value)?;
-            next_key(m, place, wanted, function, members, keys)
+            next_key(m, left, place, wanted, function, members, keys)
         }
         InValue::Unbuilt(place) => Ok(failed(m, FaultKind::NotBuilt, place)),
     }

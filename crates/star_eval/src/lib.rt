@@ -2,8 +2,10 @@
 //! program, so no nesting costs the machine's stack.
 //!
 //! `run_file` gives the documents and the globals that a program means, or the fault that it ends with, in a `Session` of objects and
-//! steps that goes on from one call to the next. Calls stand in frames too. Frames are seen as plain data (`specs/Waiting`), and each step keeps what the machine stands for
-//! (`specs/Frames`). What parts of nodes build is `node_build`'s.
+//! steps that goes on from one call to the next. Natives that aren't the language's own are a `Host`'s, of whom the loop asks what they
+//! answer. Calls stand in frames too, also those that natives ask for. Frames are seen as plain data (`specs/Waiting`), and each step
+//! keeps what the machine stands for (`specs/Frames`), the host's answers being told in (`specs/Hosted`). What parts of nodes build is
+//! `node_build`'s.
 #![tactic(auto)]
 
 mod arguments;
@@ -16,10 +18,12 @@ mod file;
 mod frame;
 mod functions;
 mod give;
+mod host;
 mod indexes;
 mod looped;
 mod machine;
 mod names;
+mod natives;
 mod numbers;
 mod parts;
 mod run;
@@ -29,4 +33,5 @@ mod walk;
 mod went;
 
 pub use file::{FileResult, run_file};
+pub use host::Host;
 pub use session::Session;

@@ -7,8 +7,12 @@ ghost use Rattle.star_spec.specs.Eval.{starlark};
 ghost use Rattle.star_values.specs.Objects.{env_in};
 ghost use Rattle.star_values.specs.Owns.{OwnsEnv};
 ghost use Rattle.template_meaning.specs.Run.{runs};
-ghost use Rattle.star_eval.specs.Finishes.{Finishes};
-ghost use Rattle.star_eval.specs.Frames.{Goes, is_active, left_by, means};
+ghost use Rattle.star_eval.specs.Finishes.{Finishes, block_ending};
+ghost use Rattle.star_eval.specs.Frames.{Goes, asks_host, is_active, left_by, means};
+ghost use Rattle.star_eval.specs.Hosted.{Comes, hosted_at};
+ghost use Rattle.star_eval.specs.Hosts.{OwnsHosted, OwnsQuestion};
+ghost use Rattle.star_eval.specs.declared.frame.Control.TheVariants as control;
+ghost use Rattle.star_spec.specs.Hosts.{hosted};
 ghost use Rattle.star_eval.specs.Calling.{calls_at};
 ghost use Rattle.star_eval.specs.Meets.{arena_of, state_of};
 ghost use Rattle.star_eval.specs.View.{OwnsControl, Sound, arena_in};
@@ -17,9 +21,11 @@ ghost use Rattle.star_eval.specs.Waiting.{end_env, flow_ends};
 use crate::assign::assign;
 use crate::comprehensions::clauses;
 use crate::eval::eval;
-use crate::frame::{Code, Control, Flow, Machine};
+use crate::frame::{Asking, Code, Control, Flow, Machine, Question};
 use crate::give::give;
+use crate::host::Host;
 use crate::machine::form_fault;
+use crate::natives::{answered, go_on};
 use crate::run::run;
 use crate::session::Session;
 use crate::went::{bagged, fail, went};
@@ -28,7 +34,7 @@ use object_arena::Boxes;
 use sqlite_items::Items;
 use star_blocks::Op;
 use std::alloc::Global;
-use ytt_base::fault::Fault;
+use ytt_base::fault::{Fault, Stop};
 use ytt_base::text::Memory;
 
 /// A machine with nothing more to do.
@@ -53,12 +59,14 @@ fn goes_on<'p>(m: &Machine<'p>, control: &Control<'p>) -> bool
         Control::Clauses(_, _, _) => true,
         Control::Bagged(_) => !m.frames.is_empty(),
         Control::Lost(_) => !m.frames.is_empty(),
+        Control::Ask(_, _) => true,
     }
 }
 
-/// One step, where there is more to do.
+/// One step, where there is more to do and no host is asked.
 fn step<'p>(m: &mut Machine<'p>, control: Control<'p>) -> Result<Control<'p>, Memory>
     requires active { is_active m.old control ≡ true }
+    requires alone { asks_host control ≡ false }
     requires sound { Sound m.old }
     requires control { OwnsControl (arena_in m.old) control }
     ensures { IfOk result (λ c. Goes (arena_in m.old) m.new c (means m.old control.entry)) }
@@ -92,15 +100,56 @@ fn step<'p>(m: &mut Machine<'p>, control: Control<'p>) -> Result<Control<'p>, Me
             None => Ok(Control::Lost(fault)),
             Some(frame) => Ok(fail(m, frame, fault)),
         },
+        Control::Ask(_, _) => unreachable!(),
+    }
+}
+
+/// A host is asked about a native, and what follows from its answer.
+fn ask<'p, H: Host>(
+    m: &mut Machine<'p>,
+    host: &mut H,
+    asking: Asking,
+    question: Question,
+) -> Result<Control<'p>, Memory>
+    requires sound { Sound m.old }
+    requires native { OwnsHosted (arena_in m.old) asking.native }
+    requires question { OwnsQuestion (arena_in m.old) question }
+    ensures { IfOk result (λ c. Comes H.answers (arena_in m.old) m.new c host.new (hosted_at H.answers (means m.old (control.Ask asking question)) host.old)) }
+{
+    match answered(&mut m.session, host, asking, question) {
+        Ok(reply) => go_on(m, asking, reply),
+        Err(Stop::Fault(fault)) => Ok(Control::Failed(fault)),
+        Err(Stop::Memory) => Err(Memory),
+    }
+}
+
+/// One step, where there is more to do.
+fn turn<'p, H: Host>(
+    m: &mut Machine<'p>,
+    host: &mut H,
+    control: Control<'p>,
+) -> Result<Control<'p>, Memory>
+    requires active { is_active m.old control ≡ true }
+    requires sound { Sound m.old }
+    requires control { OwnsControl (arena_in m.old) control }
+    ensures { IfOk result (λ c. Comes H.answers (arena_in m.old) m.new c host.new (hosted_at H.answers (means m.old control.entry) host.old)) }
+{
+    match control {
+        Control::Ask(asking, question) => ask(m, host, asking, question),
+        other => step(m, other),
     }
 }
 
 /// Goes on until there is nothing more to do. No run takes as many turns as a count of 64 bits has; the steps end it long
 /// before.
-fn run_down<'p>(machine: Machine<'p>, start: Control<'p>) -> Result<Stopped<'p>, Memory>
+fn run_down<'p, H: Host>(
+    machine: Machine<'p>,
+    start: Control<'p>,
+    host: &mut H,
+) -> Result<Stopped<'p>, Memory>
     requires sound { Sound machine }
     requires control { OwnsControl (arena_in machine) start }
-    ensures goes { IfOk result (λ e. Goes (arena_in machine.entry) e.machine e.control (means machine.entry start.entry)) }
+    ensures comes { IfOk result (λ e. Comes H.answers (arena_in machine.entry) e.machine e.control host.new (hosted_at H.answers (means machine.entry start.entry) host.old)) }
     ensures over { IfOk result (λ e. is_active e.machine e.control ≡ false) }
 {
     let mut machine = machine;
@@ -111,7 +160,7 @@ fn run_down<'p>(machine: Machine<'p>, start: Control<'p>) -> Result<Stopped<'p>,
             return Err(Memory);
         }
         turns_left -= 1;
-        control = step(&mut machine, control)?;
+        control = turn(&mut machine, host, control)?;
     }
     Ok(Stopped { machine, control })
 }
@@ -140,6 +189,7 @@ fn how_left(control: Control<'_>, form: Fault) -> Result<Flow, Fault>
         Control::Clauses(_place, _clauses, _bag) => Err(form),
         Control::Bagged(_bag) => Err(form),
         Control::Lost(fault) => Err(fault),
+        Control::Ask(_asking, _question) => Err(form),
     }
 }
 
@@ -147,7 +197,8 @@ fn how_left(control: Control<'_>, form: Fault) -> Result<Flow, Fault>
 fn flow_at_end<'p>(machine: Machine<'p>, control: Control<'p>) -> Finished
     requires over { is_active machine control ≡ false }
     requires sound { Sound machine }
-    ensures { Finishes (arena_in machine.entry) (end_env (means machine.entry control.entry)) (flow_ends (means machine.entry control.entry)) result }
+    ensures ended { block_ending result ≡ flow_ends (means machine.entry control.entry) }
+    ensures finishes { Finishes (arena_in machine.entry) (end_env (means machine.entry control.entry)) result }
 {
     let form = form_fault(&machine.session.arena);
     let Machine {
@@ -165,9 +216,9 @@ fn flow_at_end<'p>(machine: Machine<'p>, control: Control<'p>) -> Finished
     }
 }
 
-/// Runs a block of this code in a scope, where so many calls may stand in one another, with the session, the scope and the open
-/// nodes that it leaves.
-pub(crate) fn run_block<'p>(
+/// Runs a block of this code in a scope, where so many calls may stand in one another and a host answers its natives, with the
+/// session, the scope and the open nodes that it leaves.
+pub(crate) fn run_block<'p, H: Host>(
     alloc: Global,
     code: Code<'p>,
     depth: u32,
@@ -175,10 +226,12 @@ pub(crate) fn run_block<'p>(
     scope: Boxes,
     session: Session,
     nodes: Builder,
+    host: &mut H,
 ) -> Result<Finished, Memory>
     requires scope { OwnsEnv (arena_of session) scope }
     requires nodes { OwnsNodes (arena_of session) nodes }
-    ensures { IfOk result (Finishes (arena_of session) (env_in (arena_of session).held scope) (runs starlark (calls_at code.entry.file code.entry.functions depth) (ops_of code.entry.file block.now) (env_in (arena_of session).held scope) (nodes_of (arena_of session) nodes) (state_of session))) }
+    ensures ended { IfOk result (λ e. hosted H.answers (block_ending e) host.new ≡ hosted H.answers (runs starlark (calls_at code.entry.file code.entry.functions depth) (ops_of code.entry.file block.now) (env_in (arena_of session).held scope) (nodes_of (arena_of session) nodes) (state_of session)) host.old) }
+    ensures finishes { IfOk result (Finishes (arena_of session) (env_in (arena_of session).held scope)) }
 {
     let machine = Machine {
         code,
@@ -188,6 +241,6 @@ pub(crate) fn run_block<'p>(
         nodes,
         frames: Items::new(alloc),
     };
-    let Stopped { machine, control } = run_down(machine, Control::Run(block))?;
+    let Stopped { machine, control } = run_down(machine, Control::Run(block), host)?;
     Ok(flow_at_end(machine, control))
 }

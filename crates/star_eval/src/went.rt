@@ -17,6 +17,7 @@ use crate::calls::{restore, returned};
 use crate::comprehensions::{bag_made, clause_turn};
 use crate::frame::{Bag, Caller, Control, Flow, Frame, InBlock, InClauses, Machine};
 use crate::machine::form_fault;
+use crate::natives::resume;
 use crate::session::Session;
 use crate::walk::turn;
 use object_arena::{Boxes, Ref};
@@ -42,6 +43,7 @@ pub(crate) fn went<'p>(
         Frame::Element(inner) => Ok(misplaced(m, Frame::Element(inner))),
         Frame::Clauses(inner) => Ok(misplaced(m, Frame::Clauses(inner))),
         Frame::Gather(scope) => Ok(misplaced(m, Frame::Gather(scope))),
+        Frame::Native(pending) => Ok(misplaced(m, Frame::Native(pending))),
     }
 }
 
@@ -91,6 +93,7 @@ pub(crate) fn bagged<'p>(
         Frame::Block(inner) => Ok(misplaced(m, Frame::Block(inner))),
         Frame::Element(inner) => Ok(misplaced(m, Frame::Element(inner))),
         Frame::Call(caller) => Ok(misplaced(m, Frame::Call(caller))),
+        Frame::Native(pending) => Ok(misplaced(m, Frame::Native(pending))),
     }
 }
 
@@ -135,7 +138,7 @@ fn end(session: &mut Session, object: Ref)
     session.arena.end_loop(object);
 }
 
-/// A fault in the hole of a frame, which ends its walk, and brings the scope and the nodes of a caller back.
+/// A fault in the hole of a frame, which ends its walk, brings the scope and the nodes of a caller back, and is told to a native.
 pub(crate) fn fail<'p>(m: &mut Machine<'p>, frame: Frame<'p>, fault: Fault) -> Control<'p>
     requires sound { Sound m.old }
     requires frame { OwnsFrame (arena_in m.old) frame }
@@ -155,6 +158,7 @@ pub(crate) fn fail<'p>(m: &mut Machine<'p>, frame: Frame<'p>, fault: Fault) -> C
             restore(m, caller);
             Control::Failed(fault)
         }
+        Frame::Native(pending) => resume(m, pending, Err(fault)),
     }
 }
 

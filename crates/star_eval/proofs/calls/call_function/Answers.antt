@@ -15,7 +15,7 @@ use Rattle.star_values.specs.View.{arguments_in}
 use Rattle.template_meaning.specs.Calls.{enter_ops}
 use Rattle.value_spec.specs.Outcomes.{bad, then_do}
 use Rattle.value_spec.specs.Values.{function_value}
-use Rattle.star_eval.specs.Calling.{calls_at}
+use Rattle.star_eval.specs.Calling.{calls_at, functions_at}
 use Rattle.star_eval.specs.Frames.{around_value}
 use Rattle.star_eval.specs.Meets.{arena_of, state_of}
 use Rattle.star_eval.specs.View.{arena_in, waiting_in}
@@ -35,7 +35,7 @@ returns-then-m-eq0 c =
     let p = c.args.place in
     let vs = arguments_in a.held c.args.args in
     let g = function_in a.held c.function.result.now in
-    refused m (calls_at f fs m.depth p (function_value c.args.function.at) vs) (fault_at kind.Depth p) c.failed.result c.requires.sound c.failed.ensures
+    refused m (functions_at f fs m.depth p (function_value c.args.function.at) vs) (fault_at kind.Depth p) c.failed.result c.requires.sound c.failed.ensures
     (depth_wanting f fs p vs (state_of m.session) m.depth c.args.function.at g c.if-m-eq0.true c.function.ensures.here)
 
 pub returns-in-None : goal.returns-in-None
@@ -48,7 +48,7 @@ returns-in-None c =
     let vs = arguments_in a.held c.args.args in
     let g = function_in a.held c.function.result.now in
     let none : code_with g.number fs ≡ None = sym c.find.ensures.code ∙ ap (option_map (λ f. f.now.code)) c.in-None.is in
-    refused m (calls_at f fs m.depth p (function_value c.args.function.at) vs) (fault_of kind.CodeForm) c.ill_formed.result c.requires.sound c.ill_formed.ensures
+    refused m (functions_at f fs m.depth p (function_value c.args.function.at) vs) (fault_of kind.CodeForm) c.ill_formed.result c.requires.sound c.ill_formed.ensures
     (not_found f fs p vs (state_of m.session) m.depth c.args.function.at g c.if-m-eq0.false c.function.ensures.here none)
 
 pub enter-requires-clause-sound : goal.enter-requires-clause-sound

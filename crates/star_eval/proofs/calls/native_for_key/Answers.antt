@@ -1,59 +1,24 @@
-use Rattle.std.proofs.Common.{Err, Ok, ap, get_or, refl, subst, ◌∙◌}
-use Rattle.builtin_spec.specs.Calls.{asked_row}
-use Rattle.star_builtins.specs.Asked.{GivesAsked}
-use Rattle.star_sorting.specs.View.{wanted_of}
-use Rattle.star_spec.specs.Calls.{with_keys}
-use Rattle.star_spec.specs.Eval.{starlark}
-use Rattle.star_values.specs.View.{arguments_in, native_in, value_of, values_of}
+use Rattle.std.proofs.Common.{ap, subst, sym, ◌∙◌}
+use Rattle.star_values.specs.Owns.{OwnsArguments}
+use Rattle.star_values.specs.View.{arguments_in, value_of}
 use Rattle.star_values.specs.declared.value.Value.TheVariants as value
-use Rattle.value_spec.specs.Values.{none_value, one_value}
-use Rattle.star_eval.specs.Calling.{calls_at}
-use Rattle.star_eval.specs.Meets.{arena_of, state_of}
-use Rattle.star_eval.specs.View.{arena_in}
-use Rattle.star_eval.specs.declared.session.Session.{Session}
-use Rattle.star_eval.proofs.Asking.{fault_given, keys_asked, value_given}
-use Rattle.star_eval.proofs.Calling.{native_called, none_asked}
+use Rattle.star_eval.specs.Calling.{calls_from}
+use Rattle.star_eval.specs.Frames.{around_value}
+use Rattle.star_eval.specs.Meets.{state_of}
+use Rattle.star_eval.specs.View.{arena_in, setting_of, waiting_in}
+use Rattle.star_eval.proofs.Hosting.{asked_host}
 use Rattle.star_eval.proofs.calls.native_for_key.Goals as goal
 
-pub unreachable-requires : goal.unreachable-requires
-unreachable-requires c =
+pub returns-then-is_hosted : goal.returns-then-is_hosted
+returns-then-is_hosted c =
     let m = c.args.m.now in
     let a = arena_in m in
     let p = c.args.place in
-    let x = native_in (get_or a.held c.args.native.at none_value) in
-    let v = value_of a (value.Native c.args.native) in
-    let vs = one_value (value_of a c.args.member) in
-    let s : Session = record { arena = c.own_call.new.arena; work = c.own_call.new.work } in
-    let calls = calls_at m.code.file m.code.functions m.depth in
-    let row = subst (λ args. GivesAsked (asked_row p v (arguments_in a.held args)) c.own_call.result a (arena_of s) m.session.work.steps s.work.steps) c.requires.args c.own_call.ensures.row in
-    none_asked p x (value_of a c.args.member) (state_of m.session) (state_of s) (wanted_of c.in-Ok-Keys._wanted) (value_of (arena_of s) c.in-Ok-Keys._function) (values_of (arena_of s) c.in-Ok-Keys._members)
-    (keys_asked m s c.requires.sound (calls p v vs) (asked_row p v vs) (with_keys starlark calls p) (native_called m.code.file m.code.functions p vs (state_of m.session) m.depth x) (λ w. refl)
-    c.in-Ok-Keys._wanted c.in-Ok-Keys._function c.in-Ok-Keys._members c.own_call.result (c.in-Ok-Keys.is ∙ ap Ok c.in-Ok-Keys.field-0-is) row).meaning
-
-pub returns-in-Ok-Value : goal.returns-in-Ok-Value
-returns-in-Ok-Value c =
-    let m = c.args.m.now in
-    let a = arena_in m in
-    let p = c.args.place in
-    let x = native_in (get_or a.held c.args.native.at none_value) in
-    let v = value_of a (value.Native c.args.native) in
-    let vs = one_value (value_of a c.args.member) in
-    let s : Session = record { arena = c.own_call.new.arena; work = c.own_call.new.work } in
-    let calls = calls_at m.code.file m.code.functions m.depth in
-    let row = subst (λ args. GivesAsked (asked_row p v (arguments_in a.held args)) c.own_call.result a (arena_of s) m.session.work.steps s.work.steps) c.requires.args c.own_call.ensures.row in
-    value_given m s c.requires.sound (calls p v vs) (asked_row p v vs) (with_keys starlark calls p) (native_called m.code.file m.code.functions p vs (state_of m.session) m.depth x) (λ w. refl)
-    c.in-Ok-Value.value c.own_call.result (c.in-Ok-Value.is ∙ ap Ok c.in-Ok-Value.field-0-is) row
-
-pub returns-in-Err-Fault : goal.returns-in-Err-Fault
-returns-in-Err-Fault c =
-    let m = c.args.m.now in
-    let a = arena_in m in
-    let p = c.args.place in
-    let x = native_in (get_or a.held c.args.native.at none_value) in
-    let v = value_of a (value.Native c.args.native) in
-    let vs = one_value (value_of a c.args.member) in
-    let s : Session = record { arena = c.own_call.new.arena; work = c.own_call.new.work } in
-    let calls = calls_at m.code.file m.code.functions m.depth in
-    let row = subst (λ args. GivesAsked (asked_row p v (arguments_in a.held args)) c.own_call.result a (arena_of s) m.session.work.steps s.work.steps) c.requires.args c.own_call.ensures.row in
-    fault_given m s c.requires.sound (calls p v vs) (asked_row p v vs) (with_keys starlark calls p) (native_called m.code.file m.code.functions p vs (state_of m.session) m.depth x) (λ w. refl)
-    c.in-Err-Fault.fault c.own_call.result (c.in-Err-Fault.is ∙ ap Err c.in-Err-Fault.field-0-is) row
+    let given = subst (OwnsArguments a) (sym c.requires.args) ((c.requires.member, tt), tt) in
+    let g = asked_host m c.args.left p c.args.native c.args.args c.requires.sound c.requires.native (sym c.is_hosted.ensures ∙ c.if-is_hosted.true) given in
+    record {
+      same = g.same ∙ ap (λ args. around_value m (waiting_in m) (calls_from (setting_of m).function c.args.left p (value_of a (value.Native c.args.native)) (arguments_in a.held args) (state_of m.session))) c.requires.args;
+      sound = g.sound;
+      owned = g.owned;
+      grows = g.grows;
+    }

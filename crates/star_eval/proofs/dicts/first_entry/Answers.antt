@@ -11,7 +11,7 @@ use Rattle.value_spec.specs.Outcomes.{new_dict, then_do, ◌>>=◌}
 use Rattle.value_spec.specs.Values.{Value}
 use Rattle.star_eval.specs.Frames.{around_value}
 use Rattle.star_eval.specs.Meets.{state_of}
-use Rattle.star_eval.specs.Doing.{Setting, entries_done, evaluated}
+use Rattle.star_eval.specs.Doing.{Setting, all_calls, entries_done, evaluated}
 use Rattle.star_eval.specs.View.{arena_in, env_of, setting_of, waiting_in}
 use Rattle.star_eval.specs.Waiting.{key_of, value_goes}
 use Rattle.star_eval.proofs.Chaining.{chained}
@@ -21,9 +21,9 @@ use Rattle.star_eval.proofs.dicts.first_entry.Goals as goal
 -- the key of the first entry, and then the rest
 key_first : (c : Setting) (p : Place) (a b : Expr) (es : Entries) (ps : List (Value × Value)) → entries_done c p (an_entry a b es) ps ≡ (evaluated c a >>= value_goes c (key_of p b es ps))
 key_first c p a b es ps =
-    chained (evaluated c a) (λ k. evaluated c b >>= λ v. display_pair p ps k v >>= λ more. eval_entries c.call p es c.env more) new_dict
-    ∙ (λ i. evaluated c a >>= λ k. chained (evaluated c b) (λ v. display_pair p ps k v >>= λ more. eval_entries c.call p es c.env more) new_dict i)
-    ∙ (λ i. evaluated c a >>= λ k. evaluated c b >>= λ v. chained (display_pair p ps k v) (λ more. eval_entries c.call p es c.env more) new_dict i)
+    chained (evaluated c a) (λ k. evaluated c b >>= λ v. display_pair p ps k v >>= λ more. eval_entries (all_calls c) p es c.env more) new_dict
+    ∙ (λ i. evaluated c a >>= λ k. chained (evaluated c b) (λ v. display_pair p ps k v >>= λ more. eval_entries (all_calls c) p es c.env more) new_dict i)
+    ∙ (λ i. evaluated c a >>= λ k. evaluated c b >>= λ v. chained (display_pair p ps k v) (λ more. eval_entries (all_calls c) p es c.env more) new_dict i)
 
 pub returns : goal.returns
 returns c =

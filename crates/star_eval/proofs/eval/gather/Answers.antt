@@ -8,7 +8,7 @@ use Rattle.star_eval.specs.Frames.{around_value}
 use Rattle.star_eval.specs.Meets.{state_of}
 use Rattle.star_eval.specs.View.{arena_in, gathering_of, setting_of, waiting_in}
 use Rattle.star_eval.specs.Waiting.{gathered}
-use Rattle.star_eval.proofs.Chaining.{in_a_row}
+use Rattle.value_spec.proofs.Computations.{then_assoc}
 use Rattle.star_eval.proofs.Going.{goes}
 use Rattle.star_eval.proofs.eval.gather.Goals as goal
 
@@ -25,6 +25,6 @@ returns-in-Some c =
     goes _ c.push.result c.push.new.m
     (ap (around_value m (waiting_in m))
     (sym (ap (λ xs. then_do (all_evaluated (setting_of m) xs s) (λ ws. gathered g (before ++ ws))) is
-    ∙ in_a_row (evaluated (setting_of m) e s) (λ v t. then_do (all_evaluated (setting_of m) es t) (λ vs. give (v ∷ vs))) (λ ws. gathered g (before ++ ws))
-    ∙ (λ i. then_do (evaluated (setting_of m) e s) (λ v t. in_a_row (all_evaluated (setting_of m) es t) (λ vs. give (v ∷ vs)) (λ ws. gathered g (before ++ ws)) i)))))
+    ∙ then_assoc (evaluated (setting_of m) e s) (λ v t. then_do (all_evaluated (setting_of m) es t) (λ vs. give (v ∷ vs))) (λ ws. gathered g (before ++ ws))
+    ∙ (λ i. then_do (evaluated (setting_of m) e s) (λ v t. then_assoc (all_evaluated (setting_of m) es t) (λ vs. give (v ∷ vs)) (λ ws. gathered g (before ++ ws)) i)))))
     c.push.ensures

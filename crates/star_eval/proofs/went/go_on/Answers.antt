@@ -4,6 +4,7 @@ use Rattle.star_eval.specs.Frames.{around_flow, flow_of}
 use Rattle.star_eval.specs.Meets.{arena_of, state_of}
 use Rattle.star_eval.specs.View.{arena_in, block_frame, nodes_in, setting_of, waiting_in}
 use Rattle.star_eval.specs.Waiting.{block_ends, unwind_flow}
+use Rattle.star_eval.proofs.Going.{goes}
 use Rattle.star_eval.proofs.Growing.{kept}
 use Rattle.star_eval.proofs.Walks.{flow_kept, flow_owned}
 use Rattle.star_eval.proofs.went.go_on.Goals as goal
@@ -22,3 +23,17 @@ returns-in-WalkEnd c =
       owned = flow_owned a (arena_of s) c.args.flow e.grows c.requires.flow;
       grows = k.grows;
     }
+
+pub returns-in-On-flow : goal.returns-in-On-flow
+returns-in-On-flow c =
+    let m = c.args.m.now in
+    goes _ c.turn.result c.turn.new.m
+    (sym (λ i. around_flow m (waiting_in m) (block_ends (setting_of m) (block_frame (arena_in m) m.code.file (c.in-Turn.is i)) (done (flow_of (arena_in m) (c.in-On-flow.is i) (nodes_in m)) (state_of m.session)))))
+    c.turn.ensures
+
+pub returns-in-Continue-flow : goal.returns-in-Continue-flow
+returns-in-Continue-flow c =
+    let m = c.args.m.now in
+    goes _ c.turn-in-Continue-flow.result c.turn-in-Continue-flow.new.m
+    (sym (λ i. around_flow m (waiting_in m) (block_ends (setting_of m) (block_frame (arena_in m) m.code.file (c.in-Turn.is i)) (done (flow_of (arena_in m) (c.in-Continue-flow.is i) (nodes_in m)) (state_of m.session)))))
+    c.turn-in-Continue-flow.ensures

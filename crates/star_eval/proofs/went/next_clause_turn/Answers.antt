@@ -5,6 +5,7 @@ use Rattle.star_eval.specs.Frames.{around_bag}
 use Rattle.star_eval.specs.Meets.{arena_of, state_of}
 use Rattle.star_eval.specs.View.{arena_in, bag_of, clauses_frame, setting_of, waiting_in}
 use Rattle.star_eval.specs.Waiting.{clauses_end, unwind_bag}
+use Rattle.star_eval.proofs.Going.{goes}
 use Rattle.star_eval.proofs.Growing.{bag_kept, kept}
 use Rattle.star_eval.proofs.went.next_clause_turn.Goals as goal
 
@@ -23,3 +24,10 @@ returns-in-WalkEnd c =
       owned = b.0;
       grows = k.grows;
     }
+
+pub returns-in-Turn : goal.returns-in-Turn
+returns-in-Turn c =
+    let m = c.args.m.now in
+    goes _ c.clause_turn.result c.clause_turn.new.m
+    (sym (λ i. around_bag m (waiting_in m) (clauses_end (setting_of m) (clauses_frame (arena_in m) m.code.file (c.in-Turn.is i)) (done (on (bag_of (arena_in m) m.code.file c.args.bag)) (state_of m.session)))))
+    c.clause_turn.ensures
