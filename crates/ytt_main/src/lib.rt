@@ -2,6 +2,7 @@
 #![tactic(auto)]
 
 mod answer;
+mod natives;
 mod render;
 mod run;
 mod template;

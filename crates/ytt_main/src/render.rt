@@ -13,6 +13,7 @@ ghost use Rattle.ytt_main.specs.Asks.{budget_of, command_of};
 ghost use Rattle.ytt_main.specs.Programs.{IsProgramOf};
 ghost use Rattle.ytt_main.specs.Rendering.{HasCause, IsNoFolder, IsReadFailure, Refuses, Renders};
 
+use crate::natives::NoNatives;
 use crate::template::pass_template;
 use crate::words::{Budget, Request};
 use notes_read::a_code_reader_exists;
@@ -105,7 +106,7 @@ fn run_within(alloc: Global, program: &Resolved, budget: Budget) -> Result<Trees
     ensures { (t : TemplateItems) → IsProgramOf t program.now → Gives trees_of result (built (budget_of budget) t) }
 {
     let mut session = Session::new(alloc, budget.steps, budget.depth);
-    let file = run_file(alloc, program, &mut session)?;
+    let file = run_file(alloc, program, &mut session, &mut NoNatives)?;
     let trees = node_build::documents_of(alloc, file.documents.as_slice())?;
     Ok(trees)
 }

@@ -9,11 +9,12 @@ use Rattle.yaml_spec.specs.Read.{Read, plain_trees, read_trees}
 use Rattle.yaml_held.proofs.HeldDocuments.{DocumentsHeld, good_read, reads_trees}
 use Rattle.yaml_held.proofs.Shallow.{DocumentsShallow, reads_writable, shallow_read}
 use Rattle.star_grammar.specs.CodeReaders.{IsCodeReader}
-use Rattle.star_spec.specs.Calls.{no_natives}
+use Rattle.star_spec.specs.Calls.{asking}
+use Rattle.star_spec.specs.Hosts.{hosted, knows_none}
 use Rattle.star_spec.specs.Eval.{starlark}
-use Rattle.value_spec.specs.Outcomes.{Ending, done, bad}
+use Rattle.value_spec.specs.Outcomes.{Ending, done, bad, asks}
 use Rattle.code_spec.specs.CodeReading.{CodeReader}
-use Rattle.star_spec.proofs.CallsKeep.{no_natives_keep, starlark_keeps}
+use Rattle.star_spec.proofs.CallsKeep.{asking_keeps, starlark_keeps}
 use Rattle.star_spec.proofs.Keeping.{Kept}
 use Rattle.template_meaning.specs.Files.{FileResult, nothing_to_load}
 use Rattle.template_meaning.specs.Meaning.{BuildFile}
@@ -36,17 +37,18 @@ use Rattle.ytt_laws.proofs.Yielded.{yielded_if, yielded_then, yielded_where}
 abbrev pub AreWritten : Trees → Type 0
 AreWritten ts = AreTrees ts × Writable ts
 
--- those of a file, whichever way it ended
-file_written : {H : Type 0} (e : Ending H FileResult) → Kept HeldResult e → IfOk (outcome_of e) AreWritten
-file_written (done result s) h = documents_written result.documents h.0.0
-file_written (bad f s) h = tt
+-- those of a file, whichever way it ended, where a host that knows no native is asked
+file_written : (e : Ending (Unit {0}) FileResult) (h : Unit {0}) → Kept HeldResult e → IfOk (outcome_of (hosted knows_none e h).0) AreWritten
+file_written (done result s) h k = documents_written result.documents k.0.0
+file_written (bad f s) h k = tt
+file_written (asks q s n) h k = file_written (n (Err _) s) h (k.1 (Err _) s tt k.0)
 
 -- those of a template with such literals
 template_written : (budget : Budget) (t : Items) → HeldItems 0 t → IfOk (built budget t) AreWritten
 template_written budget t h =
     let held = numbered_held t h in
-    let keeps = built_keeps starlark starlark_keeps no_natives no_natives_keep nothing_to_load nothing_keeps (λ file. numbered t) (λ file. held) budget.depth (numbered t) held in
-    file_written (BuildFile starlark no_natives nothing_to_load (λ file. numbered t) budget.depth (numbered t) (started budget.steps)) (keeps.by (started budget.steps) tt)
+    let keeps = built_keeps starlark starlark_keeps asking asking_keeps nothing_to_load nothing_keeps (λ file. numbered t) (λ file. held) budget.depth (numbered t) held in
+    file_written (BuildFile starlark asking nothing_to_load (λ file. numbered t) budget.depth (numbered t) (started budget.steps)) tt (keeps.by (started budget.steps) tt)
 
 plain_written : (bytes : List ℕ) (ds : Documents) (ts : Trees) → Read 1 bytes ≡ Ok ds → plain_trees ds ≡ Ok ts → AreWritten ts
 unfolding read_trees

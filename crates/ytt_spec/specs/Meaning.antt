@@ -9,12 +9,13 @@ use Rattle.ytt_base.specs.Trees.{Trees}
 use Rattle.ytt_outside.specs.Standing.{Standing, nothing, file, folder}
 use Rattle.yaml_spec.specs.Noted.{Documents, has_code}
 use Rattle.yaml_spec.specs.Read.{Read, plain_trees}
-use Rattle.star_spec.specs.Calls.{Host, no_natives}
+use Rattle.star_spec.specs.Calls.{asking}
+use Rattle.star_spec.specs.Hosts.{hosted, knows_none}
 use Rattle.star_grammar.specs.CodeReaders.{MeansCode}
 use Rattle.star_spec.specs.Eval.{starlark}
-use Rattle.value_spec.specs.Outcomes.{State, Ending, done, bad}
+use Rattle.value_spec.specs.Outcomes.{State}
 use Rattle.code_spec.specs.CodeReading.{CodeReader}
-use Rattle.template_meaning.specs.Files.{FileResult, Loader, nothing_to_load}
+use Rattle.template_meaning.specs.Files.{FileResult, nothing_to_load}
 use Rattle.template_meaning.specs.Meaning.{BuildFile, documents}
 use Rattle.template_spec.specs.Numbered.{numbered}
 use Rattle.template_spec.specs.Passes.{template_passed}
@@ -52,22 +53,19 @@ not_built = fault_of kind.NotBuilt
 
 -- ---- what a template means
 
-abbrev pub outcome_of : {H : Type 0} → Ending H FileResult → Outcome Trees
-outcome_of (done result s) = Ok (documents result.documents)
-outcome_of (bad fault s) = Err fault
-
--- The documents that a template builds from a state, or its first fault. What the host gives, how paths are loaded, the
--- templates of all files, and how many calls of functions may stand in one another are parameters.
-abbrev pub built_with : {H : Type 0} → Host H → Loader H → (files : ℕ → Items) → (depth : ℕ) → Items → State H → Outcome Trees
-built_with host loader files depth template s = outcome_of (BuildFile starlark host loader files depth template s)
+abbrev pub outcome_of : Result FileResult Fault → Outcome Trees
+outcome_of (Ok result) = Ok (documents result.documents)
+outcome_of (Err fault) = Err fault
 
 -- a run begins with these steps, and without any object
 abbrev pub started : (steps : ℕ) → State (Unit {0})
 started steps = record { store = []; steps = steps; host = tt }
 
--- within a budget, where no host gives anything and no file is loaded beside the template; each function has its number
+-- The documents that a template builds within a budget, or its first fault, where the host knows no native and no file is loaded
+-- beside the template; each function has its number.
 abbrev pub built : Budget → Items → Outcome Trees
-built budget template = built_with no_natives nothing_to_load (λ file. numbered template) budget.depth (numbered template) (started budget.steps)
+built budget template =
+    outcome_of (hosted knows_none (BuildFile starlark asking nothing_to_load (λ file. numbered template) budget.depth (numbered template) (started budget.steps)) (tt {0})).0
 
 -- Documents without code are what they are, which takes no steps; with code they are a template, which is built.
 abbrev pub documents_meaning : CodeReader → (ignore_unknown : Bool) → Budget → Documents → Outcome Trees
