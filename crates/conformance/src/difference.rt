@@ -12,10 +12,12 @@ const BEHIND: usize = 140;
 
 /// The first place at which two texts differ.
 fn first_difference(left: &[u8], right: &[u8]) -> usize {
-    left.iter()
-        .zip(right.iter())
-        .position(|(a, b)| a != b)
-        .unwrap_or(left.len().min(right.len()))
+    for (at, (a, b)) in left.iter().zip(right.iter()).enumerate() {
+        if a != b {
+            return at;
+        }
+    }
+    left.len().min(right.len())
 }
 
 fn push_char(alloc: Global, line: &mut String, c: char) -> Result<(), AllocError> {

@@ -39,30 +39,61 @@ fn escaped(byte: u8) -> Option<u8> {
     }
 }
 
-/// Where the scan is behind this byte, and the byte that the word gets, if it gets one.
+/// Where the scan is behind the first byte of a word, and the byte that the word gets, if it gets one.
+fn begin(byte: u8) -> (Place, Option<u8>) {
+    match byte {
+        b'"' => (Place::Quoted, None),
+        b' ' => (Place::Wrong, None),
+        _ => (Place::Plain, Some(byte)),
+    }
+}
+
+/// The same behind a further byte of a word that stands in no quotes.
+fn go_on(byte: u8) -> (Place, Option<u8>) {
+    match byte {
+        b' ' => (Place::Start, None),
+        b'"' => (Place::Wrong, None),
+        _ => (Place::Plain, Some(byte)),
+    }
+}
+
+/// The same behind a byte in quotes.
+fn quoted(byte: u8) -> (Place, Option<u8>) {
+    match byte {
+        b'"' => (Place::Closed, None),
+        b'\\' => (Place::Escape, None),
+        _ => (Place::Quoted, Some(byte)),
+    }
+}
+
+/// The same behind a byte that a backslash stands before.
+fn escape(byte: u8) -> (Place, Option<u8>) {
+    if byte == b'x' {
+        return (Place::Hex, None);
+    }
+    match escaped(byte) {
+        Some(byte) => (Place::Quoted, Some(byte)),
+        None => (Place::Wrong, None),
+    }
+}
+
+/// The same behind any byte.
 fn step(place: Place, byte: u8) -> (Place, Option<u8>) {
-    match (place, byte) {
-        (Place::Start, b'"') => (Place::Quoted, None),
-        (Place::Plain | Place::Closed, b' ') => (Place::Start, None),
-        (Place::Start | Place::Plain, b' ' | b'"') => (Place::Wrong, None),
-        (Place::Start | Place::Plain, _) => (Place::Plain, Some(byte)),
-        (Place::Quoted, b'"') => (Place::Closed, None),
-        (Place::Quoted, b'\\') => (Place::Escape, None),
-        (Place::Quoted, _) => (Place::Quoted, Some(byte)),
-        (Place::Escape, b'x') => (Place::Hex, None),
-        (Place::Escape, _) => match escaped(byte) {
-            Some(byte) => (Place::Quoted, Some(byte)),
-            None => (Place::Wrong, None),
-        },
-        (Place::Hex, _) => match digit(byte) {
+    match place {
+        Place::Start => begin(byte),
+        Place::Plain => go_on(byte),
+        Place::Quoted => quoted(byte),
+        Place::Escape => escape(byte),
+        Place::Hex => match digit(byte) {
             Some(high) => (Place::Low(high << 4), None),
             None => (Place::Wrong, None),
         },
-        (Place::Low(high), _) => match digit(byte) {
+        Place::Low(high) => match digit(byte) {
             Some(low) => (Place::Quoted, Some(high | low)),
             None => (Place::Wrong, None),
         },
-        (Place::Closed | Place::Wrong, _) => (Place::Wrong, None),
+        Place::Closed if byte == b' ' => (Place::Start, None),
+        Place::Closed | Place::Wrong => (Place::Wrong, None),
     }
 }
 
