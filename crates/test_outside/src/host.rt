@@ -1,13 +1,12 @@
 // The machine's files and streams.
 
-use crate::files::told;
-use std::alloc::Global;
+use std::alloc::{AllocError, Global};
 use std::fs::{self, File};
 use std::io::Write;
 use std::os::unix::fs::symlink;
 use std::process;
 use std::test::Fail;
-use ytt_outside::files::{Files, FilesStop};
+use ytt_outside::files::{Files, FilesStop, Got, PathKind};
 use ytt_outside::host_files::HostFiles;
 use ytt_outside::host_sink::HostSink;
 use ytt_outside::sink::Sink;
@@ -18,6 +17,65 @@ fn folder(alloc: Global, rt: &HostRuntime, name: &str) -> Result<String, Fail> {
     let folder = format!(in alloc; "/tmp/gingercrag-{id}-{name}")?;
     fs::create_dir_all(rt, folder.as_str())?;
     Ok(folder)
+}
+
+/// What stands at a path: `file`, `folder`, `missing`, or `failed` where the call fails.
+fn kind_word(files: &mut impl Files, path: &str) -> &'static str {
+    match files.kind(path) {
+        Ok(PathKind::File) => "file",
+        Ok(PathKind::Folder) => "folder",
+        Ok(PathKind::Missing) => "missing",
+        Err(_) => "failed",
+    }
+}
+
+/// Puts the names in the folder at a path, each behind a space, or ` failed`.
+fn put_names(out: &mut String, files: &mut impl Files, path: &str) -> Result<(), AllocError> {
+    let alloc = *out.allocator();
+    match files.list(alloc, path) {
+        Ok(names) => {
+            for name in names.as_slice() {
+                out.push_str(" ")?;
+                out.push_str(name.as_str())?;
+            }
+            Ok(())
+        }
+        Err(_) => out.push_str(" failed"),
+    }
+}
+
+/// Puts what is read within so many bytes, `too large`, `missing`, or `failed`.
+fn put_bytes(
+    out: &mut String,
+    files: &mut impl Files,
+    path: &str,
+    limit: u64,
+) -> Result<(), AllocError> {
+    let alloc = *out.allocator();
+    match files.read(alloc, path, limit) {
+        Ok(Got::Bytes(bytes)) => match str::from_utf8(bytes.as_slice()) {
+            Ok(text) => out.push_str(text),
+            Err(_) => out.push_str("no UTF-8"),
+        },
+        Ok(Got::TooLarge) => out.push_str("too large"),
+        Ok(Got::Missing) => out.push_str("missing"),
+        Err(_) => out.push_str("failed"),
+    }
+}
+
+/// What stands at a path, the names in it, and what is read within so many bytes: `file; abc`, or
+/// `folder B a.yml; missing`.
+fn told(
+    alloc: Global,
+    files: &mut impl Files,
+    path: &str,
+    limit: u64,
+) -> Result<String, AllocError> {
+    let mut out = String::from_str(alloc, kind_word(files, path))?;
+    put_names(&mut out, files, path)?;
+    out.push_str("; ")?;
+    put_bytes(&mut out, files, path, limit)?;
+    Ok(out)
 }
 
 /// Paths below the folder, a limit, and what is told of them.
@@ -36,28 +94,53 @@ const PATHS: &[(&str, u64, &str)] = &[
     ("/nothing", 3, "missing; missing"),
 ];
 
+/// A text with another behind it, as a folder with a path below it.
+fn joined(alloc: Global, front: &str, back: &str) -> Result<String, AllocError> {
+    let mut joined = String::from_str(alloc, front)?;
+    joined.push_str(back)?;
+    Ok(joined)
+}
+
+/// Files, a folder and links in a folder.
+fn lay_out(alloc: Global, rt: &HostRuntime, folder: &str) -> Result<(), Fail> {
+    fs::create_dir_all(rt, joined(alloc, folder, "/é")?.as_str())?;
+    for (path, text) in [("/b.yml", "abc"), ("/B", "")] {
+        fs::write(rt, joined(alloc, folder, path)?.as_str(), text)?;
+    }
+    for (path, to) in [("/link", "b.yml"), ("/loop", "loop"), ("/nothing", "c.yml")] {
+        symlink(rt, to, joined(alloc, folder, path)?.as_str())?;
+    }
+    Ok(())
+}
+
+/// The first path of which another thing is told than is due, and what is told, or nothing.
+fn differing(alloc: Global, files: &mut impl Files, folder: &str) -> Result<String, AllocError> {
+    for (path, limit, want) in PATHS {
+        let path = joined(alloc, folder, path)?;
+        let told = told(alloc, files, path.as_str(), *limit)?;
+        if told.as_str() != *want {
+            return joined(alloc, path.as_str(), told.as_str());
+        }
+    }
+    Ok(String::new(alloc))
+}
+
 #[test]
 fn the_machine_has_its_files(rt: HostRuntime) -> Result<(), Fail> {
     let alloc = rt.alloc();
     let folder = folder(alloc, &rt, "files")?;
-    fs::create_dir_all(&rt, format!(in alloc; "{folder}/é")?)?;
-    fs::write(&rt, format!(in alloc; "{folder}/b.yml")?, "abc")?;
-    fs::write(&rt, format!(in alloc; "{folder}/B")?, "")?;
-    symlink(&rt, "b.yml", format!(in alloc; "{folder}/link")?)?;
-    symlink(&rt, "loop", format!(in alloc; "{folder}/loop")?)?;
-    symlink(&rt, "c.yml", format!(in alloc; "{folder}/nothing")?)?;
+    lay_out(alloc, &rt, folder.as_str())?;
     let mut files = HostFiles::new(rt);
-    let mut all = Vec::new(alloc);
-    for (path, limit, want) in PATHS {
-        let path = format!(in alloc; "{folder}{path}")?;
-        let told = told(alloc, &mut files, path.as_str(), *limit)?;
-        all.push((path, told, *want))?;
-    }
+    let wrong = differing(alloc, &mut files, folder.as_str())?;
     fs::remove_dir_all(&rt, folder.as_str())?;
-    for (path, told, want) in all {
-        assert_eq!(rt; told.as_str(), want, "at {path}");
-    }
-    let told = told(alloc, &mut files, "/dev/zero", 3)?;
+    assert_eq!(rt; wrong.as_str(), "");
+    Ok(())
+}
+
+#[test]
+fn a_file_without_an_end_is_too_large(rt: HostRuntime) -> Result<(), Fail> {
+    let mut files = HostFiles::new(rt);
+    let told = told(rt.alloc(), &mut files, "/dev/zero", 3)?;
     assert_eq!(rt; told.as_str(), "file; too large");
     Ok(())
 }

@@ -1,10 +1,6 @@
-//! Texts, trees and faults, files and sinks in memory, and the machine's files, streams and words.
+//! The machine's files, its streams as sinks, and its words, which no command line over files in memory shows.
 #![tactic(auto)]
 
-#[cfg(test)]
-mod base;
-#[cfg(test)]
-mod files;
 #[cfg(test)]
 mod host;
 #[cfg(test)]

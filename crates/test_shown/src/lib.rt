@@ -4,11 +4,11 @@
 mod differing;
 mod faults;
 mod noted;
-mod trees;
+mod shown;
 mod whole;
 
 pub use differing::Differing;
 pub use faults::shown_stop;
-pub use noted::{shown_comments, shown_content, shown_documents};
-pub use trees::{shown_key, shown_tree};
+pub use noted::shown_documents;
+pub use shown::Shown;
 pub use whole::{shown_args, shown_code, shown_header, shown_statements};

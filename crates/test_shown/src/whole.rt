@@ -1,399 +1,340 @@
 // Code whole: expressions, statements, and heads of blocks. A part that stands on another line than the first has its line
 // behind `@`.
 
-use crate::trees::put_number;
+use crate::shown::Shown;
 use sqlite_items::{Boxed, Items};
-use star_tree::code::{BinOp, Clause, Entry, Expr, Header, Loaded, NodeOp, Param, Stmt, UnOp};
-use std::alloc::{AllocError, Global};
+use star_tree::code::{BinOp, Clause, Entry, Expr, Header, Loaded, Param, Stmt, UnOp};
+use std::alloc::Global;
 use ytt_base::text::Memory;
 
-fn put_line(out: &mut String, line: u32) -> Result<(), AllocError> {
-    if line == 1 {
-        return Ok(());
-    }
-    out.push_str("@")?;
-    put_number(out, i128::from(line))
-}
-
-fn put_word(out: &mut String, word: &str, line: u32) -> Result<(), AllocError> {
-    out.push_str(word)?;
-    put_line(out, line)
-}
-
-fn put_text(out: &mut String, text: &str, line: u32) -> Result<(), AllocError> {
-    out.push_str("'")?;
-    out.push_str(text)?;
-    put_word(out, "'", line)
-}
-
-fn put_int(out: &mut String, value: i128, line: u32) -> Result<(), AllocError> {
-    put_number(out, value)?;
-    put_line(out, line)
-}
-
-/// `(WORD`
-fn put_head(out: &mut String, word: &str, line: u32) -> Result<(), AllocError> {
-    out.push_str("(")?;
-    put_word(out, word, line)
-}
-
-fn unary_word(op: UnOp) -> &'static str {
+fn unary_head(op: UnOp) -> &'static str {
     match op {
-        UnOp::Minus => "-",
-        UnOp::Plus => "+",
-        UnOp::Invert => "~",
-        UnOp::Not => "not",
+        UnOp::Minus => "(-",
+        UnOp::Plus => "(+",
+        UnOp::Invert => "(~",
+        UnOp::Not => "(not",
     }
 }
 
-fn binary_word(op: BinOp) -> &'static str {
+fn binary_head(op: BinOp) -> &'static str {
     match op {
-        BinOp::Add => "+",
-        BinOp::Subtract => "-",
-        BinOp::Multiply => "*",
-        BinOp::FloorDivide => "//",
-        BinOp::Remainder => "%",
-        BinOp::BitAnd => "&",
-        BinOp::BitOr => "|",
-        BinOp::BitXor => "^",
-        BinOp::ShiftLeft => "<<",
-        BinOp::ShiftRight => ">>",
-        BinOp::Equal => "==",
-        BinOp::Unequal => "!=",
-        BinOp::Less => "<",
-        BinOp::Greater => ">",
-        BinOp::AtMost => "<=",
-        BinOp::AtLeast => ">=",
-        BinOp::In => "in",
-        BinOp::NotIn => "not-in",
+        BinOp::Add => "(+",
+        BinOp::Subtract => "(-",
+        BinOp::Multiply => "(*",
+        BinOp::FloorDivide => "(//",
+        BinOp::Remainder => "(%",
+        BinOp::BitAnd => "(&",
+        BinOp::BitOr => "(|",
+        BinOp::BitXor => "(^",
+        BinOp::ShiftLeft => "(<<",
+        BinOp::ShiftRight => "(>>",
+        BinOp::Equal => "(==",
+        BinOp::Unequal => "(!=",
+        BinOp::Less => "(<",
+        BinOp::Greater => "(>",
+        BinOp::AtMost => "(<=",
+        BinOp::AtLeast => "(>=",
+        BinOp::In => "(in",
+        BinOp::NotIn => "(not-in",
+    }
+}
+
+/// The word that an expression begins with, none for a literal and a name, and its line.
+fn head_of(expr: &Expr) -> (&'static str, u32) {
+    match expr {
+        Expr::Int(line, _) | Expr::Text(line, _) | Expr::Name(line, _) => ("", *line),
+        Expr::Named(line, _, _) => ("", *line),
+        Expr::Template(line, _) => ("template", *line),
+        Expr::List(line, _) => ("(list", *line),
+        Expr::Tuple(line, _) => ("(tuple", *line),
+        Expr::Dict(line, _) => ("(dict", *line),
+        Expr::Unary(line, op, _) => (unary_head(*op), *line),
+        Expr::Star(line, _) => ("(*", *line),
+        Expr::Stars(line, _) => ("(**", *line),
+        Expr::Binary(line, op, _, _) => (binary_head(*op), *line),
+        Expr::And(line, _, _) => ("(and", *line),
+        Expr::Or(line, _, _) => ("(or", *line),
+        Expr::Index(line, _, _) => ("(at", *line),
+        Expr::If(line, _, _, _) => ("(if", *line),
+        Expr::Call(line, _, _) => ("(call", *line),
+        Expr::Slice(line, _, _, _, _) => ("(slice", *line),
+        Expr::Dot(line, _, _) => ("(.", *line),
+        Expr::Lambda(line, _, _, _) => ("(lambda", *line),
+        Expr::ListFor(line, _, _) => ("(list-for", *line),
+        Expr::DictFor(line, _, _, _) => ("(dict-for", *line),
+    }
+}
+
+/// A word and its line.
+fn put_word(out: &mut Shown, word: &str, line: u32) {
+    out.put(word);
+    if line != 1 {
+        out.put("@");
+        out.put_number(i128::from(line));
     }
 }
 
 /// ` PART`
 #[cycle(code)]
-fn put_part(out: &mut String, part: &Expr) -> Result<(), AllocError> {
-    out.push_str(" ")?;
-    put_expr(out, part)
-}
-
-/// ` PART)`
-#[cycle(code)]
-fn put_last(out: &mut String, part: &Expr) -> Result<(), AllocError> {
-    put_part(out, part)?;
-    out.push_str(")")
+fn put_part(out: &mut Shown, part: &Expr) {
+    out.put(" ");
+    put_expr(out, part);
 }
 
 /// ` PART`, or ` _` where it is left out.
 #[cycle(code)]
-fn put_optional(out: &mut String, part: &Option<Boxed<Expr>>) -> Result<(), AllocError> {
+fn put_optional(out: &mut Shown, part: &Option<Boxed<Expr>>) {
     match part {
         Some(part) => put_part(out, part.get()),
-        None => out.push_str(" _"),
+        None => out.put(" _"),
     }
 }
 
-/// Expressions, each behind a space, and `)`.
+/// Expressions, each behind a space.
 #[cycle(code)]
-fn put_exprs(out: &mut String, exprs: &Items<Expr>) -> Result<(), AllocError> {
+fn put_exprs(out: &mut Shown, exprs: &Items<Expr>) {
     for expr in exprs.as_slice() {
-        put_part(out, expr)?;
-    }
-    out.push_str(")")
-}
-
-#[cycle(code)]
-fn put_entry(out: &mut String, entry: &Entry) -> Result<(), AllocError> {
-    match entry {
-        Entry::Pair(key, value) => {
-            put_part(out, key.get())?;
-            out.push_str(":")?;
-            put_expr(out, value.get())
-        }
+        put_part(out, expr);
     }
 }
 
 #[cycle(code)]
-fn put_entries(out: &mut String, entries: &Items<Entry>) -> Result<(), AllocError> {
-    for entry in entries.as_slice() {
-        put_entry(out, entry)?;
-    }
-    out.push_str(")")
-}
-
-#[cycle(code)]
-fn put_clause(out: &mut String, clause: &Clause) -> Result<(), AllocError> {
-    match clause {
-        Clause::ForIn(target, members) => {
-            out.push_str(" for")?;
-            put_part(out, target.get())?;
-            put_part(out, members.get())
-        }
-        Clause::OnlyIf(test) => {
-            out.push_str(" if")?;
-            put_part(out, test.get())
-        }
+fn put_entries(out: &mut Shown, entries: &Items<Entry>) {
+    for Entry::Pair(key, value) in entries.as_slice() {
+        put_part(out, key.get());
+        out.put(":");
+        put_expr(out, value.get());
     }
 }
 
 #[cycle(code)]
-fn put_clauses(out: &mut String, clauses: &Items<Clause>) -> Result<(), AllocError> {
+fn put_clauses(out: &mut Shown, clauses: &Items<Clause>) {
     for clause in clauses.as_slice() {
-        put_clause(out, clause)?;
-    }
-    out.push_str(")")
-}
-
-fn put_marked(out: &mut String, mark: &str, name: &str) -> Result<(), AllocError> {
-    out.push_str(mark)?;
-    out.push_str(name)
-}
-
-#[cycle(code)]
-fn put_param(out: &mut String, param: &Param) -> Result<(), AllocError> {
-    match param {
-        Param::Required(name) => put_marked(out, " ", name.as_str()),
-        Param::BareStar => put_marked(out, " *", ""),
-        Param::Starred(name) => put_marked(out, " *", name.as_str()),
-        Param::DoubleStarred(name) => put_marked(out, " **", name.as_str()),
-        Param::Defaulted(name, value) => {
-            put_marked(out, " ", name.as_str())?;
-            out.push_str("=")?;
-            put_expr(out, value.get())
+        match clause {
+            Clause::ForIn(target, members) => {
+                out.put(" for");
+                put_part(out, target.get());
+                put_part(out, members.get());
+            }
+            Clause::OnlyIf(test) => {
+                out.put(" if");
+                put_part(out, test.get());
+            }
         }
+    }
+}
+
+/// The mark and the name of a parameter.
+fn param_name(param: &Param) -> (&'static str, &str) {
+    match param {
+        Param::Required(name) => (" ", name.as_str()),
+        Param::BareStar => (" *", ""),
+        Param::Starred(name) => (" *", name.as_str()),
+        Param::DoubleStarred(name) => (" **", name.as_str()),
+        Param::Defaulted(name, _) => (" ", name.as_str()),
     }
 }
 
 /// Parameters, each behind a space.
 #[cycle(code)]
-fn put_params(out: &mut String, params: &Items<Param>) -> Result<(), AllocError> {
+fn put_params(out: &mut Shown, params: &Items<Param>) {
     for param in params.as_slice() {
-        put_param(out, param)?;
-    }
-    Ok(())
-}
-
-fn put_attribute(out: &mut String, name: &str) -> Result<(), AllocError> {
-    put_marked(out, " ", name)?;
-    out.push_str(")")
-}
-
-/// `NAME=`
-fn put_named(out: &mut String, name: &str, line: u32) -> Result<(), AllocError> {
-    put_word(out, name, line)?;
-    out.push_str("=")
-}
-
-/// What an expression begins with: a literal and a name are whole then.
-fn put_beginning(out: &mut String, expr: &Expr) -> Result<(), AllocError> {
-    match expr {
-        Expr::Int(line, value) => put_int(out, *value, *line),
-        Expr::Text(line, text) => put_text(out, text.as_str(), *line),
-        Expr::Name(line, name) => put_word(out, name.as_str(), *line),
-        Expr::Template(line, _) => put_word(out, "template", *line),
-        Expr::List(line, _) => put_head(out, "list", *line),
-        Expr::Tuple(line, _) => put_head(out, "tuple", *line),
-        Expr::Dict(line, _) => put_head(out, "dict", *line),
-        Expr::Unary(line, op, _) => put_head(out, unary_word(*op), *line),
-        Expr::Star(line, _) => put_head(out, "*", *line),
-        Expr::Stars(line, _) => put_head(out, "**", *line),
-        Expr::Named(line, name, _) => put_named(out, name.as_str(), *line),
-        Expr::Binary(line, op, _, _) => put_head(out, binary_word(*op), *line),
-        Expr::And(line, _, _) => put_head(out, "and", *line),
-        Expr::Or(line, _, _) => put_head(out, "or", *line),
-        Expr::Index(line, _, _) => put_head(out, "at", *line),
-        Expr::If(line, _, _, _) => put_head(out, "if", *line),
-        Expr::Call(line, _, _) => put_head(out, "call", *line),
-        Expr::Slice(line, _, _, _, _) => put_head(out, "slice", *line),
-        Expr::Dot(line, _, _) => put_head(out, ".", *line),
-        Expr::Lambda(line, _, _, _) => put_head(out, "lambda", *line),
-        Expr::ListFor(line, _, _) => put_head(out, "list-for", *line),
-        Expr::DictFor(line, _, _, _) => put_head(out, "dict-for", *line),
+        let (mark, name) = param_name(param);
+        out.put(mark);
+        out.put(name);
+        if let Param::Defaulted(_, value) = param {
+            out.put("=");
+            put_expr(out, value.get());
+        }
     }
 }
 
-/// The parts of an expression, and `)` where it began with `(`.
+/// The parts of an expression.
 #[cycle(code)]
-fn put_parts(out: &mut String, expr: &Expr) -> Result<(), AllocError> {
+fn put_parts(out: &mut Shown, expr: &Expr) {
     match expr {
-        Expr::Int(_, _) | Expr::Text(_, _) | Expr::Name(_, _) | Expr::Template(_, _) => Ok(()),
+        Expr::Int(_, _) | Expr::Text(_, _) | Expr::Name(_, _) | Expr::Template(_, _) => (),
         Expr::List(_, parts) | Expr::Tuple(_, parts) => put_exprs(out, parts),
         Expr::Dict(_, entries) => put_entries(out, entries),
-        Expr::Unary(_, _, a) | Expr::Star(_, a) | Expr::Stars(_, a) => put_last(out, a.get()),
-        Expr::Named(_, _, value) => put_expr(out, value.get()),
+        Expr::Unary(_, _, a) | Expr::Star(_, a) | Expr::Stars(_, a) => put_part(out, a.get()),
+        Expr::Named(_, _, value) => {
+            out.put("=");
+            put_expr(out, value.get());
+        }
         Expr::Binary(_, _, a, b) | Expr::And(_, a, b) | Expr::Or(_, a, b) | Expr::Index(_, a, b) =>
             {
-                put_part(out, a.get())?;
-                put_last(out, b.get())
+                put_part(out, a.get());
+                put_part(out, b.get());
             }
         Expr::If(_, test, a, b) => {
-            put_part(out, test.get())?;
-            put_part(out, a.get())?;
-            put_last(out, b.get())
+            put_part(out, test.get());
+            put_part(out, a.get());
+            put_part(out, b.get());
         }
         Expr::Call(_, function, args) => {
-            put_part(out, function.get())?;
-            put_exprs(out, args)
+            put_part(out, function.get());
+            put_exprs(out, args);
         }
         Expr::Slice(_, whole, low, high, step) => {
-            put_part(out, whole.get())?;
-            put_optional(out, low)?;
-            put_optional(out, high)?;
-            put_optional(out, step)?;
-            out.push_str(")")
+            put_part(out, whole.get());
+            put_optional(out, low);
+            put_optional(out, high);
+            put_optional(out, step);
         }
         Expr::Dot(_, whole, name) => {
-            put_part(out, whole.get())?;
-            put_attribute(out, name.as_str())
+            put_part(out, whole.get());
+            out.put(" ");
+            out.put(name.as_str());
         }
         Expr::Lambda(_, _, params, body) => {
-            put_params(out, params)?;
-            out.push_str(" :")?;
-            put_last(out, body.get())
+            put_params(out, params);
+            out.put(" :");
+            put_part(out, body.get());
         }
         Expr::ListFor(_, value, clauses) => {
-            put_part(out, value.get())?;
-            put_clauses(out, clauses)
+            put_part(out, value.get());
+            put_clauses(out, clauses);
         }
         Expr::DictFor(_, key, value, clauses) => {
-            put_part(out, key.get())?;
-            put_part(out, value.get())?;
-            put_clauses(out, clauses)
+            put_part(out, key.get());
+            put_part(out, value.get());
+            put_clauses(out, clauses);
         }
     }
 }
 
-/// Puts an expression behind the text. The error is want of memory.
+/// An expression.
 #[cycle(code)]
-fn put_expr(out: &mut String, expr: &Expr) -> Result<(), AllocError> {
-    put_beginning(out, expr)?;
-    put_parts(out, expr)
-}
-
-fn put_one(out: &mut String, word: &str, line: u32, a: &Expr) -> Result<(), AllocError> {
-    put_head(out, word, line)?;
-    put_last(out, a)
-}
-
-fn put_two(out: &mut String, word: &str, line: u32, a: &Expr, b: &Expr) -> Result<(), AllocError> {
-    put_head(out, word, line)?;
-    put_part(out, a)?;
-    put_last(out, b)
-}
-
-fn put_load(
-    out: &mut String,
-    line: u32,
-    path: &str,
-    names: &Items<Loaded>,
-) -> Result<(), AllocError> {
-    put_head(out, "load", line)?;
-    out.push_str(" ")?;
-    put_text(out, path, 1)?;
-    for name in names.as_slice() {
-        put_marked(out, " ", name.bound.as_str())?;
-        put_marked(out, "=", name.origin.as_str())?;
+fn put_expr(out: &mut Shown, expr: &Expr) {
+    match expr {
+        Expr::Int(_, value) => out.put_number(*value),
+        Expr::Text(_, text) => out.put_quoted(text.as_str()),
+        Expr::Name(_, name) | Expr::Named(_, name, _) => out.put(name.as_str()),
+        _ => (),
     }
-    out.push_str(")")
+    let (head, line) = head_of(expr);
+    put_word(out, head, line);
+    put_parts(out, expr);
+    out.put(if head.starts_with("(") { ")" } else { "" });
 }
 
-fn put_def(
-    out: &mut String,
-    line: u32,
-    name: &str,
-    params: &Items<Param>,
-) -> Result<(), AllocError> {
-    put_head(out, "def", line)?;
-    put_marked(out, " ", name)?;
-    put_params(out, params)?;
-    out.push_str(")")
-}
-
-fn put_augment(
-    out: &mut String,
-    line: u32,
-    op: BinOp,
-    target: &Expr,
-    value: &Expr,
-) -> Result<(), AllocError> {
-    put_head(out, binary_word(op), line)?;
-    out.push_str("=")?;
-    put_part(out, target)?;
-    put_last(out, value)
-}
-
-/// A part of a node, without what its scalar is.
-fn put_node(out: &mut String, part: &NodeOp) -> Result<(), AllocError> {
-    match part {
-        NodeOp::Start(place, _, _) => put_word(out, "node", place.line),
-        NodeOp::Key(place, _) => put_word(out, "key", place.line),
-        NodeOp::Value(place, _) => put_word(out, "value", place.line),
-        NodeOp::ValueFrom(place, value) => put_one(out, "value", place.line, value.get()),
-        NodeOp::End(place) => put_word(out, "node-end", place.line),
-        NodeOp::Note(place, name, args) => {
-            put_head(out, name.as_str(), place.line)?;
-            put_exprs(out, args)
-        }
-    }
-}
-
-/// Puts a statement behind the text. The error is want of memory.
-fn put_statement(out: &mut String, statement: &Stmt) -> Result<(), AllocError> {
+/// The word that a statement begins with, and its line.
+fn head_of_statement(statement: &Stmt) -> (&'static str, u32) {
     match statement {
-        Stmt::Expr(line, value) => put_one(out, "do", *line, value.get()),
-        Stmt::Assign(line, target, value) => put_two(out, "=", *line, target.get(), value.get()),
-        Stmt::Augment(line, op, _, target, value) => {
-            put_augment(out, *line, *op, target.get(), value.get())
-        }
-        Stmt::Load(line, path, names) => put_load(out, *line, path.as_str(), names),
-        Stmt::Return(line, value) => put_one(out, "return", *line, value.get()),
-        Stmt::Break(line) => put_word(out, "break", *line),
-        Stmt::Continue(line) => put_word(out, "continue", *line),
-        Stmt::Pass(line) => put_word(out, "pass", *line),
-        Stmt::If(line, test) => put_one(out, "if", *line, test.get()),
-        Stmt::Elif(line, test) => put_one(out, "elif", *line, test.get()),
-        Stmt::Else(line) => put_word(out, "else", *line),
-        Stmt::For(line, target, members) => put_two(out, "for", *line, target.get(), members.get()),
-        Stmt::Def(line, _, _, name, params) => put_def(out, *line, name.as_str(), params),
-        Stmt::Close(line) => put_word(out, "end", *line),
-        Stmt::Node(part) => put_node(out, part),
+        Stmt::Expr(line, _) => ("(do", *line),
+        Stmt::Assign(line, _, _) => ("(=", *line),
+        Stmt::Augment(line, op, _, _, _) => (binary_head(*op), *line),
+        Stmt::Load(line, _, _) => ("(load", *line),
+        Stmt::Return(line, _) => ("(return", *line),
+        Stmt::Break(line) => ("break", *line),
+        Stmt::Continue(line) => ("continue", *line),
+        Stmt::Pass(line) => ("pass", *line),
+        Stmt::If(line, _) => ("(if", *line),
+        Stmt::Elif(line, _) => ("(elif", *line),
+        Stmt::Else(line) => ("else", *line),
+        Stmt::For(line, _, _) => ("(for", *line),
+        Stmt::Def(line, _, _, _, _) => ("(def", *line),
+        Stmt::Close(line) => ("end", *line),
+        Stmt::Node(_) => ("node", 1),
     }
+}
+
+fn put_two(out: &mut Shown, a: &Expr, b: &Expr) {
+    put_part(out, a);
+    put_part(out, b);
+}
+
+fn put_signature(out: &mut Shown, name: &str, params: &Items<Param>) {
+    out.put(" ");
+    out.put(name);
+    put_params(out, params);
+}
+
+fn put_loaded(out: &mut Shown, names: &Items<Loaded>) {
+    for name in names.as_slice() {
+        out.put(" ");
+        out.put(name.bound.as_str());
+        out.put("=");
+        out.put(name.origin.as_str());
+    }
+}
+
+/// A statement; of a part of a node, only that it is one.
+fn put_statement(out: &mut Shown, statement: &Stmt) {
+    let (head, line) = head_of_statement(statement);
+    put_word(out, head, line);
+    match statement {
+        Stmt::Expr(_, a) | Stmt::Return(_, a) | Stmt::If(_, a) | Stmt::Elif(_, a) => {
+            put_part(out, a.get())
+        }
+        Stmt::Assign(_, a, b) | Stmt::For(_, a, b) => put_two(out, a.get(), b.get()),
+        Stmt::Augment(_, _, _, a, b) => {
+            out.put("=");
+            put_two(out, a.get(), b.get());
+        }
+        Stmt::Load(_, path, names) => {
+            out.put(" ");
+            out.put_quoted(path.as_str());
+            put_loaded(out, names);
+        }
+        Stmt::Def(_, _, _, name, params) => put_signature(out, name.as_str(), params),
+        _ => (),
+    }
+    out.put(if head.starts_with("(") { ")" } else { "" });
 }
 
 /// An expression of whole code: `(+ 1 (at x@2 0))`. The error is want of memory.
 pub fn shown_code(alloc: Global, expr: &Expr) -> Result<String, Memory> {
-    let mut out = String::new(alloc);
-    put_expr(&mut out, expr)?;
-    Ok(out)
+    let mut out = Shown::new(alloc);
+    put_expr(&mut out, expr);
+    out.take()
 }
 
 /// Arguments, each behind a space. The error is want of memory.
 pub fn shown_args(alloc: Global, args: &Items<Expr>) -> Result<String, Memory> {
-    let mut out = String::new(alloc);
-    put_head(&mut out, "args", 1)?;
-    put_exprs(&mut out, args)?;
-    Ok(out)
+    let mut out = Shown::new(alloc);
+    out.put("(args");
+    put_exprs(&mut out, args);
+    out.put(")");
+    out.take()
 }
 
 /// Statements with ` | ` between. The error is want of memory.
 pub fn shown_statements(alloc: Global, code: &Items<Stmt>) -> Result<String, Memory> {
-    let mut out = String::new(alloc);
-    for statement in code.as_slice() {
-        out.push_str(if out.is_empty() { "" } else { " | " })?;
-        put_statement(&mut out, statement)?;
+    let mut out = Shown::new(alloc);
+    for (at, statement) in code.as_slice().iter().enumerate() {
+        out.put(if at > 0 { " | " } else { "" });
+        put_statement(&mut out, statement);
     }
-    Ok(out)
+    out.take()
 }
 
 /// The head or the end of a block. The error is want of memory.
 pub fn shown_header(alloc: Global, header: &Header) -> Result<String, Memory> {
-    let mut out = String::new(alloc);
+    let mut out = Shown::new(alloc);
     match header {
-        Header::If(test) => put_one(&mut out, "if", 1, test.get())?,
-        Header::Elif(test) => put_one(&mut out, "elif", 1, test.get())?,
-        Header::Else => out.push_str("else")?,
-        Header::For(target, members) => put_two(&mut out, "for", 1, target.get(), members.get())?,
-        Header::Def(name, params) => put_def(&mut out, 1, name.as_str(), params)?,
-        Header::End => out.push_str("end")?,
+        Header::Else => out.put("else"),
+        Header::End => out.put("end"),
+        Header::If(test) => {
+            out.put("(if");
+            put_part(&mut out, test.get());
+            out.put(")");
+        }
+        Header::Elif(test) => {
+            out.put("(elif");
+            put_part(&mut out, test.get());
+            out.put(")");
+        }
+        Header::For(target, members) => {
+            out.put("(for");
+            put_two(&mut out, target.get(), members.get());
+            out.put(")");
+        }
+        Header::Def(name, params) => {
+            out.put("(def");
+            put_signature(&mut out, name.as_str(), params);
+            out.put(")");
+        }
     }
-    Ok(out)
+    out.take()
 }

@@ -2,8 +2,6 @@
 #![tactic(auto)]
 
 #[cfg(test)]
-mod loops;
-#[cfg(test)]
 mod many;
 #[cfg(test)]
 mod owned;
@@ -11,8 +9,6 @@ mod owned;
 mod rows;
 #[cfg(test)]
 mod script;
-#[cfg(test)]
-mod shapes;
 #[cfg(test)]
 mod shown;
 #[cfg(test)]

@@ -18,6 +18,10 @@ fn fill(alloc: Global, arena: &mut Arena, list: Ref, dict: Ref, count: u32) -> R
     Ok(())
 }
 
+fn is_number(said: Said, number: u32) -> bool {
+    matches!(said, Said::Value(Value::Int(n)) if n == number as i128)
+}
+
 /// Whether each number stands at its place of the list and under its text in the dict.
 fn stands(
     alloc: Global,
@@ -28,11 +32,10 @@ fn stands(
 ) -> Result<bool, Memory> {
     let mut all = true;
     for n in 0..count {
-        let number = Value::Int(n as i128);
         let text = format!(in alloc; "key{n}")?;
         let key = arena.new_text(Text::of_string(text))?;
-        let pushed = get(arena, list, n as u64) == Said::Value(number);
-        let found = look(arena, dict, key) == Said::Value(number);
+        let pushed = is_number(get(arena, list, n as u64), n);
+        let found = is_number(look(arena, dict, key), n);
         all = all && pushed && found;
     }
     Ok(all)

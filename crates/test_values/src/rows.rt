@@ -1,6 +1,6 @@
 // Rows: a script, and what its calls answer.
 
-use crate::script::Script;
+use crate::script::answers;
 use std::test::Fail;
 use test_shown::Differing;
 
@@ -80,11 +80,11 @@ const ROWS: &[(&str, &str)] = &[
     ("list 1; tuple #0; dict; put #2 #1 x", "ok ok ok unfit "),
     ("list 1; list 1; same #0 #1", "ok ok no "),
     (
-        "box; box-length 0; box-get 0; box-push 0 7; box-length 0; box-get 0",
+        "box; length #0; get #0 0; push #0 7; length #0; get #0 0",
         "ok 0 IndexRange ok 1 7 ",
     ),
     (
-        "box; box-set 0 7; box-push 0 7; box-set 0 8; box-get 0; box-push 0 9",
+        "box; set #0 0 7; push #0 7; set #0 0 8; get #0 0; push #0 9",
         "ok IndexRange ok ok 8 unfit ",
     ),
     (
@@ -100,7 +100,7 @@ const ROWS: &[(&str, &str)] = &[
         "ok ok ok Frozen Frozen Frozen Frozen 1 ",
     ),
     (
-        "box; box-push 0 1; freeze; box-set 0 2; box-get 0",
+        "box; push #0 1; freeze; set #0 0 2; get #0 0",
         "ok ok ok Frozen 1 ",
     ),
     (
@@ -114,6 +114,21 @@ const ROWS: &[(&str, &str)] = &[
     ("list 1; owns #0; other #0", "ok yes no "),
     ("tuple x; owns #0; other #0", "ok yes no "),
     ("list 1; get #0 -1", "ok IndexRange "),
+    // loops are counted
+    (
+        "list; walk #0; walk #0; push #0 1; leave #0; push #0 1; leave #0; push #0 1",
+        "ok ok ok Iterating ok Iterating ok ok ",
+    ),
+    // frozen comes before walked
+    (
+        "list; walk #0; walk #0; push #0 1; freeze; push #0 1",
+        "ok ok ok Iterating ok Frozen ",
+    ),
+    // a mark leaves what is older
+    (
+        "list; mark; list; freeze; push #0 1; push #1 1",
+        "ok ok ok ok ok Frozen ",
+    ),
 ];
 
 #[test]
@@ -121,9 +136,9 @@ fn each_call_answers_what_is_due(rt: HostRuntime) -> Result<(), Fail> {
     let alloc = rt.alloc();
     let mut wrong = Differing::new(alloc);
     for (script, due) in ROWS {
-        let is = Script::new(alloc).run(script)?;
-        wrong.compare(script, is.as_str(), due)?;
+        let is = answers(alloc, script)?;
+        wrong.compare(script, is.as_str(), due);
     }
-    assert_eq!(rt; wrong.as_str(), "");
+    assert_eq!(rt; wrong.take()?.as_str(), "");
     Ok(())
 }

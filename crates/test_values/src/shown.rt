@@ -3,74 +3,72 @@
 use crate::owned::is_of;
 use crate::trial::Said;
 use object_arena::{Arena, ArenaStop, Ref, Sort, Value};
-use std::alloc::Global;
-use ytt_base::text::Memory;
+use test_shown::Shown;
 
 /// A value by itself: what stands in an arena and is no text is told by its kind.
-fn shown_alone(alloc: Global, arena: &Arena, value: Value) -> Result<String, Memory> {
+fn put_alone(out: &mut Shown, arena: &Arena, value: Value) {
     match value {
-        Value::None => Ok(format!(in alloc; "None")?),
-        Value::Bool(true) => Ok(format!(in alloc; "True")?),
-        Value::Bool(false) => Ok(format!(in alloc; "False")?),
-        Value::Int(n) => Ok(format!(in alloc; "{n}")?),
+        Value::None => out.put("None"),
+        Value::Bool(true) => out.put("True"),
+        Value::Bool(false) => out.put("False"),
+        Value::Int(n) => out.put_number(n),
         Value::Text(text) => {
             if is_of(arena, text, Sort::Text) {
-                return Ok(String::from_str(alloc, arena.text(text).as_str())?);
+                out.put(arena.text(text).as_str());
             }
-            Ok(format!(in alloc; "?")?)
         }
-        Value::List(_) => Ok(format!(in alloc; "list")?),
-        Value::Dict(_) => Ok(format!(in alloc; "dict")?),
-        Value::Tuple(_) => Ok(format!(in alloc; "tuple")?),
-        _ => Ok(format!(in alloc; "other")?),
+        Value::List(_) => out.put("list"),
+        Value::Dict(_) => out.put("dict"),
+        Value::Tuple(_) => out.put("tuple"),
+        _ => out.put("other"),
     }
 }
 
 /// The members of a list or tuple, in square brackets.
-fn shown_members(alloc: Global, arena: &Arena, members: &[Value]) -> Result<String, Memory> {
-    let mut text = String::from_str(alloc, "[")?;
+fn put_members(out: &mut Shown, arena: &Arena, members: &[Value]) {
+    out.put("[");
     for member in members {
-        text.push_str(shown_alone(alloc, arena, *member)?.as_str())?;
-        text.push_str(",")?;
+        put_alone(out, arena, *member);
+        out.put(",");
     }
-    text.push_str("]")?;
-    Ok(text)
+    out.put("]");
 }
 
 /// The pairs of a dict, in curly brackets.
-fn shown_pairs(alloc: Global, arena: &Arena, dict: Ref) -> Result<String, Memory> {
-    let mut text = String::from_str(alloc, "{")?;
+fn put_pairs(out: &mut Shown, arena: &Arena, dict: Ref) {
+    out.put("{");
     if is_of(arena, dict, Sort::Dict) {
         for at in 0..arena.length(dict) {
             if let Ok((key, value)) = arena.dict_at(dict, at) {
-                text.push_str(shown_alone(alloc, arena, key)?.as_str())?;
-                text.push_str(":")?;
-                text.push_str(shown_alone(alloc, arena, value)?.as_str())?;
-                text.push_str(",")?;
+                put_pair(out, arena, key, value);
+                out.put(",");
             }
         }
     }
-    text.push_str("}")?;
-    Ok(text)
+    out.put("}");
+}
+
+fn put_pair(out: &mut Shown, arena: &Arena, key: Value, value: Value) {
+    put_alone(out, arena, key);
+    out.put(":");
+    put_alone(out, arena, value);
 }
 
 /// A value with its members.
-pub fn shown_value(alloc: Global, arena: &Arena, value: Value) -> Result<String, Memory> {
+fn put_value(out: &mut Shown, arena: &Arena, value: Value) {
     match value {
         Value::List(list) => {
             if is_of(arena, list, Sort::List) {
-                return shown_members(alloc, arena, arena.list(list));
+                put_members(out, arena, arena.list(list));
             }
-            shown_alone(alloc, arena, value)
         }
         Value::Tuple(tuple) => {
             if is_of(arena, tuple, Sort::Tuple) {
-                return shown_members(alloc, arena, arena.tuple(tuple));
+                put_members(out, arena, arena.tuple(tuple));
             }
-            shown_alone(alloc, arena, value)
         }
-        Value::Dict(dict) => shown_pairs(alloc, arena, dict),
-        _ => shown_alone(alloc, arena, value),
+        Value::Dict(dict) => put_pairs(out, arena, dict),
+        _ => put_alone(out, arena, value),
     }
 }
 
@@ -85,20 +83,15 @@ fn name_of(stop: ArenaStop) -> &'static str {
 }
 
 /// What a call answered.
-pub fn shown_said(alloc: Global, arena: &Arena, said: Said) -> Result<String, Memory> {
+pub fn put_said(out: &mut Shown, arena: &Arena, said: Said) {
     match said {
-        Said::Done => Ok(format!(in alloc; "ok")?),
-        Said::Value(value) => shown_value(alloc, arena, value),
-        Said::Pair(key, value) => {
-            let mut text = shown_alone(alloc, arena, key)?;
-            text.push_str(":")?;
-            text.push_str(shown_alone(alloc, arena, value)?.as_str())?;
-            Ok(text)
-        }
-        Said::Number(number) => Ok(format!(in alloc; "{number}")?),
-        Said::Truth(true) => Ok(format!(in alloc; "yes")?),
-        Said::Truth(false) => Ok(format!(in alloc; "no")?),
-        Said::Stop(stop) => Ok(format!(in alloc; "{}", name_of(stop))?),
-        Said::Unfit => Ok(format!(in alloc; "unfit")?),
+        Said::Done => out.put("ok"),
+        Said::Value(value) => put_value(out, arena, value),
+        Said::Pair(key, value) => put_pair(out, arena, key, value),
+        Said::Number(number) => out.put_number(number as i128),
+        Said::Truth(true) => out.put("yes"),
+        Said::Truth(false) => out.put("no"),
+        Said::Stop(stop) => out.put(name_of(stop)),
+        Said::Unfit => out.put("unfit"),
     }
 }

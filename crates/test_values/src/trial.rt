@@ -4,7 +4,7 @@ use crate::owned::{are_owned, has_members, has_room, is_key, is_of, is_owned, is
 use object_arena::{Arena, ArenaStop, Ref, Sort, Value};
 
 /// What a call answered.
-#[derive(Clone, Copy, PartialEq, Eq)]
+#[derive(Clone, Copy)]
 pub enum Said {
     Done,
     Value(Value),
@@ -148,4 +148,22 @@ pub fn length(arena: &Arena, r: Ref) -> Said {
         }
         _ => Said::Unfit,
     }
+}
+
+/// One more loop walks a list or a dict.
+pub fn walk(arena: &mut Arena, r: Ref) -> Said {
+    if is_walked(arena, r) && arena.may_walk(r) {
+        arena.begin_loop(r);
+        return Said::Done;
+    }
+    Said::Unfit
+}
+
+/// One loop less walks a list or a dict.
+pub fn leave(arena: &mut Arena, r: Ref) -> Said {
+    if is_walked(arena, r) {
+        arena.end_loop(r);
+        return Said::Done;
+    }
+    Said::Unfit
 }

@@ -6,13 +6,14 @@ ghost use Rattle.yaml_spec.specs.Openers.{starts_block};
 ghost use Rattle.yaml_spec.specs.Positions.{cursor_at};
 ghost use Rattle.yaml_spec.specs.Quotes.{starts_quote};
 
-use crate::texts::lines_of;
 use std::alloc::Global;
 use std::test::Fail;
-use test_shown::{Differing, shown_stop};
+use test_shown::{Differing, Shown, shown_stop};
+use yaml_lines::cut_lines;
 use yaml_scalar::{Quoted, read_block, read_quoted};
 use ytt_base::fault::Stop;
 use ytt_base::line::Lines;
+use ytt_base::text::Memory;
 
 /// Whether a quote stands there.
 #[tactic(auto, using(yaml_spec::proofs::HeldLines::openers))]
@@ -47,14 +48,18 @@ fn has_block(lines: &Lines, line: u64, column: u64) -> bool
 }
 
 /// The line and the column behind a string, and the string.
-fn shown(alloc: Global, answer: Result<Quoted, Stop>) -> Result<String, Fail> {
+fn shown(alloc: Global, answer: Result<Quoted, Stop>) -> Result<String, Memory> {
     match answer {
         Ok(quoted) => {
-            let line = quoted.line;
-            let column = quoted.column;
-            Ok(format!(in alloc; "{line}:{column} {}", quoted.text.as_str())?)
+            let mut out = Shown::new(alloc);
+            out.put_number(quoted.line as i128);
+            out.put(":");
+            out.put_number(quoted.column as i128);
+            out.put(" ");
+            out.put(quoted.text.as_str());
+            out.take()
         }
-        Err(stop) => Ok(shown_stop(alloc, &stop)?),
+        Err(stop) => shown_stop(alloc, &stop),
     }
 }
 
@@ -82,14 +87,15 @@ fn quotes_by_positions(rt: HostRuntime) -> Result<(), Fail> {
     let alloc = rt.alloc();
     let mut wrong = Differing::new(alloc);
     for (source, line, column, want) in QUOTES {
-        let lines = lines_of(alloc, source)?;
+        assert!(rt; source.len() < 1000);
+        let lines = cut_lines(alloc, source.as_bytes(), 3)?;
         assert!(rt; has_quote(&lines, *line, *column), "at {source}");
         if has_quote(&lines, *line, *column) {
             let answer = shown(alloc, read_quoted(alloc, &lines, *line, *column))?;
-            wrong.compare(source, answer.as_str(), want)?;
+            wrong.compare(source, answer.as_str(), want);
         }
     }
-    assert_eq!(rt; wrong.as_str(), "");
+    assert_eq!(rt; wrong.take()?.as_str(), "");
     Ok(())
 }
 
@@ -124,13 +130,14 @@ fn blocks_by_positions(rt: HostRuntime) -> Result<(), Fail> {
     let alloc = rt.alloc();
     let mut wrong = Differing::new(alloc);
     for (source, line, column, parent, want) in BLOCKS {
-        let lines = lines_of(alloc, source)?;
+        assert!(rt; source.len() < 1000);
+        let lines = cut_lines(alloc, source.as_bytes(), 3)?;
         assert!(rt; has_block(&lines, *line, *column), "at {source}");
         if has_block(&lines, *line, *column) {
             let answer = shown(alloc, read_block(alloc, &lines, *line, *column, *parent))?;
-            wrong.compare(source, answer.as_str(), want)?;
+            wrong.compare(source, answer.as_str(), want);
         }
     }
-    assert_eq!(rt; wrong.as_str(), "");
+    assert_eq!(rt; wrong.take()?.as_str(), "");
     Ok(())
 }
