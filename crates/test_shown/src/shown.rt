@@ -36,7 +36,8 @@ impl Shown {
         }
     }
 
-    pub(crate) fn put_quoted(&mut self, text: &str) {
+    /// Puts a text in quotes behind it.
+    pub fn put_quoted(&mut self, text: &str) {
         self.put("'");
         self.put(text);
         self.put("'");

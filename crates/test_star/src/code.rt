@@ -2,13 +2,14 @@
 // is due; a line's end in either is written `⏎`, and a line that begins with `//` says what stands below it. Where several tokens of
 // a text that is refused could be meant, each stands on a line of its own.
 
+use crate::whole::{shown_args, shown_code, shown_header, shown_statements};
 use star_read::{read_args, read_expr, read_file, read_header, read_simple};
 use star_token::{file_tokens, tokens};
 use std::alloc::{AllocError, Global};
 use std::test::Fail;
-use test_shown::{Differing, shown_args, shown_code, shown_header, shown_statements, shown_stop};
+use test_shown::{Differing, Shown, shown_stop};
 use ytt_base::fault::Stop;
-use ytt_base::text::Text;
+use ytt_base::text::{Memory, Text};
 
 /// What a text is read as.
 #[derive(Clone, Copy)]
@@ -427,9 +428,8 @@ def f():⏎end x⏎ => error: CodeForm at b.yml:2
 /// A text of a row, whose line ends are written `⏎`.
 fn unfolded(alloc: Global, text: &str) -> Result<String, AllocError> {
     let mut whole = String::new(alloc);
-    for (at, line) in text.split('⏎').enumerate() {
-        whole.push_str(if at > 0 { "\n" } else { "" })?;
-        whole.push_str(line)?;
+    for letter in text.chars() {
+        whole.push(if letter == '⏎' { '\n' } else { letter })?;
     }
     Ok(whole)
 }
@@ -442,7 +442,7 @@ fn compare_all(alloc: Global, wrong: &mut Differing, kind: As, table: &str) -> R
         }
         let (text, due) = row.split_once(" =>").ok_or("a row without what is due")?;
         let text = unfolded(alloc, text)?;
-        let due = unfolded(alloc, due.trim_start_matches(' '))?;
+        let due = unfolded(alloc, due.strip_prefix(" ").unwrap_or(""))?;
         let is = answer(alloc, kind, text.as_str())?;
         wrong.compare(row, is.as_str(), due.as_str());
     }
@@ -489,35 +489,43 @@ const DEEP: &[(As, u32, &str, &str, &str, u32)] = &[
     (As::File, 51, "for a in b:\n", "", "end\n", 51),
 ];
 
-fn push_times(all: &mut String, count: u32, text: &str) -> Result<(), Fail> {
+/// A text of so many of one, another, and as many of a third.
+fn nested(
+    alloc: Global,
+    count: u32,
+    front: &str,
+    inside: &str,
+    back: &str,
+) -> Result<String, Memory> {
+    let mut text = Shown::new(alloc);
     for _ in 0..count {
-        all.push_str(text)?;
+        text.put(front);
     }
-    Ok(())
+    text.put(inside);
+    for _ in 0..count {
+        text.put(back);
+    }
+    text.take()
 }
 
-/// Whether a text is read, or is too deep on this line.
-fn is_deep(alloc: Global, kind: As, text: &str, line: u32) -> Result<bool, Fail> {
-    match read(alloc, kind, text) {
-        Ok(_) => Ok(line == 0),
-        Err(stop) => {
-            let is = shown_stop(alloc, &stop)?;
-            let want = format!(in alloc; "error: TooDeep at b.yml:{line}")?;
-            Ok(is.as_str() == want.as_str())
-        }
-    }
+/// What is due of a text that is too deep on this line.
+fn too_deep(alloc: Global, line: u32) -> Result<String, Memory> {
+    let mut due = Shown::new(alloc);
+    due.put("error: TooDeep at b.yml:");
+    due.put_number(i128::from(line));
+    due.take()
 }
 
 #[test]
 fn code_is_too_deep(rt: HostRuntime) -> Result<(), Fail> {
     let alloc = rt.alloc();
     for (kind, count, front, inside, back, line) in DEEP {
-        let mut text = String::new(alloc);
-        push_times(&mut text, *count, front)?;
-        text.push_str(inside)?;
-        push_times(&mut text, *count, back)?;
+        let text = nested(alloc, *count, front, inside, back)?;
+        let is = answer(alloc, *kind, text.as_str())?;
+        let due = too_deep(alloc, *line)?;
         assert!(rt;
-            is_deep(alloc, *kind, text.as_str(), *line)?,
+            (is.as_str() == due.as_str()) == (*line != 0)
+                && is.starts_with("error") == (*line != 0),
             "{count} times {front}"
         );
     }

@@ -38,6 +38,14 @@ fn place(values: &[Value], at: usize) -> u64 {
     }
 }
 
+/// The number that a word tells, if it tells one.
+fn number_in(word: &str) -> Option<i128> {
+    match word.parse::<i128>() {
+        Ok(number) => Some(number),
+        Err(_) => None,
+    }
+}
+
 /// What a word stands for: `#0` for what was made first, a number, a name of the language, or a text.
 fn meant(alloc: Global, arena: &mut Arena, made: &[Value], word: &str) -> Result<Value, Memory> {
     match word {
@@ -46,12 +54,13 @@ fn meant(alloc: Global, arena: &mut Arena, made: &[Value], word: &str) -> Result
         "False" => return Ok(Value::Bool(false)),
         _ => (),
     }
-    if let Ok(number) = word.trim_start_matches('#').parse::<i128>() {
-        return Ok(if word.starts_with('#') {
-            value(made, place_from(number) as usize)
-        } else {
-            Value::Int(number)
-        });
+    if let Some(number) = word.strip_prefix("#") {
+        if let Some(at) = number_in(number) {
+            return Ok(value(made, place_from(at) as usize));
+        }
+    }
+    if let Some(number) = number_in(word) {
+        return Ok(Value::Int(number));
     }
     arena.new_text(Text::of(alloc, word)?)
 }
@@ -64,7 +73,7 @@ fn args_of(
     words: &str,
 ) -> Result<Values, Memory> {
     let mut args = Items::new(alloc);
-    for word in words.split(' ') {
+    for word in words.split(" ") {
         if word != "" {
             let value = meant(alloc, arena, made, word)?;
             args.push(value)?;
@@ -151,7 +160,7 @@ pub fn answers(alloc: Global, script: &str) -> Result<String, Memory> {
     let mut made = Items::new(alloc);
     let mut said = Shown::new(alloc);
     for one in script.split("; ") {
-        let (name, words) = match one.split_once(' ') {
+        let (name, words) = match one.split_once(" ") {
             None => (one, ""),
             Some(parts) => parts,
         };

@@ -2,6 +2,8 @@
 #![tactic(auto)]
 
 #[cfg(test)]
+mod noted;
+#[cfg(test)]
 mod notes;
 #[cfg(test)]
 mod positions;

@@ -1,7 +1,8 @@
 // Noted documents: the place of each item, and the comments that belong to it.
 
+use crate::noted::shown_documents;
 use std::test::Fail;
-use test_shown::{Differing, shown_documents, shown_stop};
+use test_shown::{Differing, shown_stop};
 use yaml_read::read_noted;
 
 /// Texts and their noted documents.

@@ -82,18 +82,25 @@ const QUOTES: &[(&str, u64, u64, &str)] = &[
     ("x\n'a\nb", 1, 0, "error: YamlForm at c.yml:2"),
 ];
 
+/// What is read at a quote.
+fn quote_at(alloc: Global, source: &str, line: u64, column: u64) -> Result<String, Fail> {
+    if source.len() >= 1000 {
+        return Err("a long text".into());
+    }
+    let lines = cut_lines(alloc, source.as_bytes(), 3)?;
+    if !has_quote(&lines, line, column) {
+        return Err("no quote".into());
+    }
+    Ok(shown(alloc, read_quoted(alloc, &lines, line, column))?)
+}
+
 #[test]
 fn quotes_by_positions(rt: HostRuntime) -> Result<(), Fail> {
     let alloc = rt.alloc();
     let mut wrong = Differing::new(alloc);
     for (source, line, column, want) in QUOTES {
-        assert!(rt; source.len() < 1000);
-        let lines = cut_lines(alloc, source.as_bytes(), 3)?;
-        assert!(rt; has_quote(&lines, *line, *column), "at {source}");
-        if has_quote(&lines, *line, *column) {
-            let answer = shown(alloc, read_quoted(alloc, &lines, *line, *column))?;
-            wrong.compare(source, answer.as_str(), want);
-        }
+        let is = quote_at(alloc, source, *line, *column)?;
+        wrong.compare(source, is.as_str(), want);
     }
     assert_eq!(rt; wrong.take()?.as_str(), "");
     Ok(())
@@ -125,18 +132,31 @@ const BLOCKS: &[(&str, u64, u64, i64, &str)] = &[
     ),
 ];
 
+/// What is read at `|` or `>`.
+fn block_at(
+    alloc: Global,
+    source: &str,
+    line: u64,
+    column: u64,
+    parent: i64,
+) -> Result<String, Fail> {
+    if source.len() >= 1000 {
+        return Err("a long text".into());
+    }
+    let lines = cut_lines(alloc, source.as_bytes(), 3)?;
+    if !has_block(&lines, line, column) {
+        return Err("no block".into());
+    }
+    Ok(shown(alloc, read_block(alloc, &lines, line, column, parent))?)
+}
+
 #[test]
 fn blocks_by_positions(rt: HostRuntime) -> Result<(), Fail> {
     let alloc = rt.alloc();
     let mut wrong = Differing::new(alloc);
     for (source, line, column, parent, want) in BLOCKS {
-        assert!(rt; source.len() < 1000);
-        let lines = cut_lines(alloc, source.as_bytes(), 3)?;
-        assert!(rt; has_block(&lines, *line, *column), "at {source}");
-        if has_block(&lines, *line, *column) {
-            let answer = shown(alloc, read_block(alloc, &lines, *line, *column, *parent))?;
-            wrong.compare(source, answer.as_str(), want);
-        }
+        let is = block_at(alloc, source, *line, *column, *parent)?;
+        wrong.compare(source, is.as_str(), want);
     }
     assert_eq!(rt; wrong.take()?.as_str(), "");
     Ok(())

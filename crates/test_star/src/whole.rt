@@ -1,10 +1,10 @@
 // Code whole: expressions, statements, and heads of blocks. A part that stands on another line than the first has its line
 // behind `@`.
 
-use crate::shown::Shown;
 use sqlite_items::{Boxed, Items};
 use star_tree::code::{BinOp, Clause, Entry, Expr, Header, Loaded, Param, Stmt, UnOp};
 use std::alloc::Global;
+use test_shown::Shown;
 use ytt_base::text::Memory;
 
 fn unary_head(op: UnOp) -> &'static str {

@@ -1,7 +1,7 @@
 // Noted documents.
 
-use crate::shown::Shown;
 use std::alloc::Global;
+use test_shown::Shown;
 use yaml_noted::{Comments, Content, NotedDocs, NotedItem, NotedItems, RawComment};
 use ytt_base::text::Memory;
 use ytt_base::tree::{Key, Tree};
