@@ -101,14 +101,20 @@ fn joined(alloc: Global, front: &str, back: &str) -> Result<String, AllocError> 
     Ok(joined)
 }
 
-/// Files, a folder and links in a folder.
+/// Files below the folder, and their texts.
+const TEXTS: &[(&str, &str)] = &[("/b.yml", "abc"), ("/B", "")];
+
+/// Links below the folder, and to what they lead.
+const LINKS: &[(&str, &str)] = &[("/link", "b.yml"), ("/loop", "loop"), ("/nothing", "c.yml")];
+
+/// Makes the files, the links and a folder `é`.
 fn lay_out(alloc: Global, rt: &HostRuntime, folder: &str) -> Result<(), Fail> {
     fs::create_dir_all(rt, joined(alloc, folder, "/é")?.as_str())?;
-    for (path, text) in [("/b.yml", "abc"), ("/B", "")] {
-        fs::write(rt, joined(alloc, folder, path)?.as_str(), text)?;
+    for (path, text) in TEXTS {
+        fs::write(rt, joined(alloc, folder, path)?.as_str(), *text)?;
     }
-    for (path, to) in [("/link", "b.yml"), ("/loop", "loop"), ("/nothing", "c.yml")] {
-        symlink(rt, to, joined(alloc, folder, path)?.as_str())?;
+    for (path, to) in LINKS {
+        symlink(rt, *to, joined(alloc, folder, path)?.as_str())?;
     }
     Ok(())
 }
@@ -175,13 +181,12 @@ fn a_read_of_the_machine_fails(rt: HostRuntime) -> Result<(), Fail> {
 fn a_file_of_the_machine_is_written(rt: HostRuntime) -> Result<(), Fail> {
     let alloc = rt.alloc();
     let folder = folder(alloc, &rt, "sink")?;
-    let path = format!(in alloc; "{folder}/out")?;
+    let path = joined(alloc, folder.as_str(), "/out")?;
     let mut stream = fs::create(&rt, path.as_str())?;
     {
         let mut sink = HostSink::new(&mut stream);
-        assert!(rt; sink.write_piece(b"ab").is_ok());
-        assert!(rt; sink.write_piece(b"").is_ok());
-        assert!(rt; sink.write_piece(b"cd\n").is_ok());
+        let is_first = sink.write_piece(b"ab").is_ok() && sink.write_piece(b"").is_ok();
+        assert!(rt; is_first && sink.write_piece(b"cd\n").is_ok());
     }
     stream.flush()?;
     let text = fs::read_to_string(&rt, path.as_str())?;
@@ -195,8 +200,7 @@ fn a_file_of_the_machine_is_written(rt: HostRuntime) -> Result<(), Fail> {
 fn a_write_of_the_machine_fails(rt: HostRuntime) -> Result<(), Fail> {
     let mut full = File::options().write(true).open(&rt, "/dev/full")?;
     let mut sink = HostSink::new(&mut full);
-    assert!(rt; sink.write_piece(b"a").is_err());
-    assert!(rt; sink.write_piece(b"").is_ok());
+    assert!(rt; sink.write_piece(b"a").is_err() && sink.write_piece(b"").is_ok());
     let mut read = File::open(&rt, "/dev/null")?;
     assert!(rt; HostSink::new(&mut read).write_piece(b"a").is_err());
     Ok(())

@@ -53,8 +53,9 @@ fn words_are_read(rt: HostRuntime) -> Result<(), Fail> {
     let words = read_words(alloc, &Given(given.as_slice()))?;
     match words.as_slice() {
         [first, odd, whole, empty, last] => {
-            let texts = [first.as_str(), odd.as_str(), empty.as_str(), last.as_str()];
-            assert!(rt; texts == ["render", "", "", "z"] && whole.as_bytes() == long.as_slice());
+            let is_read = first.as_str() == "render" && last.as_str() == "z";
+            let are_empty = odd.as_str() == "" && empty.as_str() == "";
+            assert!(rt; is_read && are_empty && whole.as_bytes() == long.as_slice());
         }
         _ => assert!(rt; false),
     }
