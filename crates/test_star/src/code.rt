@@ -523,11 +523,12 @@ fn code_is_too_deep(rt: HostRuntime) -> Result<(), Fail> {
         let text = nested(alloc, *count, front, inside, back)?;
         let is = answer(alloc, *kind, text.as_str())?;
         let due = too_deep(alloc, *line)?;
-        assert!(rt;
-            (is.as_str() == due.as_str()) == (*line != 0)
-                && is.starts_with("error") == (*line != 0),
-            "{count} times {front}"
-        );
+        let is_due = if *line == 0 {
+            !is.starts_with("error")
+        } else {
+            is.as_str() == due.as_str()
+        };
+        assert!(rt; is_due, "{count} times {front}");
     }
     Ok(())
 }
