@@ -1,4 +1,3 @@
 pub mod AllowedNames
 pub mod Nested
 pub mod Rows
-pub mod Slices

@@ -6,6 +6,10 @@ use Rattle.code_spec.specs.Numbering.{Pass, Passed, number_clauses, number_entri
 use Rattle.star_tree.specs.Whole.{Clause, for_part, if_part, Entry, Parameter, named_part, default_part, bare_part, star_part, stars_part, Piece, written_part, expr_part, clauses_from, entries_from, exprs_from, parameters_from, pieces_from}
 use Rattle.star_number.specs.Rows.{behind, in_row, number_clause, number_entry, number_parameter, number_piece}
 
+-- what a pass gives, made into something else
+abbrev pub with_first : {A B : Type 0} → (A → B) → Passed A → Passed B
+with_first f p = record { result = f p.result; next = p.next }
+
 -- ---- turns of a loop, whose members are seen as As
 
 each_last : {T A : Type 0} (view : T → A) (made : List T) (y : T) → each view (made ++ y ∷ []) ≡ each view made ++ view y ∷ []
@@ -14,13 +18,14 @@ each_last view (x ∷ xs) y = ap (λ l. view x ∷ l) (each_last view xs y)
 
 -- one more turn
 pub row_turn : {T A : Type 0} (view : T → A) (f : A → Pass A) (all : Passed (List A)) (xs made makes : List T) (j now next : ℕ) (x y : T) →
-    j < length xs → x ≡ get_or xs j x → view y ≡ (f (view x) now).result → next ≡ (f (view x) now).next → makes ≡ made ++ y ∷ [] →
+    j < length xs → x ≡ get_or xs j x → record { result = view y; next = next } ≡ f (view x) now → makes ≡ made ++ y ∷ [] →
     behind (each view made) (in_row f (each view (drop j xs)) now) ≡ all → behind (each view makes) (in_row f (each view (drop (j + 1) xs)) next) ≡ all
-row_turn view f all xs made makes j now next x y lt here value taken put h =
+row_turn view f all xs made makes j now next x y lt here is put h =
     let rest = drop (j + 1) xs in
-    let front : each view makes ≡ each view made ++ (f (view x) now).result ∷ [] = ap (each view) put ∙ each_last view made y ∙ ap (λ v. each view made ++ v ∷ []) value in
-    (λ i. behind (front i) (in_row f (each view rest) (taken i)))
-    ∙ (λ i. record { result = append_assoc (each view made) ((f (view x) now).result ∷ []) (in_row f (each view rest) (f (view x) now).next).result i; next = (in_row f (each view rest) (f (view x) now).next).next })
+    let after = in_row f (each view rest) next in
+    ap (λ l. behind l after) (ap (each view) put ∙ each_last view made y)
+    ∙ ap (λ l. record { result = l; next = after.next }) (append_assoc (each view made) (view y ∷ []) after.result)
+    ∙ ap (λ p. behind (each view made) (with_first (λ ys. p.result ∷ ys) (in_row f (each view rest) p.next))) is
     ∙ ap (λ l. behind (each view made) (in_row f (each view l) now)) (ap (λ z. z ∷ rest) here ∙ sym (drop_more xs j x lt))
     ∙ h
 
@@ -31,10 +36,6 @@ row_done view f all xs made j now le h =
     (λ i. record { result = sym (append-nil (each view made)) i; next = now })
     ∙ ap (λ l. behind (each view made) (in_row f (each view l) now)) (sym (drop_all j xs le))
     ∙ h
-
--- what a pass gives, made into something else
-abbrev with_first : {A B : Type 0} → (A → B) → Passed A → Passed B
-with_first f p = record { result = f p.result; next = p.next }
 
 -- all turns, where what is made stands for something else
 pub row_whole : {T A B : Type 0} (view : T → A) (f : A → Pass A) (from : List A → B) (whole : Passed B) (xs made : List T) (j now first : ℕ) →

@@ -1,7 +1,11 @@
 -- The numbers of lambdas in what stands in lists.
-use Rattle.std.specs.Prelude.{List, [], ◌∷◌, ◌++◌}
+use Rattle.std.specs.Prelude.{◌≡◌, ℕ, List, [], ◌∷◌, ◌++◌, Result, IfOk}
 use Rattle.code_spec.specs.Numbering.{Pass, Passed, keep, over_one, over_two, number_expr}
 use Rattle.star_tree.specs.Whole.{Clause, for_part, if_part, Entry, Parameter, named_part, default_part, bare_part, star_part, stars_part, Piece, written_part, expr_part}
+
+-- the result, where there is one, is seen as what the pass gives from a number on, with the number behind it
+abbrev pub Numbers : {T A E : Type 0} → (T → A) → Pass A → Result T E → (before after : ℕ) → Type 0
+Numbers view pass result before after = IfOk result (λ x. record { result = view x; next = after } ≡ pass before)
 
 -- a pass over each, in their order
 abbrev pub in_row : {A : Type 0} → (A → Pass A) → List A → Pass (List A)

@@ -1,6 +1,6 @@
 // Expressions with the numbers of their lambdas. `file` is the file of the places in them.
-ghost use Rattle.std.specs.Prelude.{◌≡◌, IfOk, OnOk};
-ghost use Rattle.star_number.specs.Rows.{number_clause, number_entry, number_parameter, number_piece};
+ghost use Rattle.std.specs.Prelude.{◌≡◌, IfOk, Ok};
+ghost use Rattle.star_number.specs.Rows.{Numbers, number_clause, number_entry, number_parameter, number_piece};
 ghost use Rattle.code_spec.specs.Numbering.{number_clauses, number_entries, number_expr, number_exprs, number_optional, number_parameters, number_pieces};
 ghost use Rattle.star_tree.specs.Listed.{clause_of, clauses_of, entries_of, entry_of, optional_of, piece_of, pieces_of};
 ghost use Rattle.star_tree.specs.Whole.{expr_of, exprs_of, parameter_of, parameters_of};
@@ -11,6 +11,18 @@ use star_tree::code::{Args, Clause, Entry, Expr, Param, Params, Piece};
 use std::alloc::Global;
 use ytt_base::text::Memory;
 
+/// Both, where both are there.
+fn both<A: Drop, B: Drop>(
+    first: Result<A, Memory>,
+    second: Result<B, Memory>,
+) -> Result<(A, B), Memory>
+    ensures { IfOk result (λ two. (first ≡ Ok two.0) × (second ≡ Ok two.1)) }
+{
+    let a = first?;
+    let b = second?;
+    Ok((a, b))
+}
+
 /// An expression that equals this one but for the numbers of its lambdas, which begin with the next one.
 #[cycle(number)]
 pub(crate) fn number_expr(
@@ -19,13 +31,10 @@ pub(crate) fn number_expr(
     expr: &Expr,
     next: &mut usize,
 ) -> Result<Expr, Memory>
-    ensures result { IfOk result (λ e. expr_of file e ≡ (number_expr (expr_of file expr.now) next.old).result) }
-    ensures next { OnOk result (next.new ≡ (number_expr (expr_of file expr.now) next.old).next) }
+    ensures { Numbers (expr_of file) (number_expr (expr_of file expr.now)) result next.old next.new }
 {
     match expr {
-        Expr::Int(line, n) => Ok(Expr::Int(*line, *n)),
-        Expr::Text(line, text) => Ok(Expr::Text(*line, text.copy()?)),
-        Expr::Name(line, name) => Ok(Expr::Name(*line, name.copy()?)),
+        Expr::Int(_, _) | Expr::Text(_, _) | Expr::Name(_, _) => expr.copy(alloc),
         Expr::List(line, members) => {
             let members = number_exprs(alloc, file, members, next)?;
             Ok(Expr::List(*line, members))
@@ -43,34 +52,46 @@ pub(crate) fn number_expr(
             Ok(Expr::Unary(*line, *op, a))
         }
         Expr::Binary(line, op, a, b) => {
-            let a = number_boxed(alloc, file, a, next)?;
-            let b = number_boxed(alloc, file, b, next)?;
+            let (a, b) = both(
+                number_boxed(alloc, file, a, next),
+                number_boxed(alloc, file, b, next),
+            )?;
             Ok(Expr::Binary(*line, *op, a, b))
         }
         Expr::And(line, a, b) => {
-            let a = number_boxed(alloc, file, a, next)?;
-            let b = number_boxed(alloc, file, b, next)?;
+            let (a, b) = both(
+                number_boxed(alloc, file, a, next),
+                number_boxed(alloc, file, b, next),
+            )?;
             Ok(Expr::And(*line, a, b))
         }
         Expr::Or(line, a, b) => {
-            let a = number_boxed(alloc, file, a, next)?;
-            let b = number_boxed(alloc, file, b, next)?;
+            let (a, b) = both(
+                number_boxed(alloc, file, a, next),
+                number_boxed(alloc, file, b, next),
+            )?;
             Ok(Expr::Or(*line, a, b))
         }
         Expr::If(line, test, a, b) => {
-            let a = number_boxed(alloc, file, a, next)?;
-            let test = number_boxed(alloc, file, test, next)?;
-            let b = number_boxed(alloc, file, b, next)?;
+            let ((a, test), b) = both(
+                both(
+                    number_boxed(alloc, file, a, next),
+                    number_boxed(alloc, file, test, next),
+                ),
+                number_boxed(alloc, file, b, next),
+            )?;
             Ok(Expr::If(*line, test, a, b))
         }
         Expr::Call(line, function, args) => {
-            let function = number_boxed(alloc, file, function, next)?;
-            let args = number_exprs(alloc, file, args, next)?;
+            let (function, args) = both(
+                number_boxed(alloc, file, function, next),
+                number_exprs(alloc, file, args, next),
+            )?;
             Ok(Expr::Call(*line, function, args))
         }
         Expr::Named(line, name, a) => {
-            let a = number_boxed(alloc, file, a, next)?;
-            Ok(Expr::Named(*line, name.copy()?, a))
+            let (name, a) = both(name.copy(), number_boxed(alloc, file, a, next))?;
+            Ok(Expr::Named(*line, name, a))
         }
         Expr::Star(line, a) => {
             let a = number_boxed(alloc, file, a, next)?;
@@ -81,36 +102,50 @@ pub(crate) fn number_expr(
             Ok(Expr::Stars(*line, a))
         }
         Expr::Index(line, a, b) => {
-            let a = number_boxed(alloc, file, a, next)?;
-            let b = number_boxed(alloc, file, b, next)?;
+            let (a, b) = both(
+                number_boxed(alloc, file, a, next),
+                number_boxed(alloc, file, b, next),
+            )?;
             Ok(Expr::Index(*line, a, b))
         }
         Expr::Slice(line, a, low, high, step) => {
-            let a = number_boxed(alloc, file, a, next)?;
-            let low = number_optional(alloc, file, low, next)?;
-            let high = number_optional(alloc, file, high, next)?;
-            let step = number_optional(alloc, file, step, next)?;
+            let (a, low) = both(
+                number_boxed(alloc, file, a, next),
+                number_optional(alloc, file, low, next),
+            )?;
+            let (high, step) = both(
+                number_optional(alloc, file, high, next),
+                number_optional(alloc, file, step, next),
+            )?;
             Ok(Expr::Slice(*line, a, low, high, step))
         }
         Expr::Dot(line, a, name) => {
-            let a = number_boxed(alloc, file, a, next)?;
-            Ok(Expr::Dot(*line, a, name.copy()?))
+            let (a, name) = both(number_boxed(alloc, file, a, next), name.copy())?;
+            Ok(Expr::Dot(*line, a, name))
         }
         Expr::Lambda(line, _, params, body) => {
             let number = take(next)?;
-            let params = number_params(alloc, file, params, next)?;
-            let body = number_boxed(alloc, file, body, next)?;
+            let (params, body) = both(
+                number_params(alloc, file, params, next),
+                number_boxed(alloc, file, body, next),
+            )?;
             Ok(Expr::Lambda(*line, number, params, body))
         }
         Expr::ListFor(line, element, clauses) => {
-            let element = number_boxed(alloc, file, element, next)?;
-            let clauses = number_clauses(alloc, file, clauses, next)?;
+            let (element, clauses) = both(
+                number_boxed(alloc, file, element, next),
+                number_clauses(alloc, file, clauses, next),
+            )?;
             Ok(Expr::ListFor(*line, element, clauses))
         }
         Expr::DictFor(line, key, value, clauses) => {
-            let key = number_boxed(alloc, file, key, next)?;
-            let value = number_boxed(alloc, file, value, next)?;
-            let clauses = number_clauses(alloc, file, clauses, next)?;
+            let ((key, value), clauses) = both(
+                both(
+                    number_boxed(alloc, file, key, next),
+                    number_boxed(alloc, file, value, next),
+                ),
+                number_clauses(alloc, file, clauses, next),
+            )?;
             Ok(Expr::DictFor(*line, key, value, clauses))
         }
         Expr::Template(line, pieces) => {
@@ -128,8 +163,7 @@ pub(crate) fn number_boxed(
     expr: &Boxed<Expr>,
     next: &mut usize,
 ) -> Result<Boxed<Expr>, Memory>
-    ensures result { IfOk result (λ e. expr_of file e ≡ (number_expr (expr_of file expr.now) next.old).result) }
-    ensures next { OnOk result (next.new ≡ (number_expr (expr_of file expr.now) next.old).next) }
+    ensures { Numbers (expr_of file) (number_expr (expr_of file expr.now)) result next.old next.new }
 {
     let numbered = number_expr(alloc, file, expr.get(), next)?;
     Ok(Boxed::new(alloc, numbered)?)
@@ -143,8 +177,7 @@ pub(crate) fn number_exprs(
     exprs: &Items<Expr>,
     next: &mut usize,
 ) -> Result<Args, Memory>
-    ensures result { IfOk result (λ es. exprs_of file es ≡ (number_exprs (exprs_of file exprs.now) next.old).result) }
-    ensures next { OnOk result (next.new ≡ (number_exprs (exprs_of file exprs.now) next.old).next) }
+    ensures { Numbers (exprs_of file) (number_exprs (exprs_of file exprs.now)) result next.old next.new }
 {
     let mut numbered = Items::new(alloc);
     for expr in exprs.as_slice() {
@@ -160,8 +193,7 @@ fn number_optional(
     part: &Option<Boxed<Expr>>,
     next: &mut usize,
 ) -> Result<Option<Boxed<Expr>>, Memory>
-    ensures result { IfOk result (λ o. optional_of file o ≡ (number_optional (optional_of file part.now) next.old).result) }
-    ensures next { OnOk result (next.new ≡ (number_optional (optional_of file part.now) next.old).next) }
+    ensures { Numbers (optional_of file) (number_optional (optional_of file part.now)) result next.old next.new }
 {
     match part {
         Some(expr) => {
@@ -174,13 +206,14 @@ fn number_optional(
 
 #[cycle(number)]
 fn number_entry(alloc: Global, file: u32, entry: &Entry, next: &mut usize) -> Result<Entry, Memory>
-    ensures result { IfOk result (λ e. entry_of file e ≡ (number_entry (entry_of file entry.now) next.old).result) }
-    ensures next { OnOk result (next.new ≡ (number_entry (entry_of file entry.now) next.old).next) }
+    ensures { Numbers (entry_of file) (number_entry (entry_of file entry.now)) result next.old next.new }
 {
     match entry {
         Entry::Pair(key, value) => {
-            let key = number_boxed(alloc, file, key, next)?;
-            let value = number_boxed(alloc, file, value, next)?;
+            let (key, value) = both(
+                number_boxed(alloc, file, key, next),
+                number_boxed(alloc, file, value, next),
+            )?;
             Ok(Entry::Pair(key, value))
         }
     }
@@ -193,8 +226,7 @@ fn number_entries(
     entries: &Items<Entry>,
     next: &mut usize,
 ) -> Result<Items<Entry>, Memory>
-    ensures result { IfOk result (λ es. entries_of file es ≡ (number_entries (entries_of file entries.now) next.old).result) }
-    ensures next { OnOk result (next.new ≡ (number_entries (entries_of file entries.now) next.old).next) }
+    ensures { Numbers (entries_of file) (number_entries (entries_of file entries.now)) result next.old next.new }
 {
     let mut numbered = Items::new(alloc);
     for entry in entries.as_slice() {
@@ -210,13 +242,14 @@ fn number_clause(
     clause: &Clause,
     next: &mut usize,
 ) -> Result<Clause, Memory>
-    ensures result { IfOk result (λ k. clause_of file k ≡ (number_clause (clause_of file clause.now) next.old).result) }
-    ensures next { OnOk result (next.new ≡ (number_clause (clause_of file clause.now) next.old).next) }
+    ensures { Numbers (clause_of file) (number_clause (clause_of file clause.now)) result next.old next.new }
 {
     match clause {
         Clause::ForIn(target, members) => {
-            let target = number_boxed(alloc, file, target, next)?;
-            let members = number_boxed(alloc, file, members, next)?;
+            let (target, members) = both(
+                number_boxed(alloc, file, target, next),
+                number_boxed(alloc, file, members, next),
+            )?;
             Ok(Clause::ForIn(target, members))
         }
         Clause::OnlyIf(test) => {
@@ -233,8 +266,7 @@ fn number_clauses(
     clauses: &Items<Clause>,
     next: &mut usize,
 ) -> Result<Items<Clause>, Memory>
-    ensures result { IfOk result (λ ks. clauses_of file ks ≡ (number_clauses (clauses_of file clauses.now) next.old).result) }
-    ensures next { OnOk result (next.new ≡ (number_clauses (clauses_of file clauses.now) next.old).next) }
+    ensures { Numbers (clauses_of file) (number_clauses (clauses_of file clauses.now)) result next.old next.new }
 {
     let mut numbered = Items::new(alloc);
     for clause in clauses.as_slice() {
@@ -245,8 +277,7 @@ fn number_clauses(
 
 #[cycle(number)]
 fn number_piece(alloc: Global, file: u32, piece: &Piece, next: &mut usize) -> Result<Piece, Memory>
-    ensures result { IfOk result (λ p. piece_of file p ≡ (number_piece (piece_of file piece.now) next.old).result) }
-    ensures next { OnOk result (next.new ≡ (number_piece (piece_of file piece.now) next.old).next) }
+    ensures { Numbers (piece_of file) (number_piece (piece_of file piece.now)) result next.old next.new }
 {
     match piece {
         Piece::Written(text) => Ok(Piece::Written(text.copy()?)),
@@ -264,8 +295,7 @@ fn number_pieces(
     pieces: &Items<Piece>,
     next: &mut usize,
 ) -> Result<Items<Piece>, Memory>
-    ensures result { IfOk result (λ ps. pieces_of file ps ≡ (number_pieces (pieces_of file pieces.now) next.old).result) }
-    ensures next { OnOk result (next.new ≡ (number_pieces (pieces_of file pieces.now) next.old).next) }
+    ensures { Numbers (pieces_of file) (number_pieces (pieces_of file pieces.now)) result next.old next.new }
 {
     let mut numbered = Items::new(alloc);
     for piece in pieces.as_slice() {
@@ -276,8 +306,7 @@ fn number_pieces(
 
 #[cycle(number)]
 fn number_param(alloc: Global, file: u32, param: &Param, next: &mut usize) -> Result<Param, Memory>
-    ensures result { IfOk result (λ p. parameter_of file p ≡ (number_parameter (parameter_of file param.now) next.old).result) }
-    ensures next { OnOk result (next.new ≡ (number_parameter (parameter_of file param.now) next.old).next) }
+    ensures { Numbers (parameter_of file) (number_parameter (parameter_of file param.now)) result next.old next.new }
 {
     match param {
         Param::Required(name) => Ok(Param::Required(name.copy()?)),
@@ -299,8 +328,7 @@ pub(crate) fn number_params(
     params: &Params,
     next: &mut usize,
 ) -> Result<Params, Memory>
-    ensures result { IfOk result (λ ps. parameters_of file ps ≡ (number_parameters (parameters_of file params.now) next.old).result) }
-    ensures next { OnOk result (next.new ≡ (number_parameters (parameters_of file params.now) next.old).next) }
+    ensures { Numbers (parameters_of file) (number_parameters (parameters_of file params.now)) result next.old next.new }
 {
     let mut numbered = Items::new(alloc);
     for param in params.as_slice() {

@@ -1,5 +1,6 @@
 // Programs with the numbers of their functions.
-ghost use Rattle.std.specs.Prelude.{◌≡◌, IfOk, OnOk};
+ghost use Rattle.std.specs.Prelude.{◌≡◌, IfOk};
+ghost use Rattle.star_number.specs.Rows.{Numbers};
 ghost use Rattle.star_number.specs.Statements.{number_stmt};
 ghost use Rattle.star_tree.specs.Whole.{instruction_of, loaded_names_of, part_of, program_of};
 ghost use Rattle.template_spec.specs.Numbered.{number_instruction, number_part, numbered_program};
@@ -14,8 +15,7 @@ use ytt_base::text::{Memory, Text};
 
 /// A part of a node.
 fn number_node(alloc: Global, file: u32, part: &NodeOp, next: &mut usize) -> Result<NodeOp, Memory>
-    ensures result { IfOk result (λ o. part_of file o ≡ (number_part (part_of file part.now) next.old).result) }
-    ensures next { OnOk result (next.new ≡ (number_part (part_of file part.now) next.old).next) }
+    ensures { Numbers (part_of file) (number_part (part_of file part.now)) result next.old next.new }
 {
     match part {
         NodeOp::Start(place, kind, holds) => Ok(NodeOp::Start(*place, *kind, *holds)),
@@ -56,8 +56,7 @@ fn number_assign(
     value: &Boxed<Expr>,
     next: &mut usize,
 ) -> Result<Stmt, Memory>
-    ensures result { IfOk result (λ s. instruction_of file s ≡ (number_stmt file (Stmt.Assign line target.now value.now) next.old).result) }
-    ensures next { OnOk result (next.new ≡ (number_stmt file (Stmt.Assign line target.now value.now) next.old).next) }
+    ensures { Numbers (instruction_of file) (number_stmt file (Stmt.Assign line target.now value.now)) result next.old next.new }
 {
     let target = number_boxed(alloc, file, target, next)?;
     let value = number_boxed(alloc, file, value, next)?;
@@ -75,8 +74,7 @@ fn number_augment(
     value: &Boxed<Expr>,
     next: &mut usize,
 ) -> Result<Stmt, Memory>
-    ensures result { IfOk result (λ s. instruction_of file s ≡ (number_stmt file (Stmt.Augment line op at target.now value.now) next.old).result) }
-    ensures next { OnOk result (next.new ≡ (number_stmt file (Stmt.Augment line op at target.now value.now) next.old).next) }
+    ensures { Numbers (instruction_of file) (number_stmt file (Stmt.Augment line op at target.now value.now)) result next.old next.new }
 {
     let target = number_boxed(alloc, file, target, next)?;
     let value = number_boxed(alloc, file, value, next)?;
@@ -92,8 +90,7 @@ fn number_for(
     members: &Boxed<Expr>,
     next: &mut usize,
 ) -> Result<Stmt, Memory>
-    ensures result { IfOk result (λ s. instruction_of file s ≡ (number_stmt file (Stmt.For line target.now members.now) next.old).result) }
-    ensures next { OnOk result (next.new ≡ (number_stmt file (Stmt.For line target.now members.now) next.old).next) }
+    ensures { Numbers (instruction_of file) (number_stmt file (Stmt.For line target.now members.now)) result next.old next.new }
 {
     let target = number_boxed(alloc, file, target, next)?;
     let members = number_boxed(alloc, file, members, next)?;
@@ -111,8 +108,7 @@ fn number_def(
     params: &Params,
     next: &mut usize,
 ) -> Result<Stmt, Memory>
-    ensures result { IfOk result (λ s. instruction_of file s ≡ (number_stmt file (Stmt.Def line old fragment name.now params.now) next.old).result) }
-    ensures next { OnOk result (next.new ≡ (number_stmt file (Stmt.Def line old fragment name.now params.now) next.old).next) }
+    ensures { Numbers (instruction_of file) (number_stmt file (Stmt.Def line old fragment name.now params.now)) result next.old next.new }
 {
     let number = take(next)?;
     let params = number_params(alloc, file, params, next)?;
@@ -122,8 +118,7 @@ fn number_def(
 /// A statement, the head or the end of a block, or a part of a node: equal to this one but for the
 /// numbers of the functions that begin in it.
 fn number_stmt(alloc: Global, file: u32, stmt: &Stmt, next: &mut usize) -> Result<Stmt, Memory>
-    ensures result { IfOk result (λ s. instruction_of file s ≡ (number_instruction (instruction_of file stmt.now) next.old).result) }
-    ensures next { OnOk result (next.new ≡ (number_instruction (instruction_of file stmt.now) next.old).next) }
+    ensures { Numbers (instruction_of file) (number_instruction (instruction_of file stmt.now)) result next.old next.new }
 {
     match stmt {
         Stmt::Expr(line, expr) => {
