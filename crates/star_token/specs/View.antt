@@ -1,14 +1,17 @@
--- What spans of the program stand for, and the words that are no names.
-use Rattle.std.specs.Prelude.{ℕ, List, [], ◌∷◌, codes}
+-- What spans of the program stand for, and keywords in a row.
+use Rattle.std.specs.Prelude.{ℕ, List, [], ◌∷◌, Option, Some, None, bytes_eq, map as each, if◌then◌else◌}
+use Rattle.std.specs.Borrow.{Bor}
 use Rattle.star_grammar.specs.Pieces as plain
+use Rattle.star_grammar.specs.declared.token.Mark.{Mark}
 use Rattle.star_token.specs.declared.texts.Span.{Span}
 
 abbrev pub span_of : Span → plain.Span
 span_of s = plain.span s.bytes.items s.left
 
--- words that are no names, in two lists
-abbrev pub early_words : List (List ℕ)
-early_words = codes "as" ∷ codes "class" ∷ codes "del" ∷ codes "except" ∷ codes "finally" ∷ codes "from" ∷ codes "global" ∷ codes "import" ∷ []
+-- words with the marks that they are
+abbrev pub words_of : List (Bor (List ℕ) × Mark) → List (List ℕ × Mark)
+words_of ws = each (λ w. (w.0.now, w.1)) ws
 
-abbrev pub late_words : List (List ℕ)
-late_words = codes "is" ∷ codes "nonlocal" ∷ codes "raise" ∷ codes "try" ∷ codes "while" ∷ codes "with" ∷ codes "yield" ∷ []
+abbrev pub mark_among : List ℕ → List (List ℕ × Mark) → Option Mark
+mark_among w [] = None
+mark_among w (x ∷ xs) = if bytes_eq x.0 w then Some x.1 else mark_among w xs

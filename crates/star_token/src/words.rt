@@ -1,8 +1,8 @@
 // Names and keywords.
-ghost use Rattle.std.specs.Prelude.{◌≡◌, IfOk};
+ghost use Rattle.std.specs.Prelude.{◌≡◌, map as each, IfOk};
 ghost use Rattle.std.specs.List.{prefix_len};
 ghost use Rattle.star_grammar.specs.Pieces as spec;
-ghost use Rattle.star_token.specs.View.{early_words, late_words};
+ghost use Rattle.star_token.specs.View.{mark_among, words_of};
 
 use crate::marks::{before, mark_piece};
 use star_grammar::{Mark, Piece, TokenKind};
@@ -11,41 +11,57 @@ use std::str;
 use ytt_base::fault::FaultKind;
 use ytt_base::text::{Memory, Text};
 
+/// The keyword among these that a word is.
+fn mark_among(word: &str, words: &[(&str, Mark)]) -> Option<Mark>
+    ensures { result ≡ mark_among word.now (words_of words.now) }
+{
+    for named in words {
+        if named.0 == word {
+            return Some(named.1);
+        }
+    }
+    None
+}
+
 /// A keyword in expressions.
-fn joining_word(word: &[u8]) -> Option<Mark>
+fn joining_word(word: &str) -> Option<Mark>
     ensures { result ≡ spec.joining_word word.now }
 {
-    match word {
-        b"and" => Some(Mark::And),
-        b"else" => Some(Mark::Else),
-        b"for" => Some(Mark::For),
-        b"if" => Some(Mark::If),
-        b"in" => Some(Mark::In),
-        b"lambda" => Some(Mark::Lambda),
-        b"not" => Some(Mark::Not),
-        b"or" => Some(Mark::Or),
-        _ => None,
-    }
+    mark_among(
+        word,
+        &[
+            ("and", Mark::And),
+            ("else", Mark::Else),
+            ("for", Mark::For),
+            ("if", Mark::If),
+            ("in", Mark::In),
+            ("lambda", Mark::Lambda),
+            ("not", Mark::Not),
+            ("or", Mark::Or),
+        ],
+    )
 }
 
 /// A keyword that begins a statement.
-fn leading_word(word: &[u8]) -> Option<Mark>
+fn leading_word(word: &str) -> Option<Mark>
     ensures { result ≡ spec.leading_word word.now }
 {
-    match word {
-        b"break" => Some(Mark::Break),
-        b"continue" => Some(Mark::Continue),
-        b"def" => Some(Mark::Def),
-        b"elif" => Some(Mark::Elif),
-        b"end" => Some(Mark::End),
-        b"load" => Some(Mark::Load),
-        b"pass" => Some(Mark::Pass),
-        b"return" => Some(Mark::Return),
-        _ => None,
-    }
+    mark_among(
+        word,
+        &[
+            ("break", Mark::Break),
+            ("continue", Mark::Continue),
+            ("def", Mark::Def),
+            ("elif", Mark::Elif),
+            ("end", Mark::End),
+            ("load", Mark::Load),
+            ("pass", Mark::Pass),
+            ("return", Mark::Return),
+        ],
+    )
 }
 
-fn keyword(word: &[u8]) -> Option<Mark>
+fn keyword(word: &str) -> Option<Mark>
     ensures { result ≡ spec.keyword word.now }
 {
     match joining_word(word) {
@@ -54,29 +70,28 @@ fn keyword(word: &[u8]) -> Option<Mark>
     }
 }
 
-fn is_early_refused(word: &[u8]) -> bool
-    ensures { result ≡ spec.is_among early_words word.now }
+fn is_one_of(word: &str, words: &[&str]) -> bool
+    ensures { result ≡ spec.is_among (each (λ w. w.now) words.now) word.now }
 {
-    matches!(
-        word,
-        b"as" | b"class" | b"del" | b"except" | b"finally" | b"from" | b"global" | b"import"
-    )
-}
-
-fn is_late_refused(word: &[u8]) -> bool
-    ensures { result ≡ spec.is_among late_words word.now }
-{
-    matches!(
-        word,
-        b"is" | b"nonlocal" | b"raise" | b"try" | b"while" | b"with" | b"yield"
-    )
+    for other in words {
+        if *other == word {
+            return true;
+        }
+    }
+    false
 }
 
 /// Whether a word is no name.
-fn is_refused(word: &[u8]) -> bool
+fn is_refused(word: &str) -> bool
     ensures { result ≡ spec.is_among spec.refused_words word.now }
 {
-    is_early_refused(word) || is_late_refused(word)
+    is_one_of(
+        word,
+        &[
+            "as", "class", "del", "except", "finally", "from", "global", "import", "is",
+            "nonlocal", "raise", "try", "while", "with", "yield",
+        ],
+    )
 }
 
 pub fn begins_word(byte: u8) -> bool
@@ -98,18 +113,12 @@ fn word_size(text: &[u8]) -> usize
 }
 
 /// The longest run of letters, digits and `_` at the front.
-fn word_at(text: &[u8]) -> &[u8]
+fn word_at(text: &[u8]) -> &str
     ensures { result.now ≡ spec.word_at text.now }
 {
-    before(text, word_size(text))
-}
-
-/// The text of a word. Its only error is want of memory.
-fn word_text(alloc: Global, text: &[u8]) -> Result<Text, Memory>
-    ensures { IfOk result (λ t. t ≡ spec.word_at text.now) }
-{
-    match str::from_utf8(word_at(text)) {
-        Ok(word) => Text::of(alloc, word),
+    let front = before(text, word_size(text));
+    match str::from_utf8(front) {
+        Ok(word) => word,
         Err(_) => unreachable!(),
     }
 }
@@ -126,5 +135,5 @@ pub fn word_piece(alloc: Global, text: &[u8]) -> Result<Piece, Memory>
         return Ok(Piece::Refused(FaultKind::CodeForm));
     }
     let size = word.len();
-    Ok(Piece::Whole(TokenKind::Name(word_text(alloc, text)?), size, 0))
+    Ok(Piece::Whole(TokenKind::Name(Text::of(alloc, word)?), size, 0))
 }
