@@ -3,23 +3,23 @@ use Rattle.std.proofs.Common.{◌≡◌, List, [], ◌∷◌, Result, Ok, Err, r
 use Rattle.ytt_base.specs.declared.fault.Fault.{Fault}
 use Rattle.star_spec.specs.Flow.{Flow}
 use Rattle.star_spec.specs.Hosts.{Answers, hosted, with_host, without_host}
-use Rattle.value_spec.specs.Outcomes.{Computation, Ending, Question, Reply, State, asks, bad, done, finally, on_store, then_do}
-use Rattle.value_spec.specs.Store.{end_loop}
+use Rattle.value_spec.specs.Outcomes.{Computation, Ending, Question, Reply, State, asks, bad, done, then_do}
 use Rattle.value_spec.specs.Values.{Value}
 use Rattle.star_eval.specs.Doing.{Bag, Nodes, Setting}
-use Rattle.star_eval.specs.Hosted.{HostedEnd, hosted_at}
+use Rattle.star_eval.specs.Hosted.{hosted_at}
 use Rattle.star_eval.specs.Meets.{Here}
-use Rattle.star_eval.specs.Waiting.{Final, InBlock, InClauses, Waiting, in_value, in_statement, in_block, in_element, in_clauses, gather, caller, in_native, turn, rest, walk_end, clause_turn, clause_walk_end, block_ends, call_gives, clauses_end, element_goes, end_env, flow_ends, in_env, native_ends, setting, statement_goes, unwind_bag, unwind_flow, unwind_value, value_goes}
+use Rattle.star_eval.specs.Waiting.{Final, Waiting, in_value, in_statement, in_block, in_element, in_clauses, gather, caller, in_native, turn, rest, walk_end, clause_turn, clause_walk_end, end_env, flow_ends, in_env, setting, unwind_bag, unwind_flow, unwind_value, value_ends}
 
 module _ (q : Question) (s : State Here) where
   -- the end is the question, with the end that follows from each answer
   pub record GoesOut (all : Final) (each : Result Reply Fault → State Here → Final) : Type 0 where
     pub env : (got : Result Reply Fault) (t : State Here) → end_env all ≡ end_env (each got t)
     pub flow : flow_ends all ≡ asks q s (λ got t. flow_ends (each got t))
+    pub value : value_ends all ≡ asks q s (λ got t. value_ends (each got t))
 
   mutual
     pub value_out : (c : Setting) (k : Nodes) (ws : List Waiting) (f : Result Reply Fault → State Here → Ending Here Value) → GoesOut (unwind_value c k ws (asks q s f)) (λ got t. unwind_value c k ws (f got t))
-    value_out c k [] f = record { env = λ got t. refl; flow = refl }
+    value_out c k [] f = record { env = λ got t. refl; flow = refl; value = refl }
     value_out c k (in_value w ∷ ws) f = value_out c k ws _
     value_out c k (in_statement w ∷ ws) f = flow_out c ws _
     value_out c k (in_block (turn p x os vs) ∷ ws) f = flow_out c ws _
@@ -32,8 +32,8 @@ module _ (q : Question) (s : State Here) where
     value_out c k (caller g env j fragment ∷ ws) f = value_out (setting g env) j ws _
     value_out c k (in_native w j ∷ ws) f = value_out c j ws _
 
-    pub flow_out : (c : Setting) (ws : List Waiting) (f : Result Reply Fault → State Here → Ending Here (Flow Nodes)) → GoesOut (unwind_flow c ws (asks q s f)) (λ got t. unwind_flow c ws (f got t))
-    flow_out c [] f = record { env = λ got t. refl; flow = refl }
+    flow_out : (c : Setting) (ws : List Waiting) (f : Result Reply Fault → State Here → Ending Here (Flow Nodes)) → GoesOut (unwind_flow c ws (asks q s f)) (λ got t. unwind_flow c ws (f got t))
+    flow_out c [] f = record { env = λ got t. refl; flow = refl; value = refl }
     flow_out c (in_value w ∷ ws) f = value_out c [] ws _
     flow_out c (in_statement w ∷ ws) f = flow_out c ws _
     flow_out c (in_block (turn p x os vs) ∷ ws) f = flow_out c ws _
@@ -46,8 +46,8 @@ module _ (q : Question) (s : State Here) where
     flow_out c (caller g env j fragment ∷ ws) f = value_out (setting g env) j ws _
     flow_out c (in_native w j ∷ ws) f = value_out c j ws _
 
-    pub bag_out : (c : Setting) (k : Nodes) (ws : List Waiting) (f : Result Reply Fault → State Here → Ending Here (Flow Bag)) → GoesOut (unwind_bag c k ws (asks q s f)) (λ got t. unwind_bag c k ws (f got t))
-    bag_out c k [] f = record { env = λ got t. refl; flow = refl }
+    bag_out : (c : Setting) (k : Nodes) (ws : List Waiting) (f : Result Reply Fault → State Here → Ending Here (Flow Bag)) → GoesOut (unwind_bag c k ws (asks q s f)) (λ got t. unwind_bag c k ws (f got t))
+    bag_out c k [] f = record { env = λ got t. refl; flow = refl; value = refl }
     bag_out c k (in_value w ∷ ws) f = value_out c k ws _
     bag_out c k (in_statement w ∷ ws) f = flow_out c ws _
     bag_out c k (in_block (turn p x os vs) ∷ ws) f = flow_out c ws _
@@ -69,6 +69,7 @@ module _ {H : Type 0} (answers : Answers H) where
   answered_at q s t all each got then now out is = sym (λ i. record {
     env = out.env got t i;
     flow = (ap (λ e. hosted answers e then) out.flow ∙ ap (λ r. hosted answers (flow_ends (each r.0 (without_host r.1))) r.1.host) is) i;
+    value = (ap (λ e. hosted answers e then) out.value ∙ ap (λ r. hosted answers (value_ends (each r.0 (without_host r.1))) r.1.host) is) i;
   })
 
   -- what goes on from a value among the answers

@@ -12,7 +12,7 @@ use Rattle.code_spec.specs.Blocks.{Ops}
 use Rattle.code_spec.specs.Allowed.{parameter_names}
 use Rattle.code_spec.specs.Code.{Name}
 use Rattle.code_spec.specs.Scopes.{ops_names}
-use Rattle.star_functions.specs.Table.{code_with}
+use Rattle.star_functions.specs.Table.{code_with, table_of}
 use Rattle.star_functions.specs.View.{code_of}
 use Rattle.star_functions.specs.declared.function.FunctionCode.{FunctionCode}
 use Rattle.star_functions.specs.declared.functions.Functions.{Functions}
@@ -44,12 +44,12 @@ use Rattle.star_eval.specs.declared.frame.Control.{Control}
 use Rattle.star_eval.specs.declared.frame.Control.TheVariants as control
 use Rattle.star_eval.specs.declared.frame.Frame.TheVariants as frame
 use Rattle.star_eval.specs.declared.frame.Machine.{Machine}
-use Rattle.star_eval.specs.Calling.{after_question, after_replied, calls_at, calls_from, calls_of, functions_at, table_of}
+use Rattle.star_eval.specs.Calling.{after_question, after_replied, calls_at, calls_from, calls_of, functions_at}
 use Rattle.star_eval.specs.Hosts.{host_held, host_name, is_hosted}
 use Rattle.star_eval.specs.Doing.{Nodes}
 use Rattle.star_eval.specs.Frames.{Goes, Opened, around_flow, around_value}
 use Rattle.star_eval.specs.Meets.{Here, state_of}
-use Rattle.star_eval.specs.View.{OwnsFrame, Sound, arena_in, caller_of, frames_of, nodes_in, setting_of, waiting_in}
+use Rattle.star_eval.specs.View.{OwnsFrame, Sound, arena_in, caller_of, frames_of, in_file, nodes_in, setting_of, waiting_in}
 use Rattle.star_eval.specs.Waiting.{call_gives, setting}
 
 -- ---- what asks for no keys
@@ -187,33 +187,33 @@ by_own f left p vs s x h =
 
 -- ---- functions
 
-module _ (file : ℕ) (fs : Functions) (p : Place) (vs : Arguments) (s : State Here) where
-  pub depth_wanting : (d r : ℕ) (g : Function) → d ≡ 0 → function_at r s.store ≡ Some g → functions_at file fs d p (function_value r) vs s ≡ bad (fault_at kind.Depth p) s
+module _ (fs : Functions) (p : Place) (vs : Arguments) (s : State Here) where
+  pub depth_wanting : (d r : ℕ) (g : Function) → d ≡ 0 → function_at r s.store ≡ Some g → functions_at fs d p (function_value r) vs s ≡ bad (fault_at kind.Depth p) s
   unfolding functions_at
   depth_wanting zero r g z h = ap (λ o. then_do (or_fail kind.ValueKind p o s) (λ g. fail kind.Depth p)) h
   depth_wanting (suc d) r g z h = absurd (omega (arith, z))
 
   -- what a call of a function comes to
   abbrev Entered : ℕ → Function → Option (Code Ops) → Ending Here plain.Value
-  Entered d g o = (or_ill_formed o >>= λ c. scope_of_call p (parameters_of c) (names_of ops_names c) g.defaults vs g.env >>= λ env. enter_code starlark (enter_ops starlark) (calls_at file fs d) c env) s
+  Entered d g o = (or_ill_formed o >>= λ c. scope_of_call p (parameters_of c) (names_of ops_names c) g.defaults vs g.env >>= λ env. enter_code starlark (enter_ops starlark) (calls_at fs d) c env) s
 
-  function_called : (d r : ℕ) (g : Function) → function_at r s.store ≡ Some g → functions_at file fs (suc d) p (function_value r) vs s ≡ Entered d g (table_of file fs g.file g.number)
+  function_called : (d r : ℕ) (g : Function) → function_at r s.store ≡ Some g → functions_at fs (suc d) p (function_value r) vs s ≡ Entered d g (table_of fs g.file g.number)
   unfolding functions_at
   function_called d r g h =
-      ap (λ o. then_do (or_fail kind.ValueKind p o s) (λ g. or_ill_formed (table_of file fs g.file g.number) >>= λ c. scope_of_call p (parameters_of c) (names_of ops_names c) g.defaults vs g.env >>= λ env. enter_code starlark (enter_ops starlark) (calls_at file fs d) c env)) h
+      ap (λ o. then_do (or_fail kind.ValueKind p o s) (λ g. or_ill_formed (table_of fs g.file g.number) >>= λ c. scope_of_call p (parameters_of c) (names_of ops_names c) g.defaults vs g.env >>= λ env. enter_code starlark (enter_ops starlark) (calls_at fs d) c env)) h
 
-  called_so : (d r : ℕ) (g : Function) → (d ≡ 0 → ⊥) → function_at r s.store ≡ Some g → functions_at file fs d p (function_value r) vs s ≡ Entered (d - 1) g (table_of file fs g.file g.number)
+  called_so : (d r : ℕ) (g : Function) → (d ≡ 0 → ⊥) → function_at r s.store ≡ Some g → functions_at fs d p (function_value r) vs s ≡ Entered (d - 1) g (table_of fs g.file g.number)
   called_so zero r g z h = absurd (z refl)
   called_so (suc d) r g z h =
       let less : d ≡ suc d - 1 = omega arith in
-      function_called d r g h ∙ (λ i. Entered (less i) g (table_of file fs g.file g.number))
+      function_called d r g h ∙ (λ i. Entered (less i) g (table_of fs g.file g.number))
 
-  pub not_found : (d r : ℕ) (g : Function) → (d ≡ 0 → ⊥) → function_at r s.store ≡ Some g → code_with g.number fs ≡ None → functions_at file fs d p (function_value r) vs s ≡ bad (fault_of kind.CodeForm) s
-  not_found d r g z h none = called_so d r g z h ∙ ap (λ o. Entered (d - 1) g (option_map (code_of file) o)) none
+  pub not_found : (d r : ℕ) (g : Function) → (d ≡ 0 → ⊥) → function_at r s.store ≡ Some g → code_with g.file g.number fs ≡ None → functions_at fs d p (function_value r) vs s ≡ bad (fault_of kind.CodeForm) s
+  not_found d r g z h none = called_so d r g z h ∙ ap (λ o. Entered (d - 1) g (option_map (code_of g.file) o)) none
 
-  pub found : (d r : ℕ) (g : Function) (c : FunctionCode) → (d ≡ 0 → ⊥) → function_at r s.store ≡ Some g → code_with g.number fs ≡ Some c → functions_at file fs d p (function_value r) vs s ≡
-      (scope_of_call p (parameters_of (code_of file c)) (names_of ops_names (code_of file c)) g.defaults vs g.env >>= λ env. enter_code starlark (enter_ops starlark) (calls_at file fs (d - 1)) (code_of file c) env) s
-  found d r g c z h some = called_so d r g z h ∙ ap (λ o. Entered (d - 1) g (option_map (code_of file) o)) some
+  pub found : (d r : ℕ) (g : Function) (c : FunctionCode) → (d ≡ 0 → ⊥) → function_at r s.store ≡ Some g → code_with g.file g.number fs ≡ Some c → functions_at fs d p (function_value r) vs s ≡
+      (scope_of_call p (parameters_of (code_of g.file c)) (names_of ops_names (code_of g.file c)) g.defaults vs g.env >>= λ env. enter_code starlark (enter_ops starlark) (calls_at fs (d - 1)) (code_of g.file c) env) s
+  found d r g c z h some = called_so d r g z h ∙ ap (λ o. Entered (d - 1) g (option_map (code_of g.file) o)) some
 
 -- the scope of a call, by the parameters of its code
 pub scope_given : (file n r : ℕ) (g : Function) (code : FunctionCode) (params : List Param) (fresh : List Name) (p : Place) (vs : Arguments) (a b : View) (result : Result (List NamedBox) Stop) →
@@ -235,18 +235,18 @@ refused m f d x sound is e =
 
 -- ---- a call that has begun
 
-module _ (m n : Machine) (fragment : Option ItemKind) (scope : List NamedBox) (o : Opened fragment scope m n) (sound : Sound m) (owned : OwnsEnv (arena_in m) scope) where
+module _ (m n : Machine) (file : ℕ) (fragment : Option ItemKind) (scope : List NamedBox) (o : Opened file fragment scope m n) (sound : Sound m) (owned : OwnsEnv (arena_in m) scope) where
   abbrev Waits : Caller
-  Waits = record { depth = m.depth; scope = m.scope; nodes = m.nodes; fragment = fragment }
+  Waits = record { file = m.code.file; depth = m.depth; scope = m.scope; nodes = m.nodes; fragment = fragment }
 
   abbrev Begun : Machine
-  Begun = record m { depth = m.depth - 1; scope = scope; nodes = o.nodes; frames = m.frames ++ frame.Call Waits ∷ [] }
+  Begun = record m { code = in_file file m.code; depth = m.depth - 1; scope = scope; nodes = o.nodes; frames = m.frames ++ frame.Call Waits ∷ [] }
 
   begun_sound : Sound Begun
   begun_sound = record { scope = owned; nodes = o.owned (arena_in m); frames = each_joined (OwnsFrame (arena_in m)) m.frames (frame.Call Waits ∷ []) sound.frames ((sound.scope, sound.nodes), tt) }
 
   begun_waits : waiting_in Begun ≡ caller_of (arena_in m) m.code Waits ∷ waiting_in m
-  begun_waits = ap (frames_of (arena_in m) m.code) (reverse-append m.frames (frame.Call Waits ∷ []))
+  begun_waits = ap (frames_of (arena_in m) (in_file file m.code)) (reverse-append m.frames (frame.Call Waits ∷ []))
 
   pub opened_sound : Sound n
   opened_sound = subst Sound (sym o.is) begun_sound
@@ -254,7 +254,7 @@ module _ (m n : Machine) (fragment : Option ItemKind) (scope : List NamedBox) (o
   pub opened_grows : Grows (arena_in m) (arena_in n)
   opened_grows = subst (λ (x : Machine). Grows (arena_in m) (arena_in x)) (sym o.is) (grows_same (arena_in m))
 
-  pub opened_setting : setting_of n ≡ setting (functions_at m.code.file m.code.functions (m.depth - 1)) (env_in (arena_in m).held scope)
+  pub opened_setting : setting_of n ≡ setting (functions_at m.code.functions (m.depth - 1)) (env_in (arena_in m).held scope)
   opened_setting = ap setting_of o.is
 
   pub opened_nodes : nodes_in n ≡ bottom (level_of (option_map item_kind_of fragment)) ∷ []
@@ -263,7 +263,7 @@ module _ (m n : Machine) (fragment : Option ItemKind) (scope : List NamedBox) (o
   pub opened_state : state_of n.session ≡ state_of m.session
   opened_state = ap (λ (x : Machine). state_of x.session) o.is
 
-  pub opened_file : n.code.file ≡ m.code.file
+  pub opened_file : n.code.file ≡ file
   opened_file = ap (λ (x : Machine). x.code.file) o.is
 
   pub opened_value : (r : Ending Here plain.Value) → around_value n (waiting_in n) r ≡ around_value m (waiting_in m) r

@@ -1,5 +1,5 @@
 -- A comprehension has begun: its clauses go on in their scope, and what is around it waits.
-use Rattle.std.proofs.Common.{◌≡◌, ◌++◌, ◌∷◌, [], List, ap, sym, ◌∙◌}
+use Rattle.std.proofs.Common.{◌≡◌, ◌++◌, ◌∷◌, [], List, ap, sym, ◌∙◌, refl}
 use Rattle.code_spec.specs.Code.{Clauses, Expr, for_clause}
 use Rattle.code_spec.specs.Names.{clauses_names}
 use Rattle.star_resolve.proofs.Frames.{new_frames}
@@ -47,7 +47,7 @@ module _ (m : Machine) (s : Session) (scope : List NamedBox) (fs : List Frame) (
 
   begun_waits : waiting_in Begun ≡ gather (env_of m) ∷ waiting_in m
   begun_waits =
-      pushed_waits m s (frame.Gather m.scope) fs o.grows sound unmoved.sound.scope more
+      pushed_waits m s (frame.Gather m.scope) fs o.grows sound unmoved.sound.scope more refl
       ∙ ap (λ env. gather env ∷ waiting_in m) (env_kept (arena_in m) (arena_of s) m.scope o.grows sound.scope).1
 
   module _ (p : Place) (w : held.Value) (bag : held_bag.Bag) (value : Owns (arena_in m) w) (owned : OwnsBag (arena_in m) bag) where

@@ -9,10 +9,10 @@ use Rattle.star_eval.specs.declared.frame.Control.{Control}
 use Rattle.star_eval.specs.declared.frame.Control.TheVariants as control
 use Rattle.star_eval.specs.declared.frame.Frame.{Frame}
 use Rattle.star_eval.specs.declared.frame.Machine.{Machine}
-use Rattle.star_eval.specs.Frames.{flow_ending_of, inside, is_active, left_by, means}
+use Rattle.star_eval.specs.Frames.{flow_ending_of, given_by, inside, is_active, left_by, means, value_ending_of}
 use Rattle.star_eval.specs.Meets.{state_of}
 use Rattle.star_eval.specs.View.{arena_in, env_of, frames_of, nodes_in}
-use Rattle.star_eval.specs.Waiting.{end_env, flow_ends}
+use Rattle.star_eval.specs.Waiting.{end_env, flow_ends, value_ends}
 
 no_frames : (fs : List Frame) → not (is_empty fs) ≡ false → fs ≡ []
 no_frames [] h = refl
@@ -34,6 +34,19 @@ module _ (m : Machine) where
   block_ended form (control.Bagged b) is h = (λ i. bad (is i) (state_of m.session)) ∙ ap flow_ends (alone (control.Bagged b) h)
   block_ended form (control.Lost f) is h = ap flow_ends (alone (control.Lost f) h)
   block_ended form (control.Ask k q) is h = cc
+
+  pub call_ended : (form : Fault) (x : Control) → form ≡ fault_of kind.CodeForm → is_active m x ≡ false → value_ending_of (arena_in m) (given_by form x) (state_of m.session) ≡ value_ends (means m x)
+  call_ended form (control.Eval e) is h = cc
+  call_ended form (control.Gave v) is h = ap value_ends (alone (control.Gave v) h)
+  call_ended form (control.Failed f) is h = ap value_ends (alone (control.Failed f) h)
+  call_ended form (control.Run os) is h = cc
+  call_ended form (control.Went w) is h = (λ i. bad (is i) (state_of m.session)) ∙ ap value_ends (alone (control.Went w) h)
+  call_ended form (control.Left f) is h = ap value_ends (alone (control.Left f) h)
+  call_ended form (control.Assign p x v) is h = cc
+  call_ended form (control.Clauses p cs b) is h = cc
+  call_ended form (control.Bagged b) is h = (λ i. bad (is i) (state_of m.session)) ∙ ap value_ends (alone (control.Bagged b) h)
+  call_ended form (control.Lost f) is h = ap value_ends (alone (control.Lost f) h)
+  call_ended form (control.Ask k q) is h = cc
 
   pub scope_at_end : (x : Control) → is_active m x ≡ false → env_of m ≡ end_env (means m x)
   scope_at_end (control.Eval e) h = cc

@@ -1,62 +1,103 @@
--- The run of a file that loads nothing: a box for each of its names, and then its blocks.
-use Rattle.std.proofs.Common.{◌≡◌, ℕ, zero, suc, List, [], ◌∷◌, length, option_map, Some, None, Result, Ok, Err, refl, sym, ap, subst, ◌∙◌}
+-- The run of a file: a box for each of its names, those that were loaded, and then its blocks. A call from outside of a run.
+use Rattle.std.proofs.Common.{◌≡◌, ℕ, zero, suc, List, [], ◌∷◌, map as each, length, Option, Some, None, Result, Ok, Err, IfOk, refl, sym, ap, subst, ◌∙◌}
 use Rattle.ytt_base.specs.declared.fault.Fault.{Fault}
 use Rattle.ytt_base.specs.declared.fault.FaultKind.TheVariants as kind
+use Rattle.ytt_base.specs.declared.fault.Place.{Place}
 use Rattle.ytt_base.specs.declared.fault.Stop.{Stop}
 use Rattle.ytt_base.specs.declared.fault.Stop.TheVariants as stop
 use Rattle.ytt_base.specs.Outcomes.{fault_of}
 use Rattle.node_build.specs.View.{nodes_of}
-use Rattle.code_spec.specs.Blocks.{Ops, blocks}
-use Rattle.star_functions.specs.Table.{code_with}
-use Rattle.star_functions.specs.View.{code_of}
-use Rattle.star_functions.specs.declared.functions.Functions.{Functions}
-use Rattle.star_spec.specs.Calls.{apply, asking, call_with_natives, function_call}
-use Rattle.star_spec.specs.Hosts.{Answers, hosted, with_host}
-use Rattle.star_spec.specs.Language.{Call}
+use Rattle.code_spec.specs.Blocks.{Ops}
 use Rattle.code_spec.specs.Code.{Name}
-use Rattle.star_spec.specs.Eval.{starlark}
-use Rattle.star_spec.specs.Flow.{Flow}
-use Rattle.value_spec.specs.Outcomes.{State, Ending, bad, done, give, then_do}
-use Rattle.code_spec.specs.Program.{Instruction}
 use Rattle.code_spec.specs.Scopes.{ops_names}
-use Rattle.value_spec.specs.Values.{Env}
+use Rattle.star_functions.specs.Table.{table_of}
+use Rattle.star_functions.specs.declared.functions.Functions.{Functions}
 use Rattle.star_resolve.specs.Frames.{boxed, with_unset}
 use Rattle.star_resolve.specs.Variables.{each_once}
 use Rattle.star_resolve.proofs.Frames.{new_frames}
-use Rattle.template_meaning.specs.Build.{built}
-use Rattle.template_meaning.specs.Calls.{bottom, bottom_children, bottom_flow, enter_ops, ops_function, program_calls, program_function}
-use Rattle.template_meaning.specs.Files.{FileResult, File, Loader, ended}
-use Rattle.template_meaning.specs.Meaning.{RunFile, loads_in, names_in, run_blocks}
-use Rattle.template_meaning.specs.Run.{runs}
-use Rattle.star_values.proofs.Growing.{grows_same, grows_then}
+use Rattle.star_spec.specs.Calls.{Table, apply, asking, call_with_natives, function_call}
+use Rattle.star_spec.specs.Eval.{starlark}
+use Rattle.star_spec.specs.Flow.{Flow}
+use Rattle.star_spec.specs.Hosts.{Answers, hosted, with_host}
+use Rattle.star_spec.specs.Language.{Call}
+use Rattle.star_spec.specs.Names.{box_of, fill_box}
+use Rattle.star_steps.specs.Meets.{Meets, as_is}
+use Rattle.star_values.proofs.Growing.{grows_same, grows_then, owns_kept, value_kept}
 use Rattle.star_values.specs.Objects.{env_in}
-use Rattle.star_values.specs.Owns.{Grows}
-use Rattle.star_values.specs.View.{View}
+use Rattle.star_values.specs.Owns.{Grows, Owns, OwnsFields}
+use Rattle.star_values.specs.View.{View, arguments_in, value_in, value_of}
+use Rattle.star_values.specs.declared.object.NamedBox.{NamedBox}
+use Rattle.star_values.specs.declared.value.CallArgs.{CallArgs}
+use Rattle.star_values.specs.declared.value.NamedValue.{NamedValue}
+use Rattle.star_values.specs.declared.value.Value.{Value as Held_value}
+use Rattle.template_meaning.specs.Build.{built}
+use Rattle.template_meaning.specs.Calls.{bottom, bottom_children, bottom_flow, enter_ops, table_calls}
+use Rattle.template_meaning.specs.Files.{FileResult, Globals, bind_loaded, ended}
+use Rattle.template_meaning.specs.Meaning.{RunLoaded, run_blocks}
+use Rattle.template_meaning.specs.Run.{runs}
+use Rattle.value_spec.specs.Outcomes.{State, Ending, bad, done, give, or_ill_formed, then_do, ◌>>=◌}
+use Rattle.value_spec.specs.Values.{Env, Value}
 use Rattle.star_eval.specs.declared.file.FileResult.{FileResult as Given}
-use Rattle.star_eval.specs.declared.looped.Finished.{Finished}
-use Rattle.star_eval.specs.declared.session.Session.{Session}
-use Rattle.star_eval.specs.FileRun.{RunsAs}
-use Rattle.star_eval.specs.Finishes.{Leaves, result_of}
 use Rattle.star_eval.specs.declared.frame.Flow.{Flow as Held}
 use Rattle.star_eval.specs.declared.frame.Flow.TheVariants as held
-use Rattle.star_eval.specs.Calling.{calls_at, calls_from, calls_of, functions_at, table_of}
-use Rattle.star_eval.proofs.Asks.{hosted_fails, hosted_then}
-use Rattle.star_eval.specs.Frames.{flow_ending_of, flow_of}
-use Rattle.star_eval.specs.Meets.{Here, arena_of, state_of}
+use Rattle.star_eval.specs.declared.looped.Called.{Called}
+use Rattle.star_eval.specs.declared.looped.Finished.{Finished}
+use Rattle.star_eval.specs.declared.session.Session.{Session}
+use Rattle.star_eval.specs.Calling.{calls_at, calls_from, calls_of, functions_at}
 use Rattle.star_eval.specs.Doing.{Nodes}
+use Rattle.star_eval.specs.FileRun.{CallsAs, EndsAs, RunsAs, known_in}
+use Rattle.star_eval.specs.Finishes.{Leaves, call_ending, called, globals_of, result_of}
+use Rattle.star_eval.specs.Frames.{flow_ending_of, flow_of, value_ending_of}
+use Rattle.star_eval.specs.Meets.{Here, UnlessMemory, arena_of, state_of}
+use Rattle.star_eval.specs.Scope.{name_bound}
+use Rattle.star_eval.proofs.Asks.{hosted_fails, hosted_then}
 
 -- ---- the calls
 
 -- the calls are those of the definitions
-calls_apply : (file : ℕ) (fs : Functions) (d : ℕ) → apply starlark asking ops_names (enter_ops starlark) (table_of file fs) d ≡ calls_at file fs d
+calls_apply : (fs : Functions) (d : ℕ) → apply starlark asking ops_names (enter_ops starlark) (table_of fs) d ≡ calls_at fs d
 unfolding functions_at calls_from calls_of
-calls_apply file fs zero = refl
-calls_apply file fs (suc d) = λ i p f vs s. call_with_natives starlark asking (function_call starlark ops_names (enter_ops starlark) (table_of file fs) (calls_apply file fs d i)) s.steps p f vs s
+calls_apply fs zero = refl
+calls_apply fs (suc d) = λ i p f vs s. call_with_natives starlark asking (function_call starlark ops_names (enter_ops starlark) (table_of fs) (calls_apply fs d i)) s.steps p f vs s
 
--- the functions of the file are those of its blocks
-pub same_calls : (is : List Instruction) (os : Ops) (file : ℕ) (fs : Functions) (d : ℕ) → blocks is ≡ Some os → ((k : ℕ) → option_map (code_of file) (code_with k fs) ≡ ops_function k os) →
-    program_calls starlark (asking {H = Here}) (λ f. is) d ≡ calls_at file fs d
-same_calls is os file fs d e h = (λ i. apply starlark asking ops_names (enter_ops starlark) (λ f k. (ap (program_function k) e ∙ sym (h k)) i) d) ∙ calls_apply file fs d
+-- and by each table that has these functions
+pub same_calls : (fs : Functions) (table : Table Ops) (d : ℕ) → ((f k : ℕ) → table_of fs f k ≡ table f k) → table_calls starlark (asking {H = Here}) table d ≡ calls_at fs d
+same_calls fs table d h = (λ i. apply starlark asking ops_names (enter_ops starlark) (λ f k. sym (h f k) i) d) ∙ calls_apply fs d
+
+-- ---- names that were loaded
+
+-- one of them, and then the others
+pub bound_next : (x : Name) (v : Value) (gs : Globals) (env : Env) (s : State Here) → bind_loaded ((x, v) ∷ gs) env s ≡ then_do (name_bound x v env s) (λ u. bind_loaded gs env)
+bound_next x v gs env s = by_box (box_of x env)
+  where
+    by_box : (o : Option ℕ) → (or_ill_formed o >>= λ r. fill_box r v >>= λ u. bind_loaded gs env) s ≡ then_do ((or_ill_formed o >>= λ r. fill_box r v) s) (λ u. bind_loaded gs env)
+    by_box None = refl
+    by_box (Some r) = refl
+
+module _ (a : View) (x : NamedValue) (xs : List NamedValue) (scope : List NamedBox) (s t : State Here) where
+  abbrev Binds : Ending Here Here → Type 0
+  Binds o = name_bound x.name (value_of a x.value) (env_in a.held scope) s ≡ o
+
+  -- a turn of the loop over them
+  pub bound_turn : (b : View) → b.held ≡ a.held → Binds (done tt t) → bind_loaded (globals_of a (x ∷ xs)) (env_in a.held scope) s ≡ bind_loaded (globals_of b xs) (env_in b.held scope) t
+  bound_turn b held e =
+      bound_next x.name (value_of a x.value) (globals_of a xs) (env_in a.held scope) s
+      ∙ ap (λ o. then_do o (λ u. bind_loaded (globals_of a xs) (env_in a.held scope))) e
+      ∙ (λ i. bind_loaded (each (λ v. (v.name, value_in (sym held i) v.value)) xs) (env_in (sym held i) scope) t)
+
+  bound_fails : (f : Fault) → Binds (bad f t) → bind_loaded (globals_of a (x ∷ xs)) (env_in a.held scope) s ≡ bad f t
+  bound_fails f e = bound_next x.name (value_of a x.value) (globals_of a xs) (env_in a.held scope) s ∙ ap (λ o. then_do o (λ u. bind_loaded (globals_of a xs) (env_in a.held scope))) e
+
+  pub bound_stops : (start : Ending Here Here) (y : Stop) → start ≡ bind_loaded (globals_of a (x ∷ xs)) (env_in a.held scope) s → Meets as_is (Err y) t (name_bound x.name (value_of a x.value) (env_in a.held scope) s) → Meets as_is (Err y) t start
+  bound_stops start (stop.Fault f) e h = e ∙ bound_fails f h
+  bound_stops start stop.Memory e h = tt
+
+-- they stay the same as the arena grows
+pub globals_kept : (a b : View) (xs : List NamedValue) → Grows a b → OwnsFields a xs → OwnsFields b xs × (globals_of b xs ≡ globals_of a xs)
+globals_kept a b [] g w = (tt, refl)
+globals_kept a b (x ∷ xs) g w =
+    let more = globals_kept a b xs g w.1 in
+    ((owns_kept a b x.value g w.0, more.0), λ i. (x.name, value_kept a b x.value g w.0 i) ∷ more.1 i)
 
 -- ---- the file
 
@@ -64,27 +105,32 @@ same_calls is os file fs d e h = (λ i. apply starlark asking ops_names (enter_o
 abbrev after_run : ℕ → Env → Ending Here (Flow Nodes) → Ending Here FileResult
 after_run n env o = then_do (then_do o (λ f. give (built (bottom_flow f)))) (ended n env)
 
-module _ (loader : Loader Here) (depth : ℕ) (is : List Instruction) (s : State Here) where
+module _ (table : Table Ops) (depth : ℕ) (loaded : Globals) (s : State Here) where
   abbrev calls : Call Here
-  calls = program_calls starlark asking (λ f. is) depth
+  calls = table_calls starlark asking table depth
 
   abbrev made : ℕ
   made = length s.store
 
-  abbrev Runs : Ending Here FileResult
-  Runs = RunFile starlark asking loader (λ f. is) depth is s
+  abbrev Runs : Option Ops → Ending Here FileResult
+  Runs o = RunLoaded starlark asking table depth loaded o s
 
-  -- the blocks in the scope of these names
-  abbrev block_run : Ops → List Name → Ending Here (Flow Nodes)
-  block_run os g = runs starlark calls os (boxed made g []) (bottom 0 ∷ []) (with_unset (length g) s)
+  module _ (os : Ops) (g : List Name) (names : g ≡ each_once (ops_names os)) where
+    abbrev own : Env
+    own = boxed made g []
 
-  module _ (os : Ops) (g : List Name) (cut : blocks is ≡ Some os) (loads : loads_in (blocks is) ≡ []) (names : g ≡ each_once (ops_names os)) where
-    run_from : Runs ≡ after_run made (boxed made g []) (block_run os g)
+    -- names are loaded so
+    abbrev Bound : Ending Here Here
+    Bound = bind_loaded loaded own (with_unset (length g) s)
+
+    -- the blocks in the scope of these names
+    abbrev block_run : State Here → Ending Here (Flow Nodes)
+    block_run t = runs starlark calls os own (bottom 0 ∷ []) t
+
+    run_from : Runs (Some os) ≡ then_do Bound (λ u t. after_run made own (block_run t))
     run_from =
-        (λ i. File loader (loads i) (names_in (blocks is)) (λ env. run_blocks starlark calls (blocks is) env) s)
-        ∙ (λ i. File loader [] (names_in (cut i)) (λ env. run_blocks starlark calls (cut i) env) s)
-        ∙ ap (λ o. then_do o (λ env s. then_do (run_blocks starlark calls (Some os) env s) (ended made env))) (new_frames (ops_names os) s).0
-        ∙ (λ i. after_run made (boxed made (sym names i) []) (block_run os (sym names i)))
+        ap (λ o. then_do o (λ env. bind_loaded loaded env >>= λ u t. then_do (run_blocks starlark calls (Some os) env t) (ended made env))) (new_frames (ops_names os) s).0
+        ∙ (λ i. then_do (bind_loaded loaded (boxed made (sym names i) []) (with_unset (length (sym names i)) s)) (λ u t. after_run made (boxed made (sym names i) []) (runs starlark calls os (boxed made (sym names i) []) (bottom 0 ∷ []) t)))
 
     built_of : (a : View) (w : Held) (k : Nodes) → built (bottom_flow (flow_of a w k)) ≡ bottom_children k
     built_of a held.On k = refl
@@ -93,28 +139,37 @@ module _ (loader : Loader Here) (depth : ℕ) (is : List Instruction) (s : State
     built_of a (held.Return v) k = refl
 
     -- where the block ended, and with a fault, among the answers of a host
-    module _ {H : Type 0} (answers : Answers H) (now then : H) where
-      pub file_ends : (a : View) (w : Held) (k : Nodes) (t : State Here) (x : FileResult) (u : State Here) → (Ok (flow_of a w k), with_host now t) ≡ hosted answers (block_run os g) then → ended made (boxed made g []) (bottom_children k) t ≡ done x u →
-          hosted answers Runs then ≡ (Ok x, with_host now u)
-      file_ends a w k t x u ran e =
-          let first = hosted_then answers (block_run os g) (λ f. give (built (bottom_flow f))) (flow_of a w k) t then now ran in
-          ap (λ o. hosted answers o then) run_from
-          ∙ hosted_then answers (then_do (block_run os g) (λ f. give (built (bottom_flow f)))) (ended made (boxed made g [])) (built (bottom_flow (flow_of a w k))) t then now (sym first)
-          ∙ ap (λ cs. hosted answers (ended made (boxed made g []) cs t) now) (built_of a w k)
+    module _ {H : Type 0} (answers : Answers H) (now then : H) (t : State Here) (bound : Bound ≡ done tt t) where
+      from_bound : Runs (Some os) ≡ after_run made own (block_run t)
+      from_bound = run_from ∙ ap (λ o. then_do o (λ u t. after_run made own (block_run t))) bound
+
+      pub file_ends : (a : View) (w : Held) (k : Nodes) (q : State Here) (x : FileResult) (u : State Here) → (Ok (flow_of a w k), with_host now q) ≡ hosted answers (block_run t) then → ended made own (bottom_children k) q ≡ done x u →
+          hosted answers (Runs (Some os)) then ≡ (Ok x, with_host now u)
+      file_ends a w k q x u ran e =
+          let first = hosted_then answers (block_run t) (λ f. give (built (bottom_flow f))) (flow_of a w k) q then now ran in
+          ap (λ o. hosted answers o then) from_bound
+          ∙ hosted_then answers (then_do (block_run t) (λ f. give (built (bottom_flow f)))) (ended made own) (built (bottom_flow (flow_of a w k))) q then now (sym first)
+          ∙ ap (λ cs. hosted answers (ended made own cs q) now) (built_of a w k)
           ∙ ap (λ o. hosted answers o now) e
 
-      pub file_fails : (f : Fault) (t : State Here) → (Err f, with_host now t) ≡ hosted answers (block_run os g) then → hosted answers Runs then ≡ (Err f, with_host now t)
-      file_fails f t ran =
-          let first = hosted_fails answers (block_run os g) (λ f. give (built (bottom_flow f))) f t then now ran in
-          ap (λ o. hosted answers o then) run_from ∙ hosted_fails answers (then_do (block_run os g) (λ f. give (built (bottom_flow f)))) (ended made (boxed made g [])) f t then now (sym first)
+      pub file_fails : (f : Fault) (q : State Here) → (Err f, with_host now q) ≡ hosted answers (block_run t) then → hosted answers (Runs (Some os)) then ≡ (Err f, with_host now q)
+      file_fails f q ran =
+          let first = hosted_fails answers (block_run t) (λ f. give (built (bottom_flow f))) f q then now ran in
+          ap (λ o. hosted answers o then) from_bound ∙ hosted_fails answers (then_do (block_run t) (λ f. give (built (bottom_flow f)))) (ended made own) f q then now (sym first)
 
-  -- a program that isn't closed as it should be
-  pub broken_run : blocks is ≡ None → Runs ≡ bad (fault_of kind.CodeForm) s
-  broken_run e = λ i. File loader (loads_in (e i)) (names_in (e i)) (λ env. run_blocks starlark calls (e i) env) s
+    -- a name that was loaded isn't the file's
+    pub not_bound : (f : Fault) (t : State Here) → Bound ≡ bad f t → Runs (Some os) ≡ bad f t
+    not_bound f t e = run_from ∙ ap (λ o. then_do o (λ u t. after_run made own (block_run t))) e
+
+-- a program that isn't closed as it should be
+broken_run : (table : Table Ops) (depth : ℕ) (loaded : Globals) (s : State Here) → RunLoaded starlark asking table depth loaded None s ≡ bad (fault_of kind.CodeForm) s
+broken_run table depth [] s = refl
+broken_run table depth (g ∷ gs) s = refl
 
 -- ---- what the call gives
 
-module _ {H : Type 0} (answers : Answers H) (is : List Instruction) (depth made_before : ℕ) (before after : Session) (now then : H) (os : Ops) (g : List Name) (e : Finished) (cut : blocks is ≡ Some os) (names : g ≡ each_once (ops_names os)) (mark : made_before ≡ length (arena_of before).store)
+module _ {H : Type 0} (answers : Answers H) (table : Table Ops) (loaded : Globals) (depth made_before : ℕ) (before bound after : Session) (now then : H) (os : Ops) (g : List Name) (e : Finished) (names : g ≡ each_once (ops_names os)) (mark : made_before ≡ length (arena_of before).store)
+    (binds : bind_loaded loaded (boxed (length (arena_of before).store) g []) (with_unset (length g) (state_of before)) ≡ done tt (state_of bound))
     (scope : env_in (arena_of e.session).held e.scope ≡ boxed (length (arena_of before).store) g []) (grows : Grows (arena_of before) (arena_of e.session)) where
   abbrev nodes : Nodes
   nodes = nodes_of (arena_of e.session) e.nodes
@@ -122,11 +177,11 @@ module _ {H : Type 0} (answers : Answers H) (is : List Instruction) (depth made_
   -- the block ended so, which is how the program's block runs
   abbrev Ran : Result Held Fault → Type 0
   Ran w = hosted answers (flow_ending_of (arena_of e.session) w nodes (state_of e.session)) now ≡
-      hosted answers (runs starlark (program_calls starlark asking (λ f. is) depth) os (boxed (length (arena_of before).store) g []) (bottom 0 ∷ []) (with_unset (length g) (state_of before))) then
+      hosted answers (runs starlark (table_calls starlark asking table depth) os (boxed (length (arena_of before).store) g []) (bottom 0 ∷ []) (state_of bound)) then
 
-  pub file_runs : (w : Result Held Fault) (result : Result Given Stop) → Ran w → Leaves made_before e w result after → RunsAs answers is depth result after before now then
+  pub file_runs : (w : Result Held Fault) (result : Result Given Stop) → Ran w → Leaves made_before e w result after → RunsAs answers table (Some os) loaded depth result after before now then
   file_runs (Ok w) (Ok r) ran left = record {
-    meaning = λ loads loader. file_ends loader depth is (state_of before) os g cut loads names answers now then (arena_of e.session) w nodes (state_of e.session) (result_of (arena_of after) r) (state_of after) ran
+    meaning = file_ends table depth loaded (state_of before) os g names answers now then (state_of bound) binds (arena_of e.session) w nodes (state_of e.session) (result_of (arena_of after) r) (state_of after) ran
         ((λ i. ended (sym mark i) (sym scope i) (bottom_children nodes) (state_of e.session)) ∙ left.meaning);
     owned = left.owned;
     grows = grows_then (arena_of before) (arena_of e.session) (arena_of after) grows left.grows;
@@ -134,15 +189,60 @@ module _ {H : Type 0} (answers : Answers H) (is : List Instruction) (depth made_
   file_runs (Ok w) (Err (stop.Fault f)) ran left = elim left [ ]
   file_runs (Err f) (Ok r) ran left = elim left [ ]
   file_runs (Err f) (Err (stop.Fault d)) ran left = record {
-    meaning = λ loads loader. file_fails loader depth is (state_of before) os g cut loads names answers now then f (state_of e.session) ran ∙ (λ i. (Err (sym left.0 i), with_host now (sym left.1 i)));
+    meaning = file_fails table depth loaded (state_of before) os g names answers now then (state_of bound) binds f (state_of e.session) ran ∙ (λ i. (Err (sym left.0 i), with_host now (sym left.1 i)));
     owned = tt;
     grows = subst (Grows (arena_of before)) (sym left.2) grows;
   }
-  file_runs (Ok w) (Err stop.Memory) ran left = record { meaning = λ loads loader. tt; owned = tt; grows = tt }
-  file_runs (Err f) (Err stop.Memory) ran left = record { meaning = λ loads loader. tt; owned = tt; grows = tt }
+  file_runs (Ok w) (Err stop.Memory) ran left = record { meaning = tt; owned = tt; grows = tt }
+  file_runs (Err f) (Err stop.Memory) ran left = record { meaning = tt; owned = tt; grows = tt }
 
--- and so the call on it, which asks no host
-pub broken_runs : {H : Type 0} (answers : Answers H) (is : List Instruction) (depth : ℕ) (s : Session) (host : H) (x : Stop) → x ≡ stop.Fault (fault_of kind.CodeForm) → blocks is ≡ None → RunsAs answers is depth (Err x) s s host host
-broken_runs answers is depth s host x e none =
-    subst (λ (x : Stop). RunsAs answers is depth (Err x) s s host host) (sym e)
-    (record { meaning = λ loads loader. ap (λ o. hosted answers o host) (broken_run loader depth is (state_of s) none); owned = tt; grows = grows_same (arena_of s) })
+-- and so the calls on it, which ask no host: where a name that was loaded isn't the file's, and where the program isn't closed as it
+-- should be
+pub unbound_runs : {H : Type 0} (answers : Answers H) (table : Table Ops) (loaded : Globals) (depth : ℕ) (before after : Session) (host : H) (os : Ops) (g : List Name) (x : Stop) → g ≡ each_once (ops_names os) →
+    Meets as_is (Err x) (state_of after) (bind_loaded loaded (boxed (length (arena_of before).store) g []) (with_unset (length g) (state_of before))) → Grows (arena_of before) (arena_of after) →
+    RunsAs answers table (Some os) loaded depth (Err x) after before host host
+unbound_runs answers table loaded depth before after host os g (stop.Fault f) names fails grows =
+    record { meaning = ap (λ o. hosted answers o host) (not_bound table depth loaded (state_of before) os g names f (state_of after) fails); owned = tt; grows = grows }
+unbound_runs answers table loaded depth before after host os g stop.Memory names fails grows = record { meaning = tt; owned = tt; grows = tt }
+
+pub broken_runs : {H : Type 0} (answers : Answers H) (table : Table Ops) (loaded : Globals) (depth : ℕ) (s : Session) (host : H) (x : Stop) (o : Option Ops) → x ≡ stop.Fault (fault_of kind.CodeForm) → o ≡ None → RunsAs answers table o loaded depth (Err x) s s host host
+broken_runs answers table loaded depth s host x o e none =
+    subst (λ (x : Stop). RunsAs answers table o loaded depth (Err x) s s host host) (sym e)
+    (record { meaning = (λ i. hosted answers (RunLoaded starlark asking table depth loaded (none i) (state_of s)) host) ∙ ap (λ o. hosted answers o host) (broken_run table depth loaded (state_of s)); owned = tt; grows = grows_same (arena_of s) })
+
+-- ---- what the session knows
+
+-- what holds whatever a call gave holds but for want of memory
+pub holds_unless : {A : Type 0} {P : Type 0} (r : Result A Stop) → P → UnlessMemory r P
+holds_unless (Ok x) h = h
+holds_unless (Err (stop.Fault f)) h = h
+holds_unless (Err stop.Memory) h = tt
+
+-- a run ends so by the same table, the same blocks and the same names
+pub ends_alike : {H : Type 0} (answers : Answers H) (view : Given → FileResult) (t u : Table Ops) (o q : Option Ops) (gs hs : Globals) (d : ℕ) (r : Result Given Stop) (s : State H) (before : State Here) (then : H) → t ≡ u → o ≡ q → gs ≡ hs →
+    EndsAs view r s (hosted answers (RunLoaded starlark asking t d gs o before) then) → EndsAs view r s (hosted answers (RunLoaded starlark asking u d hs q before) then)
+ends_alike answers view t u o q gs hs d (Ok x) s before then e f g h = sym (λ i. hosted answers (RunLoaded starlark asking (e i) d (g i) (f i) before) then) ∙ h
+ends_alike answers view t u o q gs hs d (Err (stop.Fault x)) s before then e f g h = sym (λ i. hosted answers (RunLoaded starlark asking (e i) d (g i) (f i) before) then) ∙ h
+ends_alike answers view t u o q gs hs d (Err stop.Memory) s before then e f g h = tt
+
+-- ---- a call from outside of a run
+
+module _ {H : Type 0} (answers : Answers H) (before after : Session) (e : Called) (now then : H) (f : Held_value) (args : CallArgs) (p : Place) (fs : Functions) (same : (file k : ℕ) → table_of fs file k ≡ known_in before file k)
+    (arena : arena_of after ≡ arena_of e.session) (state : state_of after ≡ state_of e.session)
+    (ended : hosted answers (call_ending e) now ≡ hosted answers (called fs before.work.depth p f args before) then) (owned : IfOk e.result (Owns (arena_of e.session))) (grows : Grows (arena_of before) (arena_of e.session)) where
+  ends : hosted answers (table_calls starlark asking (known_in before) before.work.depth p (value_of (arena_of before) f) (arguments_in (arena_of before).held args) (state_of before)) then ≡ hosted answers (call_ending e) now
+  ends = (λ i. hosted answers (same_calls fs (known_in before) before.work.depth same i p (value_of (arena_of before) f) (arguments_in (arena_of before).held args) (state_of before)) then) ∙ sym ended
+
+  pub call_gives : (v : Held_value) → e.result ≡ Ok v → CallsAs answers f args p (Ok v) after before now then
+  call_gives v is = record {
+    meaning = ends ∙ ap (λ r. hosted answers (value_ending_of (arena_of e.session) r (state_of e.session)) now) is ∙ (λ i. (Ok (value_of (sym arena i) v), with_host now (sym state i)));
+    owned = subst (λ a. Owns a v) (sym arena) (subst (λ r. IfOk r (Owns (arena_of e.session))) is owned);
+    grows = subst (Grows (arena_of before)) (sym arena) grows;
+  }
+
+  pub call_fails : (d : Fault) → e.result ≡ Err d → CallsAs answers f args p (Err (stop.Fault d)) after before now then
+  call_fails d is = record {
+    meaning = ends ∙ ap (λ r. hosted answers (value_ending_of (arena_of e.session) r (state_of e.session)) now) is ∙ (λ i. (Err d, with_host now (sym state i)));
+    owned = tt;
+    grows = subst (Grows (arena_of before)) (sym arena) grows;
+  }

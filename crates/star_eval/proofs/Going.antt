@@ -99,13 +99,13 @@ module _ (m : Machine) (s : Session) (sound : Sound m) where
 
 pub nodes_on : (m : Machine) (b : Builder) (w : Work) (f : Part Here Nodes) (given : Result Here Stop) (r : Result Control Memory) → Sound m →
     Meets (λ u. on (nodes_of (arena_in m) b)) given (state_in (arena_in m) w.steps) (f (nodes_in m) (state_of m.session)) → OwnsNodes (arena_in m) b → SettlesFlow given r →
-    GoesToFlow r (record m { nodes = b; session = record { arena = m.session.arena; work = w } }) m (f (nodes_in m))
+    GoesToFlow r (record m { nodes = b; session = record m.session { work = w } }) m (f (nodes_in m))
 nodes_on m b w f (Ok u) (Ok c) sound g owned e =
-    let n = record m { nodes = b; session = record { arena = m.session.arena; work = w } } in
+    let n = record m { nodes = b; session = record m.session { work = w } } in
     subst (λ x. Goes (arena_in m) n x (around_flow m (waiting_in m) (f (nodes_in m) (state_of m.session)))) (sym e)
     (record { same = ap (around_flow m (waiting_in m)) (sym g); sound = record { scope = sound.scope; nodes = owned; frames = sound.frames }; owned = tt; grows = grows_same (arena_in m) })
 nodes_on m b w f (Err (stop.Fault d)) (Ok c) sound g owned e =
-    let n = record m { nodes = b; session = record { arena = m.session.arena; work = w } } in
+    let n = record m { nodes = b; session = record m.session { work = w } } in
     subst (λ x. Goes (arena_in m) n x (around_flow m (waiting_in m) (f (nodes_in m) (state_of m.session)))) (sym e)
     (record { same = ap (around_flow m (waiting_in m)) (sym g); sound = record { scope = sound.scope; nodes = owned; frames = sound.frames }; owned = tt; grows = grows_same (arena_in m) })
 nodes_on m b w f (Err stop.Memory) (Ok c) sound g owned e = elim e [ ]

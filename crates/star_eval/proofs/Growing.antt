@@ -51,7 +51,7 @@ use Rattle.star_eval.specs.declared.source.Members.TheVariants as members
 use Rattle.star_eval.specs.declared.source.Source.{Source}
 use Rattle.star_eval.specs.Meets.{arena_of}
 use Rattle.star_eval.specs.Sources.{OwnsMembers, OwnsSource, Walked, all_members, left_of, walked_sort}
-use Rattle.star_eval.specs.View.{OwnsBag, OwnsCaller, OwnsFrame, OwnsInBlock, OwnsInClauses, OwnsInElement, OwnsInIndex, OwnsInStatement, OwnsInValue, OwnsPending, Sound, arena_in, bag_of, block_frame, caller_of, clauses_frame, element_frame, frame_of, frames_of, gathering_of, index_frame, making_of, native_frame, nodes_in, setting_of, statement_frame, value_frame, waiting_in}
+use Rattle.star_eval.specs.View.{OwnsBag, OwnsCaller, OwnsFrame, OwnsInBlock, OwnsInClauses, OwnsInElement, OwnsInIndex, OwnsInStatement, OwnsInValue, OwnsPending, Sound, arena_in, bag_of, block_frame, caller_of, clauses_frame, code_under, element_frame, frame_of, frames_of, gathering_of, index_frame, making_of, native_frame, nodes_in, setting_of, statement_frame, value_frame, waiting_in}
 use Rattle.star_eval.specs.Waiting as plain
 use Rattle.star_eval.specs.Waiting.{setting}
 
@@ -199,7 +199,7 @@ module _ (a b : View) (code : Code) (g : Grows a b) where
   caller_kept c w =
       let env = env_kept a b c.scope g w.0 in
       let nodes = nodes_kept a b c.nodes g w.1 in
-      ((env.0, nodes.0), λ i. plain.caller (functions_at code.file code.functions c.depth) (env.1 i) (nodes.1 i) (option_map item_kind_of c.fragment))
+      ((env.0, nodes.0), λ i. plain.caller (functions_at code.functions c.depth) (env.1 i) (nodes.1 i) (option_map item_kind_of c.fragment))
 
   frame_kept : (f : Frame) → OwnsFrame a f → OwnsFrame b f × (frame_of b code f ≡ frame_of a code f)
   frame_kept (frame.Value f) w = let k = in_value_kept a b code.file g f w in (k.0, ap plain.in_value k.1)
@@ -211,12 +211,12 @@ module _ (a b : View) (code : Code) (g : Grows a b) where
   frame_kept (frame.Call c) w = caller_kept c w
   frame_kept (frame.Native p) w = pending_kept a b g p w
 
-  pub frames_kept : (fs : List Frame) → Each (OwnsFrame a) fs → Each (OwnsFrame b) fs × (frames_of b code fs ≡ frames_of a code fs)
-  frames_kept [] w = (tt, refl)
-  frames_kept (f ∷ fs) w =
-      let k = frame_kept f w.0 in
-      let more = frames_kept fs w.1 in
-      ((k.0, more.0), λ i. k.1 i ∷ more.1 i)
+pub frames_kept : (a b : View) (code : Code) → Grows a b → (fs : List Frame) → Each (OwnsFrame a) fs → Each (OwnsFrame b) fs × (frames_of b code fs ≡ frames_of a code fs)
+frames_kept a b code g [] w = (tt, refl)
+frames_kept a b code g (f ∷ fs) w =
+    let k = frame_kept a b code g f w.0 in
+    let more = frames_kept a b (code_under code f) g fs w.1 in
+    ((k.0, more.0), λ i. k.1 i ∷ more.1 i)
 
 -- ---- the same from the innermost one on
 
@@ -240,7 +240,7 @@ kept m s g w =
     let env = env_kept a b m.scope g w.scope in
     let nodes = nodes_kept a b m.nodes g w.nodes in
     record {
-      setting = λ i. setting (functions_at m.code.file m.code.functions m.depth) (env.1 i);
+      setting = λ i. setting (functions_at m.code.functions m.depth) (env.1 i);
       nodes = nodes.1;
       waiting = (frames_kept a b m.code g (reverse m.frames) (reversed_each (OwnsFrame a) m.frames w.frames)).1;
       sound = record { scope = env.0; nodes = nodes.0; frames = (frames_kept a b m.code g m.frames w.frames).0 };

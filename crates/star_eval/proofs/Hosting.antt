@@ -1,5 +1,5 @@
 -- Natives of a host: what they are asked, what they ask for, and what follows from an answer.
-use Rattle.std.proofs.Common.{◌≡◌, ℕ, zero, suc, ◌-◌, List, [], ◌∷◌, ◌++◌, Result, Ok, Err, IfOk, reverse, true, arith, refl, ap, subst, sym, ◌∙◌}
+use Rattle.std.proofs.Common.{◌≡◌, ℕ, zero, suc, ◌-◌, [], ◌∷◌, ◌++◌, Result, Ok, Err, IfOk, true, arith, refl, ap, subst, sym, ◌∙◌}
 use Rattle.std.proofs.lemmas.List.{reverse-append}
 use Rattle.ytt_base.specs.declared.fault.Fault.{Fault}
 use Rattle.ytt_base.specs.declared.fault.FaultKind.TheVariants as kind
@@ -9,7 +9,7 @@ use Rattle.ytt_base.specs.declared.fault.Stop.TheVariants as stop
 use Rattle.ytt_base.specs.declared.text.Memory.{Memory}
 use Rattle.ytt_base.specs.Outcomes.{fault_at}
 use Rattle.code_spec.specs.Code.{Name}
-use Rattle.star_spec.specs.Calls.{asking, replied, resumed_with}
+use Rattle.star_spec.specs.Calls.{asking, resumed_with}
 use Rattle.star_spec.specs.Hosts.{Answers}
 use Rattle.star_spec.specs.Language.{Call}
 use Rattle.star_values.proofs.Growing.{each_joined, grows_same, grows_then}
@@ -36,8 +36,8 @@ use Rattle.star_eval.specs.declared.session.Session.{Session}
 use Rattle.star_eval.specs.Calling.{after_replied, calls_from}
 use Rattle.star_eval.specs.Frames.{Goes, GoesToValue, Waits, after_answer, around_value, inside, means}
 use Rattle.star_eval.specs.Hosted.{Comes, hosted_at}
-use Rattle.star_eval.specs.Hosts.{HostGives, OwnsGot, OwnsHosted, OwnsReply, Replies, answer_of, host_held, host_name, is_hosted, native_at, question_of, reply_of}
-use Rattle.star_eval.specs.Meets.{Here, UnlessMemory, arena_of, state_of}
+use Rattle.star_eval.specs.Hosts.{HostGives, OwnsGot, OwnsHosted, OwnsReply, answer_of, host_held, host_name, is_hosted, native_at, question_of, reply_of}
+use Rattle.star_eval.specs.Meets.{Here, arena_of, state_of}
 use Rattle.star_eval.specs.View.{OwnsFrame, OwnsPending, Sound, arena_in, frames_of, native_frame, nodes_in, setting_of, waiting_in}
 use Rattle.star_eval.proofs.Asks.{answered_at, value_out}
 use Rattle.star_eval.proofs.Calling.{by_host}
@@ -57,7 +57,7 @@ asked_host m left p r args sound owned is given = record {
 -- ---- replies
 
 module _ (f : Call Here) (p : Place) (x : Name) (held_values : Values) where
-  pub value_replied : (left : ℕ) (v : plain.Value) → after_replied f left p x held_values (answer v) ≡ give v
+  value_replied : (left : ℕ) (v : plain.Value) → after_replied f left p x held_values (answer v) ≡ give v
   unfolding after_replied
   value_replied left v = refl
 

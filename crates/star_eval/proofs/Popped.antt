@@ -4,7 +4,7 @@ use Rattle.std.proofs.lemmas.List.{reverse-append}
 use Rattle.star_values.specs.Owns.{Each}
 use Rattle.star_eval.specs.declared.frame.Frame.{Frame}
 use Rattle.star_eval.specs.declared.frame.Machine.{Machine}
-use Rattle.star_eval.specs.View.{OwnsFrame, Sound, arena_in, frame_of, frames_of, waiting_in}
+use Rattle.star_eval.specs.View.{OwnsFrame, Sound, arena_in, frames_of, waiting_in, waiting_with}
 
 each_last : {A : Type 0} (P : A → Type 0) (xs : List A) (x : A) → Each P (xs ++ x ∷ []) → Each P xs × P x
 each_last P [] x h = (tt, h.0)
@@ -23,5 +23,5 @@ module _ (m : Machine) (fs : List Frame) (f : Frame) (is : m.frames ≡ fs ++ f 
   pub popped_owned : Sound m → OwnsFrame (arena_in m) f
   popped_owned sound = (parted sound).1
 
-  pub popped_waits : waiting_in m ≡ frame_of (arena_in m) m.code f ∷ waiting_in Popped
+  pub popped_waits : waiting_in m ≡ waiting_with Popped f
   popped_waits = ap (λ l. frames_of (arena_in m) m.code (reverse l)) is ∙ ap (frames_of (arena_in m) m.code) (reverse-append fs (f ∷ []))

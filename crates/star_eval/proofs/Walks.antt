@@ -14,7 +14,7 @@ use Rattle.star_eval.specs.declared.session.Session.{Session}
 use Rattle.star_eval.specs.Frames.{flow_of}
 use Rattle.star_eval.specs.Meets.{arena_of}
 use Rattle.star_eval.specs.Doing.{Nodes}
-use Rattle.star_eval.specs.View.{OwnsFlow, OwnsFrame, Sound, arena_in, frame_of, frames_of, waiting_in}
+use Rattle.star_eval.specs.View.{OwnsFlow, OwnsFrame, Sound, arena_in, code_under, frame_of, frames_of, waiting_in}
 use Rattle.star_eval.proofs.Growing.{Kept, kept}
 
 module _ (m : Machine) (s : Session) (f : Frame) (fs : List Frame) (g : Grows (arena_in m) (arena_of s)) (sound : Sound m) (owned : OwnsFrame (arena_of s) f) (more : fs ≡ m.frames ++ f ∷ []) where
@@ -31,9 +31,11 @@ module _ (m : Machine) (s : Session) (f : Frame) (fs : List Frame) (g : Grows (a
     frames = subst (Each (OwnsFrame (arena_of s))) (sym more) (each_joined (OwnsFrame (arena_of s)) m.frames (f ∷ []) k.sound.frames (owned, tt));
   }
 
-  pub pushed_waits : waiting_in Pushed ≡ frame_of (arena_of s) m.code f ∷ waiting_in m
-  pushed_waits =
+  -- where the frame is no caller
+  pub pushed_waits : code_under m.code f ≡ m.code → waiting_in Pushed ≡ frame_of (arena_of s) m.code f ∷ waiting_in m
+  pushed_waits e =
       ap (λ l. frames_of (arena_of s) m.code (reverse l)) more ∙ ap (frames_of (arena_of s) m.code) (reverse-append m.frames (f ∷ []))
+      ∙ ap (λ c. frame_of (arena_of s) m.code f ∷ frames_of (arena_of s) c (reverse m.frames)) e
       ∙ ap (λ ws. frame_of (arena_of s) m.code f ∷ ws) k.waiting
 
 -- ---- ends of blocks as the arena grows

@@ -1,13 +1,10 @@
--- The calls that code of a file may make: of its functions, of the language's own, and of natives of whom a host is asked.
+-- The calls that code may make: of functions of files, of the language's own, and of natives of whom a host is asked.
 use Rattle.std.specs.Prelude.{ℕ, zero, suc}
-use Rattle.std.specs.Option.{option_map}
-use Rattle.code_spec.specs.Blocks.{Ops}
 use Rattle.code_spec.specs.Code.{Name}
 use Rattle.code_spec.specs.Scopes.{ops_names}
-use Rattle.star_functions.specs.Table.{code_with}
-use Rattle.star_functions.specs.View.{code_of}
+use Rattle.star_functions.specs.Table.{table_of}
 use Rattle.star_functions.specs.declared.functions.Functions.{Functions}
-use Rattle.star_spec.specs.Calls.{Table, after_reply, asking, call_with_natives, function_call, replied, too_deep}
+use Rattle.star_spec.specs.Calls.{after_reply, asking, call_with_natives, function_call, replied, too_deep}
 use Rattle.star_spec.specs.Eval.{starlark}
 use Rattle.star_spec.specs.Language.{Call}
 use Rattle.template_meaning.specs.Calls.{enter_ops}
@@ -15,10 +12,6 @@ use Rattle.value_spec.specs.Outcomes.{Computation, Question, Reply, asks, then_d
 use Rattle.value_spec.specs.Values.{Value, Values}
 use Rattle.ytt_base.specs.declared.fault.Place.{Place}
 use Rattle.star_eval.specs.Meets.{Here}
-
--- the functions of the file alone, by their numbers
-abbrev pub table_of : (file : ℕ) → Functions → Table Ops
-table_of file fs f k = option_map (code_of file) (code_with k fs)
 
 -- a call where functions of the file are called so, and so many steps are left for the calls that natives ask for
 unfoldable pub calls_from : (function : Call Here) → (left : ℕ) → Call Here
@@ -29,13 +22,13 @@ unfoldable pub calls_of : (function : Call Here) → Call Here
 calls_of f p g vs s = calls_from f s.steps p g vs s
 
 -- the calls of functions where so many may still stand in one another
-unfoldable pub functions_at : (file : ℕ) → Functions → (depth : ℕ) → Call Here
-functions_at file fs zero = too_deep
-functions_at file fs (suc d) = function_call starlark ops_names (enter_ops starlark) (table_of file fs) (calls_of (functions_at file fs d))
+unfoldable pub functions_at : Functions → (depth : ℕ) → Call Here
+functions_at fs zero = too_deep
+functions_at fs (suc d) = function_call starlark ops_names (enter_ops starlark) (table_of fs) (calls_of (functions_at fs d))
 
 -- and all calls there
-abbrev pub calls_at : (file : ℕ) → Functions → (depth : ℕ) → Call Here
-calls_at file fs d = calls_of (functions_at file fs d)
+abbrev pub calls_at : Functions → (depth : ℕ) → Call Here
+calls_at fs d = calls_of (functions_at fs d)
 
 -- ---- natives of a host
 

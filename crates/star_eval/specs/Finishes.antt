@@ -4,26 +4,40 @@ use Rattle.ytt_base.specs.declared.fault.Fault.{Fault}
 use Rattle.ytt_base.specs.declared.fault.Stop.{Stop}
 use Rattle.ytt_base.specs.declared.fault.Stop.TheVariants as stop
 use Rattle.node_build.specs.View.{OwnsNodes, nodes_of}
+use Rattle.star_functions.specs.declared.functions.Functions.{Functions}
 use Rattle.star_spec.specs.Flow.{Flow}
 use Rattle.star_values.specs.Objects.{env_in}
 use Rattle.star_values.specs.Owns.{Grows, OwnsBuilt, OwnsEnv, OwnsFields}
-use Rattle.star_values.specs.View.{View, built_in, value_of}
+use Rattle.star_values.specs.View.{View, arguments_in, built_in, value_of}
+use Rattle.star_values.specs.declared.value.CallArgs.{CallArgs}
 use Rattle.star_values.specs.declared.value.NamedValue.{NamedValue}
+use Rattle.star_values.specs.declared.value.Value as held_value
 use Rattle.template_meaning.specs.Calls.{bottom_children}
 use Rattle.template_meaning.specs.Files.{FileResult as PlainResult, Globals, ended}
 use Rattle.value_spec.specs.Outcomes.{Ending, done}
-use Rattle.value_spec.specs.Values.{Children, Env}
+use Rattle.value_spec.specs.Values.{Children, Env, Value}
+use Rattle.ytt_base.specs.declared.fault.Place.{Place}
+use Rattle.star_eval.specs.Calling.{calls_at}
 use Rattle.star_eval.specs.Doing.{Nodes}
-use Rattle.star_eval.specs.Frames.{flow_ending_of}
+use Rattle.star_eval.specs.Frames.{flow_ending_of, value_ending_of}
 use Rattle.star_eval.specs.Meets.{Here, arena_of, state_of}
 use Rattle.star_eval.specs.declared.file.FileResult.{FileResult}
 use Rattle.star_eval.specs.declared.frame.Flow as held
+use Rattle.star_eval.specs.declared.looped.Called.{Called}
 use Rattle.star_eval.specs.declared.looped.Finished.{Finished}
 use Rattle.star_eval.specs.declared.session.Session.{Session}
 
 -- how a block ended
 abbrev pub block_ending : Finished → Ending Here (Flow Nodes)
 block_ending e = flow_ending_of (arena_of e.session) e.result (nodes_of (arena_of e.session) e.nodes) (state_of e.session)
+
+-- how a call ended
+abbrev pub call_ending : Called → Ending Here Value
+call_ending e = value_ending_of (arena_of e.session) e.result (state_of e.session)
+
+-- a call of a value in a session, where these functions are known
+abbrev pub called : Functions → (depth : ℕ) → Place → held_value.Value → CallArgs → Session → Ending Here Value
+called fs d p f args s = calls_at fs d p (value_of (arena_of s) f) (arguments_in (arena_of s).held args) (state_of s)
 
 -- A block ended in this scope: what is left is owned by an arena that has grown from the one there was.
 pub record Finishes (a : View) (variables : Env) (e : Finished) : Type 0 where

@@ -37,7 +37,7 @@ use Rattle.star_eval.specs.Hosts.{host_held, host_name, native_at, question_of}
 use Rattle.star_eval.specs.declared.session.Session.{Session}
 use Rattle.star_eval.specs.Meets.{Here, arena_of, state_of}
 use Rattle.star_eval.specs.Doing.{Bag, Nodes, assigned, clauses_done, evaluated, through}
-use Rattle.star_eval.specs.View.{OwnsControl, Sound, arena_in, bag_of, nodes_in, setting_of, waiting_in}
+use Rattle.star_eval.specs.View.{OwnsControl, Sound, arena_in, bag_of, in_file, nodes_in, setting_of, waiting_in}
 use Rattle.star_eval.specs.Waiting.{Final, Waiting, unwind_bag, unwind_flow, unwind_value, with_none}
 
 -- what comes of an ending of a value in what waits, in the setting of the machine and with its nodes
@@ -127,6 +127,19 @@ left_by form (control.Left f) = Err f
 left_by form (control.Lost f) = Err f
 left_by form _ = Err form
 
+-- what a call gave that goes on to this
+abbrev pub given_by : Fault → Control → Result Value Fault
+given_by form (control.Gave v) = Ok v
+given_by form (control.Failed f) = Err f
+given_by form (control.Left f) = Err f
+given_by form (control.Lost f) = Err f
+given_by form _ = Err form
+
+-- a value or a fault is how a call ends in this state
+abbrev pub value_ending_of : View → Result Value Fault → State Here → Ending Here plain.Value
+value_ending_of a (Ok v) s = done (value_of a v) s
+value_ending_of a (Err f) s = bad f s
+
 -- an end or a fault is how a block ends with these nodes open in this state
 abbrev pub flow_ending_of : View → Result held.Flow Fault → Nodes → State Here → Ending Here (Flow Nodes)
 flow_ending_of a (Ok w) k s = done (flow_of a w k) s
@@ -134,14 +147,15 @@ flow_ending_of a (Err f) k s = bad f s
 
 -- ---- calls
 
--- A call has begun: its caller waits, and what it builds is empty.
-pub record Opened (fragment : Option ItemKind) (scope : List NamedBox) (before after : Machine) : Type 0 where
+-- A call of a function of this file has begun: its caller waits, and what it builds is empty.
+pub record Opened (file : ℕ) (fragment : Option ItemKind) (scope : List NamedBox) (before after : Machine) : Type 0 where
   pub nodes : Builder
   pub is : after ≡ record before {
+    code = in_file file before.code;
     depth = before.depth - 1;
     scope = scope;
     nodes = nodes;
-    frames = before.frames ++ frame.Call (record { depth = before.depth; scope = before.scope; nodes = before.nodes; fragment = fragment }) ∷ [];
+    frames = before.frames ++ frame.Call (record { file = before.code.file; depth = before.depth; scope = before.scope; nodes = before.nodes; fragment = fragment }) ∷ [];
   }
   pub meaning : (a : View) → nodes_of a nodes ≡ bottom (level_of (option_map item_kind_of fragment)) ∷ []
   pub owned : (a : View) → OwnsNodes a nodes

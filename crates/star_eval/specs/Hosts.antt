@@ -14,7 +14,7 @@ use Rattle.star_values.specs.declared.value.Reply as held
 use Rattle.star_values.specs.declared.value.Reply.TheVariants as reply
 use Rattle.star_values.specs.declared.value.Value.{Value}
 use Rattle.star_values.specs.declared.value.Value.TheVariants as value
-use Rattle.value_spec.specs.Outcomes.{Question, Reply, State, answer, call_then, called, resumed}
+use Rattle.value_spec.specs.Outcomes.{Question, Reply, answer, call_then, called, resumed}
 use Rattle.value_spec.specs.Values as plain
 use Rattle.value_spec.specs.Values.{Values, arguments, host_native, no_fields, no_values, none_value, values_from}
 use Rattle.star_eval.specs.Meets.{UnlessMemory, arena_of, state_of}

@@ -1,9 +1,14 @@
 -- The boxes of names.
 use Rattle.std.specs.Prelude.{ℕ, Option, Some, None}
+use Rattle.code_spec.specs.Code.{Name}
+use Rattle.star_spec.specs.Names.{box_of, fill_box}
 use Rattle.star_values.specs.Owns.{OwnsObjectRef}
 use Rattle.star_values.specs.View.{View}
 use Rattle.star_values.specs.declared.value.Ref.{Ref}
 use Rattle.star_values.specs.declared.value.Sort.TheVariants as sort
+use Rattle.value_spec.specs.Outcomes.{Computation, or_ill_formed, ◌>>=◌}
+use Rattle.value_spec.specs.Values.{Env, Value}
+use Rattle.star_eval.specs.Meets.{Here}
 
 abbrev pub position_of : Option Ref → Option ℕ
 position_of None = None
@@ -13,3 +18,7 @@ position_of (Some r) = Some r.at
 abbrev pub OwnsBox : View → Option Ref → Type 0
 OwnsBox a None = Unit {0}
 OwnsBox a (Some r) = OwnsObjectRef a sort.Box r
+
+-- a name that is bound in a scope gets this value
+abbrev pub name_bound : Name → Value → Env → Computation Here (Unit {0})
+name_bound x v env = or_ill_formed (box_of x env) >>= λ r. fill_box r v

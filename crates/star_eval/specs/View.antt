@@ -1,5 +1,5 @@
 -- The plain data that frames stand for, and what is owned in them.
-use Rattle.std.specs.Prelude.{ℕ, List, Option, Some, None, codes, reverse, map as each}
+use Rattle.std.specs.Prelude.{ℕ, List, [], ◌∷◌, Option, Some, None, codes, reverse}
 use Rattle.std.specs.Borrow.{Bor}
 use Rattle.std.specs.Option.{option_map}
 use Rattle.star_values.specs.Owns.{Each, Owns, OwnsAll, OwnsArguments, OwnsEnv, OwnsPair}
@@ -139,7 +139,7 @@ clauses_frame a file (in_clauses.Turn p x cs s) = plain.clause_turn p (expr_of f
 clauses_frame a file (in_clauses.WalkEnd r) = plain.clause_walk_end r.at
 
 abbrev pub caller_of : View → Code → Caller → plain.Waiting
-caller_of a code c = plain.caller (functions_at code.file code.functions c.depth) (env_in a.held c.scope) (nodes_of a c.nodes) (option_map item_kind_of c.fragment)
+caller_of a code c = plain.caller (functions_at code.functions c.depth) (env_in a.held c.scope) (nodes_of a c.nodes) (option_map item_kind_of c.fragment)
 
 abbrev pub native_frame : View → Pending → plain.Waiting
 native_frame a p =
@@ -156,8 +156,19 @@ frame_of a code (frame.Gather scope) = plain.gather (env_in a.held scope)
 frame_of a code (frame.Call c) = caller_of a code c
 frame_of a code (frame.Native p) = native_frame a p
 
+-- the functions of all files, where the code of this file runs
+abbrev pub in_file : (file : ℕ) → Code → Code
+in_file file code = record code { file = file }
+
+-- what runs below a frame: a call goes back to the file of its caller
+abbrev pub code_under : Code → Frame → Code
+code_under code (frame.Call c) = in_file c.file code
+code_under code _ = code
+
+-- frames, the innermost first
 abbrev pub frames_of : View → Code → List Frame → List plain.Waiting
-frames_of a code fs = each (frame_of a code) fs
+frames_of a code [] = []
+frames_of a code (f ∷ fs) = frame_of a code f ∷ frames_of a (code_under code f) fs
 
 -- ---- a machine
 
@@ -168,7 +179,7 @@ abbrev pub env_of : Machine → Env
 env_of m = env_in (arena_in m).held m.scope
 
 abbrev pub setting_of : Machine → Setting
-setting_of m = plain.setting (functions_at m.code.file m.code.functions m.depth) (env_of m)
+setting_of m = plain.setting (functions_at m.code.functions m.depth) (env_of m)
 
 abbrev pub nodes_in : Machine → Nodes
 nodes_in m = nodes_of (arena_in m) m.nodes
@@ -176,6 +187,13 @@ nodes_in m = nodes_of (arena_in m) m.nodes
 -- what waits, the innermost first
 abbrev pub waiting_in : Machine → List plain.Waiting
 waiting_in m = frames_of (arena_in m) m.code (reverse m.frames)
+
+-- what waits below a frame, and with it
+abbrev pub waiting_under : Machine → Frame → List plain.Waiting
+waiting_under m f = frames_of (arena_in m) (code_under m.code f) (reverse m.frames)
+
+abbrev pub waiting_with : Machine → Frame → List plain.Waiting
+waiting_with m f = frame_of (arena_in m) m.code f ∷ waiting_under m f
 
 -- ---- what is owned
 

@@ -18,7 +18,8 @@ ghost use Rattle.star_eval.specs.Asking.{called_with, keys_in};
 ghost use Rattle.star_eval.specs.Doing.{all_calls};
 ghost use Rattle.star_eval.specs.Hosts.{is_hosted, native_at};
 ghost use Rattle.star_eval.specs.Frames.{Goes, GoesToValue, Opened, ResultGiven, inside};
-ghost use Rattle.star_eval.specs.View.{OwnsCaller, OwnsFlow, Sound, arena_in, caller_of, setting_of, waiting_in};
+ghost use Rattle.star_eval.specs.View.{OwnsCaller, OwnsFlow, Sound, arena_in, in_file, setting_of, waiting_with};
+ghost use Rattle.star_eval.specs.declared.frame.Frame.TheVariants as frame;
 
 use crate::frame::{Asking, Caller, Control, Flow, Frame, InValue, Machine, Question};
 use crate::machine::{failed, ill_formed, settle};
@@ -281,11 +282,13 @@ fn call_function<'p>(
     requires args { OwnsArguments (arena_in m.old) args }
     ensures { GoesToValue result m.new m.old ((setting_of m.old).function place (function_value function.at) (arguments_in (arena_in m.old).held args)) }
 {
-    let number = m.session.arena.function(function).code as usize;
+    let known = m.session.arena.function(function);
+    let file = known.file;
+    let number = known.code as usize;
     if m.depth == 0 {
         return Ok(failed(m, FaultKind::Depth, place));
     }
-    let (code, opened) = match m.code.functions.find(number) {
+    let (code, opened) = match m.code.functions.find(file, number) {
         None => return Ok(ill_formed(m)),
         Some(found) => {
             let params = params_of(found.code);
@@ -297,7 +300,7 @@ fn call_function<'p>(
         }
     };
     match opened {
-        Ok(scope) => enter(m, code, scope),
+        Ok(scope) => enter(m, file, code, scope),
         Err(Stop::Fault(fault)) => Ok(Control::Failed(fault)),
         Err(Stop::Memory) => Err(Memory),
     }
@@ -325,41 +328,49 @@ fn level_of(fragment: Option<ItemKind>) -> u32
     }
 }
 
-/// The code of a function in its scope, with one call less that may stand in it.
+/// The code of a function of a file in its scope, with one call less that may stand in it.
 fn enter<'p>(
     m: &mut Machine<'p>,
+    file: u32,
     code: FunctionCode<'p>,
     scope: Boxes,
 ) -> Result<Control<'p>, Memory>
     requires sound { Sound m.old }
     requires scope { OwnsEnv (arena_in m.old) scope }
     requires depth { 1 ≤ m.old.depth }
-    ensures { GoesToValue result m.new m.old (enter_code starlark (enter_ops starlark) (calls_at m.old.code.file m.old.code.functions (m.old.depth - 1)) (code_of m.old.code.file code.entry) (env_in (arena_in m.old).held scope)) }
+    ensures { GoesToValue result m.new m.old (enter_code starlark (enter_ops starlark) (calls_at m.old.code.functions (m.old.depth - 1)) (code_of file code.entry) (env_in (arena_in m.old).held scope)) }
 {
     match code {
         FunctionCode::Lambda(_, body) => {
-            open_call(m, None, scope)?;
+            open_call(m, file, None, scope)?;
             Ok(Control::Eval(body))
         }
         FunctionCode::Def(_, fragment, body) => {
-            open_call(m, fragment, scope)?;
+            open_call(m, file, fragment, scope)?;
             Ok(Control::Run(body))
         }
     }
 }
 
-/// Puts the frame of a call on the others, and goes on in this scope with no open nodes of its caller.
-fn open_call(m: &mut Machine<'_>, fragment: Option<ItemKind>, scope: Boxes) -> Result<(), Memory>
+/// Puts the frame of a call on the others, and goes on in this file and scope with no open nodes of its caller.
+fn open_call(
+    m: &mut Machine<'_>,
+    file: u32,
+    fragment: Option<ItemKind>,
+    scope: Boxes,
+) -> Result<(), Memory>
     requires depth { 1 ≤ m.old.depth }
-    ensures { IfOk result (λ u. Opened fragment scope m.old m.new) }
+    ensures { IfOk result (λ u. Opened file fragment scope m.old m.new) }
 {
     let nodes = Builder::within(m.session.arena.alloc(), level_of(fragment));
     let caller = Caller {
+        file: m.code.file,
         depth: m.depth,
         scope: mem::replace(&mut m.scope, scope),
         nodes: mem::replace(&mut m.nodes, nodes),
         fragment,
     };
+    m.code.file = file;
     m.depth -= 1;
     m.frames.push(Frame::Call(caller))?;
     Ok(())
@@ -367,8 +378,9 @@ fn open_call(m: &mut Machine<'_>, fragment: Option<ItemKind>, scope: Boxes) -> R
 
 /// What there was before a call is there again.
 pub(crate) fn restore(m: &mut Machine<'_>, caller: Caller)
-    ensures { m.new ≡ record m.old { depth = caller.depth; scope = caller.scope; nodes = caller.nodes } }
+    ensures { m.new ≡ record m.old { code = in_file caller.file m.old.code; depth = caller.depth; scope = caller.scope; nodes = caller.nodes } }
 {
+    m.code.file = caller.file;
     m.depth = caller.depth;
     m.scope = caller.scope;
     m.nodes = caller.nodes;
@@ -404,7 +416,7 @@ pub(crate) fn returned<'p>(
     requires sound { Sound m.old }
     requires caller { OwnsCaller (arena_in m.old) caller }
     requires flow { OwnsFlow (arena_in m.old) flow }
-    ensures { IfOk result (λ c. Goes (arena_in m.old) m.new c (inside m.old (caller_of (arena_in m.old) m.old.code caller ∷ waiting_in m.old) (control.Went flow))) }
+    ensures { IfOk result (λ c. Goes (arena_in m.old) m.new c (inside m.old (waiting_with m.old (frame.Call caller)) (control.Went flow))) }
 {
     let value = result_of(m, caller.fragment, flow)?;
     restore(m, caller);

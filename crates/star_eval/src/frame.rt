@@ -175,10 +175,11 @@ pub(crate) enum InClauses<'p> {
     WalkEnd(Ref),
 }
 
-/// What goes on where a call ends: how many calls could stand in one another, the scope and the open nodes; and the kind of the
-/// items that the function builds a fragment of.
+/// What goes on where a call ends: the file, how many calls could stand in one another, the scope and the open nodes; and the kind
+/// of the items that the function builds a fragment of.
 #[derive(Drop)]
 pub(crate) struct Caller {
+    pub file: u32,
     pub depth: u32,
     pub scope: Boxes,
     pub nodes: Builder,
@@ -246,7 +247,7 @@ pub(crate) enum Control<'p> {
     Ask(Asking, Question),
 }
 
-/// The code of a file: its number, and its functions.
+/// The number of the file whose code runs, and the functions of all files.
 #[derive(Drop)]
 pub(crate) struct Code<'p> {
     pub file: u32,

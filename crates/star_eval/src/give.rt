@@ -1,11 +1,11 @@
 // What goes on from a value.
-ghost use Rattle.std.specs.Prelude.{◌≡◌, ◌∷◌, IfOk};
+ghost use Rattle.std.specs.Prelude.{IfOk};
 ghost use Rattle.star_values.specs.Owns.{Owns};
 ghost use Rattle.star_values.specs.View.{value_of};
 ghost use Rattle.node_build.specs.Parts.{taking};
 ghost use Rattle.star_eval.specs.declared.frame.Control.TheVariants as control;
 ghost use Rattle.star_eval.specs.Frames.{Goes, GoesToFlow, GoesToValue, inside};
-ghost use Rattle.star_eval.specs.View.{OwnsFrame, OwnsInStatement, OwnsInValue, Sound, arena_in, frame_of, nodes_in, setting_of, statement_frame, value_frame, waiting_in};
+ghost use Rattle.star_eval.specs.View.{OwnsFrame, OwnsInStatement, OwnsInValue, Sound, arena_in, nodes_in, setting_of, statement_frame, value_frame, waiting_with};
 ghost use Rattle.star_eval.specs.Waiting.{statement_goes, value_goes};
 
 use crate::arguments::{argued, call_with, no_arguments, note_argued};
@@ -36,7 +36,7 @@ pub(crate) fn give<'p>(
     requires sound { Sound m.old }
     requires frame { OwnsFrame (arena_in m.old) frame }
     requires value { Owns (arena_in m.old) value }
-    ensures { IfOk result (λ c. Goes (arena_in m.old) m.new c (inside m.old (frame_of (arena_in m.old) m.old.code frame.entry ∷ waiting_in m.old) (control.Gave value))) }
+    ensures { IfOk result (λ c. Goes (arena_in m.old) m.new c (inside m.old (waiting_with m.old frame.entry) (control.Gave value))) }
 {
     match frame {
         Frame::Value(inner) => give_value(m, inner, value),

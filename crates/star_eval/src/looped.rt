@@ -5,10 +5,10 @@ ghost use Rattle.node_build.specs.View.{OwnsNodes, nodes_of};
 ghost use Rattle.star_blocks.specs.Nested.{ops_of};
 ghost use Rattle.star_spec.specs.Eval.{starlark};
 ghost use Rattle.star_values.specs.Objects.{env_in};
-ghost use Rattle.star_values.specs.Owns.{OwnsEnv};
+ghost use Rattle.star_values.specs.Owns.{Grows, Owns, OwnsArguments, OwnsEnv};
 ghost use Rattle.template_meaning.specs.Run.{runs};
-ghost use Rattle.star_eval.specs.Finishes.{Finishes, block_ending};
-ghost use Rattle.star_eval.specs.Frames.{Goes, asks_host, is_active, left_by, means};
+ghost use Rattle.star_eval.specs.Finishes.{Finishes, block_ending, call_ending, called};
+ghost use Rattle.star_eval.specs.Frames.{Goes, asks_host, given_by, is_active, left_by, means};
 ghost use Rattle.star_eval.specs.Hosted.{Comes, hosted_at};
 ghost use Rattle.star_eval.specs.Hosts.{OwnsHosted, OwnsQuestion};
 ghost use Rattle.star_eval.specs.declared.frame.Control.TheVariants as control;
@@ -16,9 +16,10 @@ ghost use Rattle.star_spec.specs.Hosts.{hosted};
 ghost use Rattle.star_eval.specs.Calling.{calls_at};
 ghost use Rattle.star_eval.specs.Meets.{arena_of, state_of};
 ghost use Rattle.star_eval.specs.View.{OwnsControl, Sound, arena_in};
-ghost use Rattle.star_eval.specs.Waiting.{end_env, flow_ends};
+ghost use Rattle.star_eval.specs.Waiting.{end_env, flow_ends, value_ends};
 
 use crate::assign::assign;
+use crate::calls::call;
 use crate::comprehensions::clauses;
 use crate::eval::eval;
 use crate::frame::{Asking, Code, Control, Flow, Machine, Question};
@@ -30,11 +31,12 @@ use crate::run::run;
 use crate::session::Session;
 use crate::went::{bagged, fail, went};
 use node_build::Builder;
-use object_arena::Boxes;
+use object_arena::{Boxes, CallArgs, Value};
 use sqlite_items::Items;
 use star_blocks::Op;
+use star_functions::Functions;
 use std::alloc::Global;
-use ytt_base::fault::{Fault, Stop};
+use ytt_base::fault::{Fault, Place, Stop};
 use ytt_base::text::Memory;
 
 /// A machine with nothing more to do.
@@ -230,7 +232,7 @@ pub(crate) fn run_block<'p, H: Host>(
 ) -> Result<Finished, Memory>
     requires scope { OwnsEnv (arena_of session) scope }
     requires nodes { OwnsNodes (arena_of session) nodes }
-    ensures ended { IfOk result (λ e. hosted H.answers (block_ending e) host.new ≡ hosted H.answers (runs starlark (calls_at code.entry.file code.entry.functions depth) (ops_of code.entry.file block.now) (env_in (arena_of session).held scope) (nodes_of (arena_of session) nodes) (state_of session)) host.old) }
+    ensures ended { IfOk result (λ e. hosted H.answers (block_ending e) host.new ≡ hosted H.answers (runs starlark (calls_at code.entry.functions depth) (ops_of code.entry.file block.now) (env_in (arena_of session).held scope) (nodes_of (arena_of session) nodes) (state_of session)) host.old) }
     ensures finishes { IfOk result (Finishes (arena_of session) (env_in (arena_of session).held scope)) }
 {
     let machine = Machine {
@@ -243,4 +245,84 @@ pub(crate) fn run_block<'p, H: Host>(
     };
     let Stopped { machine, control } = run_down(machine, Control::Run(block), host)?;
     Ok(flow_at_end(machine, control))
+}
+
+/// What a call gave or the fault that it ended with, and the session after it.
+#[derive(Drop)]
+pub(crate) struct Called {
+    pub session: Session,
+    pub result: Result<Value, Fault>,
+}
+
+/// What a call gave that goes on to this, with this fault where something else comes.
+fn what_given(control: Control<'_>, form: Fault) -> Result<Value, Fault>
+    ensures { result ≡ given_by form control.entry }
+{
+    match control {
+        Control::Gave(value) => Ok(value),
+        Control::Failed(fault) => Err(fault),
+        Control::Left(fault) => Err(fault),
+        Control::Eval(_expr) => Err(form),
+        Control::Run(_block) => Err(form),
+        Control::Went(_flow) => Err(form),
+        Control::Assign(_place, _target, _value) => Err(form),
+        Control::Clauses(_place, _clauses, _bag) => Err(form),
+        Control::Bagged(_bag) => Err(form),
+        Control::Lost(fault) => Err(fault),
+        Control::Ask(_asking, _question) => Err(form),
+    }
+}
+
+/// What a call gave, where there is nothing more to do.
+fn value_at_end<'p>(machine: Machine<'p>, control: Control<'p>) -> Called
+    requires over { is_active machine control ≡ false }
+    requires control { OwnsControl (arena_in machine) control }
+    ensures ended { call_ending result ≡ value_ends (means machine.entry control.entry) }
+    ensures owned { IfOk result.result (Owns (arena_of result.session)) }
+    ensures arena { arena_of result.session ≡ arena_in machine.entry }
+{
+    let form = form_fault(&machine.session.arena);
+    let result = what_given(control, form);
+    Called {
+        session: machine.session,
+        result,
+    }
+}
+
+/// Calls a value with these arguments at a place, where so many calls may stand in one another, these functions are known, and a host
+/// answers natives, with the session that the call leaves.
+pub(crate) fn run_call<'p, H: Host>(
+    alloc: Global,
+    functions: Functions<'p>,
+    depth: u32,
+    session: Session,
+    place: Place,
+    function: Value,
+    args: CallArgs,
+    host: &mut H,
+) -> Result<Called, Memory>
+    requires function { Owns (arena_of session) function }
+    requires args { OwnsArguments (arena_of session) args }
+    ensures ended { IfOk result (λ e. hosted H.answers (call_ending e) host.new ≡ hosted H.answers (called functions.entry depth place function args session) host.old) }
+    ensures owned { IfOk result (λ e. IfOk e.result (Owns (arena_of e.session))) }
+    ensures grows { IfOk result (λ e. Grows (arena_of session) (arena_of e.session)) }
+{
+    let code = Code {
+        file: place.file,
+        functions,
+    };
+    let scope = Items::new(alloc);
+    let nodes = Builder::new(alloc);
+    let frames = Items::new(alloc);
+    let mut machine = Machine {
+        code,
+        depth,
+        scope,
+        session,
+        nodes,
+        frames,
+    };
+    let control = call(&mut machine, place, function, args)?;
+    let Stopped { machine, control } = run_down(machine, control, host)?;
+    Ok(value_at_end(machine, control))
 }

@@ -1,11 +1,11 @@
 // What is put on others, and ways to end.
-ghost use Rattle.std.specs.Prelude.{◌≡◌, ◌∷◌, IfOk};
+ghost use Rattle.std.specs.Prelude.{◌≡◌, IfOk};
 ghost use Rattle.ytt_base.specs.declared.fault.FaultKind.TheVariants as kind;
 ghost use Rattle.ytt_base.specs.Outcomes.{fault_at, fault_of};
 ghost use Rattle.star_eval.specs.declared.frame.Control.TheVariants as control;
 ghost use Rattle.star_eval.specs.Frames.{Goes, inside};
 ghost use Rattle.star_eval.specs.Settled.{Settles, SettlesFlow, SettlesNone};
-ghost use Rattle.star_eval.specs.View.{OwnsControl, OwnsFrame, Sound, arena_in, frame_of, waiting_in};
+ghost use Rattle.star_eval.specs.View.{OwnsControl, OwnsFrame, Sound, arena_in, waiting_with};
 
 use crate::frame::{Control, Flow, Frame, Machine};
 use object_arena::{Arena, Value};
@@ -21,7 +21,7 @@ pub(crate) fn push<'p>(
     requires sound { Sound m.old }
     requires frame { OwnsFrame (arena_in m.old) frame }
     requires control { OwnsControl (arena_in m.old) control }
-    ensures { IfOk result (λ c. Goes (arena_in m.old) m.new c (inside m.old (frame_of (arena_in m.old) m.old.code frame.entry ∷ waiting_in m.old) control.entry)) }
+    ensures { IfOk result (λ c. Goes (arena_in m.old) m.new c (inside m.old (waiting_with m.old frame.entry) control.entry)) }
 {
     m.frames.push(frame)?;
     Ok(control)

@@ -8,7 +8,7 @@ ghost use Rattle.star_eval.specs.declared.frame.Control.TheVariants as control;
 ghost use Rattle.star_eval.specs.Frames.{Goes, around_bag, around_flow, flow_of, inside};
 ghost use Rattle.star_eval.specs.Meets.{Ends, arena_of, state_of};
 ghost use Rattle.star_eval.specs.Sources.{Walked};
-ghost use Rattle.star_eval.specs.View.{OwnsBag, OwnsCaller, OwnsFlow, OwnsFrame, OwnsInBlock, OwnsInClauses, Sound, arena_in, bag_of, block_frame, caller_of, clauses_frame, frame_of, nodes_in, setting_of, waiting_in};
+ghost use Rattle.star_eval.specs.View.{OwnsBag, OwnsCaller, OwnsFlow, OwnsFrame, OwnsInBlock, OwnsInClauses, Sound, arena_in, bag_of, block_frame, clauses_frame, nodes_in, setting_of, waiting_in, waiting_with};
 ghost use Rattle.star_eval.specs.Waiting.{block_ends, clauses_end, gather};
 ghost use Rattle.star_values.specs.Objects.{env_in};
 ghost use Rattle.star_values.specs.Owns.{OwnsEnv};
@@ -33,7 +33,7 @@ pub(crate) fn went<'p>(
     requires sound { Sound m.old }
     requires frame { OwnsFrame (arena_in m.old) frame }
     requires flow { OwnsFlow (arena_in m.old) flow }
-    ensures { IfOk result (λ c. Goes (arena_in m.old) m.new c (inside m.old (frame_of (arena_in m.old) m.old.code frame.entry ∷ waiting_in m.old) (control.Went flow))) }
+    ensures { IfOk result (λ c. Goes (arena_in m.old) m.new c (inside m.old (waiting_with m.old frame.entry) (control.Went flow))) }
 {
     match frame {
         Frame::Block(inner) => go_on(m, inner, flow),
@@ -83,7 +83,7 @@ pub(crate) fn bagged<'p>(
     requires sound { Sound m.old }
     requires frame { OwnsFrame (arena_in m.old) frame }
     requires bag { OwnsBag (arena_in m.old) bag }
-    ensures { IfOk result (λ c. Goes (arena_in m.old) m.new c (inside m.old (frame_of (arena_in m.old) m.old.code frame.entry ∷ waiting_in m.old) (control.Bagged bag.entry))) }
+    ensures { IfOk result (λ c. Goes (arena_in m.old) m.new c (inside m.old (waiting_with m.old frame.entry) (control.Bagged bag.entry))) }
 {
     match frame {
         Frame::Clauses(inner) => next_clause_turn(m, inner.into_inner(), bag),
@@ -142,7 +142,7 @@ fn end(session: &mut Session, object: Ref)
 pub(crate) fn fail<'p>(m: &mut Machine<'p>, frame: Frame<'p>, fault: Fault) -> Control<'p>
     requires sound { Sound m.old }
     requires frame { OwnsFrame (arena_in m.old) frame }
-    ensures { Goes (arena_in m.old) m.new result (inside m.old (frame_of (arena_in m.old) m.old.code frame.entry ∷ waiting_in m.old) (control.Failed fault)) }
+    ensures { Goes (arena_in m.old) m.new result (inside m.old (waiting_with m.old frame.entry) (control.Failed fault)) }
 {
     match frame {
         Frame::Value(_inner) => Control::Failed(fault),
@@ -166,7 +166,7 @@ pub(crate) fn fail<'p>(m: &mut Machine<'p>, frame: Frame<'p>, fault: Fault) -> C
 pub(crate) fn misplaced<'p>(m: &mut Machine<'p>, frame: Frame<'p>) -> Control<'p>
     requires sound { Sound m.old }
     requires frame { OwnsFrame (arena_in m.old) frame }
-    ensures { Goes (arena_in m.old) m.new result (inside m.old (frame_of (arena_in m.old) m.old.code frame.entry ∷ waiting_in m.old) (control.Failed (fault_of kind.CodeForm))) }
+    ensures { Goes (arena_in m.old) m.new result (inside m.old (waiting_with m.old frame.entry) (control.Failed (fault_of kind.CodeForm))) }
 {
     let fault = form_fault(&m.session.arena);
     fail(m, frame, fault)

@@ -9,6 +9,7 @@ use Rattle.star_spec.specs.Calls.{Code}
 use Rattle.star_spec.specs.Lambdas.{only_if}
 use Rattle.star_functions.proofs.Looking.{or_assoc}
 use Rattle.star_functions.specs.Numbered.{first_with}
+use Rattle.star_functions.specs.Table.{code_in}
 use Rattle.star_functions.specs.View.{all_of, code_of}
 use Rattle.star_functions.specs.declared.function.Function.{Function}
 use Rattle.star_functions.specs.declared.function.FunctionCode.{FunctionCode}
@@ -26,9 +27,6 @@ indexed_all file k xs j o all le h =
 
 -- ---- one more function
 
-abbrev pub code_in : (file : ℕ) → Option Function → Option (Code Ops)
-code_in file o = option_map (code_of file) (option_map (λ f. f.code) o)
-
 none_there : (o : Option Function) → is_some o ≡ false → o ≡ None
 none_there None h = refl
 none_there (Some f) h = ap (λ b. cond b (Some f) None) h
@@ -37,7 +35,7 @@ some_there : (file : ℕ) (o : Option Function) (more : Option (Code Ops)) → i
 some_there file (Some f) more h = refl
 some_there file None more h = ap (λ b. cond b more None) h
 
-same_number : (a b : ℕ) → nat_eq a b ≡ true → b ≡ a
+pub same_number : (a b : ℕ) → nat_eq a b ≡ true → b ≡ a
 same_number a b h = grind (arith, nat_tests, h)
 
 turned_round : (a b : ℕ) (c : Bool) → nat_eq a b ≡ c → nat_eq b a ≡ c

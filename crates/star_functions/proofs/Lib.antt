@@ -1,3 +1,4 @@
+pub mod Files
 pub mod Finding
 pub mod Indexing
 pub mod Looking

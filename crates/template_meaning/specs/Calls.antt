@@ -126,9 +126,13 @@ template_table files f k = function_among k (files f)
 abbrev pub program_table : (ℕ → List Instruction) → Table Ops
 program_table files f k = program_function k (blocks (files f))
 
--- calls, where so many may stand in one another, with the templates or the programs of all files
+-- calls, where so many may stand in one another, with the templates of all files, with this table of functions, or with the programs of
+-- all files
 abbrev pub template_calls : {H : Type 0} → Language H → Host H → (ℕ → Items) → (depth : ℕ) → Call H
 template_calls language host files d = apply language host items_names (enter_items language) (template_table files) d
 
+abbrev pub table_calls : {H : Type 0} → Language H → Host H → Table Ops → (depth : ℕ) → Call H
+table_calls language host table d = apply language host ops_names (enter_ops language) table d
+
 abbrev pub program_calls : {H : Type 0} → Language H → Host H → (ℕ → List Instruction) → (depth : ℕ) → Call H
-program_calls language host files d = apply language host ops_names (enter_ops language) (program_table files) d
+program_calls language host files d = table_calls language host (program_table files) d

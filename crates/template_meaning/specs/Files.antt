@@ -122,6 +122,14 @@ pub record FileResult : Type 0 where
 abbrev pub ended : {H : Type 0} → (before : ℕ) → Env → Children → Computation H FileResult
 ended n env cs = λ s. done (record { documents = cs; globals = globals_in s.store env }) (on_store (freeze_since n) s)
 
+-- The meaning of a file whose load statements gave these names, with these names of its own, where `meaning` is that of its items.
+abbrev pub LoadedFile : {H : Type 0} → Globals → List Name → (meaning : Env → Computation H Children) → Computation H FileResult
+LoadedFile loaded names meaning = λ s. (do
+  env ← with_boxes names []
+  u ← bind_loaded loaded env
+  cs ← meaning env
+  ended (length s.store) env cs) s
+
 -- The meaning of a file with these load statements and these names of its own, where `meaning` is that of its items.
 abbrev pub File : {H : Type 0} → Loader H → List Load → List Name → (meaning : Env → Computation H Children) → Computation H FileResult
 File loader loads names meaning = λ s. (do

@@ -7,7 +7,7 @@ use Rattle.value_spec.specs.Values.{child, Children, no_children, a_child, Env}
 use Rattle.value_spec.specs.Outcomes.{State, Computation, give, ill_formed, ◌>>=◌}
 use Rattle.star_spec.specs.Language.{Call, Language}
 use Rattle.code_spec.specs.Blocks.{Ops, blocks}
-use Rattle.star_spec.specs.Calls.{Host}
+use Rattle.star_spec.specs.Calls.{Host, Table}
 use Rattle.template_spec.specs.Template.{Items}
 use Rattle.template_spec.specs.Compiled.{compiled}
 use Rattle.value_spec.specs.Built.{body_tree}
@@ -15,8 +15,8 @@ use Rattle.template_meaning.specs.Build.{builds, built}
 use Rattle.template_meaning.specs.Run.{runs}
 use Rattle.code_spec.specs.Scopes.{ops_names}
 use Rattle.template_spec.specs.Names.{items_names}
-use Rattle.template_meaning.specs.Calls.{bottom, bottom_flow, template_calls, program_calls}
-use Rattle.template_meaning.specs.Files.{Load, items_loads, ops_loads, Loader, FileResult, File, Shelf, loader_of}
+use Rattle.template_meaning.specs.Calls.{bottom, bottom_flow, template_calls, program_calls, table_calls}
+use Rattle.template_meaning.specs.Files.{Load, Globals, items_loads, ops_loads, Loader, FileResult, File, LoadedFile, Shelf, loader_of}
 use Rattle.template_spec.specs.ControlWords.{free, WordsStand}
 
 -- ---- in a scope
@@ -48,6 +48,10 @@ loads_in (Some os) = ops_loads os
 
 abbrev pub RunFile : {H : Type 0} → Language H → Host H → Loader H → (ℕ → List Instruction) → (depth : ℕ) → List Instruction → Computation H FileResult
 RunFile language host loader files d is = File loader (loads_in (blocks is)) (names_in (blocks is)) (Run language (program_calls language host files d) is)
+
+-- of a file whose load statements gave these names, where the functions of all files are in this table
+abbrev pub RunLoaded : {H : Type 0} → Language H → Host H → Table Ops → (depth : ℕ) → Globals → Option Ops → Computation H FileResult
+RunLoaded language host table d loaded blocks = LoadedFile loaded (names_in blocks) (run_blocks language (table_calls language host table d) blocks)
 
 -- ---- of files that load one another, where so many loads may stand in one another
 

@@ -11,10 +11,11 @@ use Rattle.template_spec.specs.ControlWords.{WordsStand, free}
 use Rattle.template_spec.specs.Numbered.{numbered}
 use Rattle.template_spec.specs.Template.{Items}
 
--- the template compiled, whose functions have their numbers, in which no word leaves a node and no statement loads a file, with the
--- names of its file
+-- the template compiled as file 1, whose functions have their numbers, in which no word leaves a node and no statement loads a file,
+-- with the names of its file
 pub record IsProgramOf (t : Items) (r : Resolved) : Type 0 where
   pub code : program_of r.program ≡ compiled (numbered t)
   pub stands : WordsStand free (numbered t)
   pub loads : loads_in (blocks (program_of r.program)) ≡ []
+  pub file : r.program.file ≡ 1
   pub globals : r.globals ≡ each_once (program_names (program_of r.program))

@@ -106,7 +106,8 @@ fn run_within(alloc: Global, program: &Resolved, budget: Budget) -> Result<Trees
     ensures { (t : TemplateItems) → IsProgramOf t program.now → Gives trees_of result (built (budget_of budget) t) }
 {
     let mut session = Session::new(alloc, budget.steps, budget.depth);
-    let file = run_file(alloc, program, &mut session, &mut NoNatives)?;
+    let loaded = Items::new(alloc);
+    let file = run_file(alloc, program, &loaded, &mut session, &mut NoNatives)?;
     let trees = node_build::documents_of(alloc, file.documents.as_slice())?;
     Ok(trees)
 }

@@ -1,6 +1,6 @@
 -- The documents that a text means have a text that reads back: they are what the program holds, none is null, and none
 -- nests too deep.
-use Rattle.std.proofs.Common.{◌≡◌, ℕ, Bool, nat_lt, not, List, length, Ok, Err, subst}
+use Rattle.std.proofs.Common.{◌≡◌, ◌==◌, ℕ, Bool, true, false, if◌then◌else◌, nat_lt, not, List, length, Ok, Err, subst}
 use Rattle.ytt_base.specs.Outcomes as outcome
 use Rattle.ytt_base.specs.Outcomes.{Outcome}
 use Rattle.ytt_base.specs.Trees.{Trees, AreTrees, Writable}
@@ -20,11 +20,11 @@ use Rattle.template_meaning.specs.Files.{FileResult, nothing_to_load}
 use Rattle.template_meaning.specs.Meaning.{BuildFile}
 use Rattle.template_spec.specs.Numbered.{numbered}
 use Rattle.template_spec.specs.Passes.{template_passed}
-use Rattle.template_spec.specs.Template.{Items}
+use Rattle.template_spec.specs.Template.{Items, no_items}
 use Rattle.template_meaning.proofs.BuildKeeps.{HeldItems, HeldResult, nothing_keeps, built_keeps, documents_written}
 use Rattle.template_meaning.proofs.NumbersHeld.{numbered_held}
 use Rattle.ytt_outside.specs.Standing.{Standing, nothing, file, folder}
-use Rattle.ytt_spec.specs.Meaning.{built, documents_meaning, file_names, gives_documents, largest_file, last_part, meaning, named_in, outcome_of, path_meaning, started, text_meaning}
+use Rattle.ytt_spec.specs.Meaning.{alone, built, documents_meaning, file_names, gives_documents, largest_file, last_part, meaning, named_in, outcome_of, path_meaning, started, text_meaning}
 use Rattle.ytt_spec.specs.Words.{Budget, Command, render}
 use Rattle.ytt_spec.proofs.HeldCode.{ReadsHeld}
 use Rattle.ytt_spec.proofs.HeldWhole.{whole_held}
@@ -43,12 +43,20 @@ file_written (done result s) h k = documents_written result.documents k.0.0
 file_written (bad f s) h k = tt
 file_written (asks q s n) h k = file_written (n (Err _) s) h (k.1 (Err _) s tt k.0)
 
+-- a template alone
+alone_held : (t : Items) → HeldItems 0 t → (f : ℕ) → HeldItems 0 (alone t f)
+alone_held t h f = either (1 == f)
+  where
+    either : (b : Bool) → HeldItems 0 (if b then t else no_items)
+    either true = h
+    either false = tt
+
 -- those of a template with such literals
 template_written : (budget : Budget) (t : Items) → HeldItems 0 t → IfOk (built budget t) AreWritten
 template_written budget t h =
     let held = numbered_held t h in
-    let keeps = built_keeps starlark starlark_keeps asking asking_keeps nothing_to_load nothing_keeps (λ file. numbered t) (λ file. held) budget.depth (numbered t) held in
-    file_written (BuildFile starlark asking nothing_to_load (λ file. numbered t) budget.depth (numbered t) (started budget.steps)) tt (keeps.by (started budget.steps) tt)
+    let keeps = built_keeps starlark starlark_keeps asking asking_keeps nothing_to_load nothing_keeps (alone (numbered t)) (alone_held (numbered t) held) budget.depth (numbered t) held in
+    file_written (BuildFile starlark asking nothing_to_load (alone (numbered t)) budget.depth (numbered t) (started budget.steps)) tt (keeps.by (started budget.steps) tt)
 
 plain_written : (bytes : List ℕ) (ds : Documents) (ts : Trees) → Read 1 bytes ≡ Ok ds → plain_trees ds ≡ Ok ts → AreWritten ts
 unfolding read_trees

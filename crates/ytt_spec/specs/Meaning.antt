@@ -19,7 +19,7 @@ use Rattle.template_meaning.specs.Files.{FileResult, nothing_to_load}
 use Rattle.template_meaning.specs.Meaning.{BuildFile, documents}
 use Rattle.template_spec.specs.Numbered.{numbered}
 use Rattle.template_spec.specs.Passes.{template_passed}
-use Rattle.template_spec.specs.Template.{Items}
+use Rattle.template_spec.specs.Template.{Items, no_items}
 use Rattle.ytt_spec.specs.Words.{Budget, Command, render}
 
 abbrev pub is_slash : ℕ → Bool
@@ -61,11 +61,15 @@ outcome_of (Err fault) = Err fault
 abbrev pub started : (steps : ℕ) → State (Unit {0})
 started steps = record { store = []; steps = steps; host = tt }
 
+-- a template alone, which is file 1
+abbrev pub alone : Items → (file : ℕ) → Items
+alone template f = if 1 == f then template else no_items
+
 -- The documents that a template builds within a budget, or its first fault, where the host knows no native and no file is loaded
 -- beside the template; each function has its number.
 abbrev pub built : Budget → Items → Outcome Trees
 built budget template =
-    outcome_of (hosted knows_none (BuildFile starlark asking nothing_to_load (λ file. numbered template) budget.depth (numbered template) (started budget.steps)) (tt {0})).0
+    outcome_of (hosted knows_none (BuildFile starlark asking nothing_to_load (alone (numbered template)) budget.depth (numbered template) (started budget.steps)) (tt {0})).0
 
 -- Documents without code are what they are, which takes no steps; with code they are a template, which is built.
 abbrev pub documents_meaning : CodeReader → (ignore_unknown : Bool) → Budget → Documents → Outcome Trees

@@ -17,12 +17,12 @@ use Rattle.star_eval.proofs.Growing.{kept}
 use Rattle.star_eval.proofs.assign.augment_at.Goals as goal
 
 pub within-requires-clause-sound : goal.within-requires-clause-sound
-within-requires-clause-sound c = (kept c.args.m.now (record { arena = c.index.new.arena; work = c.index.new.work }) c.index.ensures.row.grows c.requires.sound).sound
+within-requires-clause-sound c = (kept c.args.m.now (record c.args.m.now.session { arena = c.index.new.arena; work = c.index.new.work }) c.index.ensures.row.grows c.requires.sound).sound
 
 pub within-requires-clause-frame : goal.within-requires-clause-frame
 within-requires-clause-frame c =
     let a = arena_in c.args.m.now in
-    let b = arena_of (record { arena = c.index.new.arena; work = c.index.new.work }) in
+    let b = arena_of (record c.args.m.now.session { arena = c.index.new.arena; work = c.index.new.work }) in
     let g = c.index.ensures.row.grows in
     (owns_kept a b c.args.indexed g c.requires.indexed, owns_kept a b c.args.index g c.requires.index, c.in-Ok.ensures.row.owns)
 
@@ -30,7 +30,7 @@ pub returns-in-Ok : goal.returns-in-Ok
 returns-in-Ok c =
     let m = c.args.m.now in
     let a = arena_in m in
-    let s : Session = record { arena = c.index.new.arena; work = c.index.new.work } in
+    let s : Session = record m.session { arena = c.index.new.arena; work = c.index.new.work } in
     let b = arena_of s in
     let g = c.index.ensures.row.grows in
     let k = kept m s g c.requires.sound in
@@ -47,7 +47,7 @@ pub returns-in-Err-Fault : goal.returns-in-Err-Fault
 returns-in-Err-Fault c =
     let m = c.args.m.now in
     let a = arena_in m in
-    let s : Session = record { arena = c.index.new.arena; work = c.index.new.work } in
+    let s : Session = record m.session { arena = c.index.new.arena; work = c.index.new.work } in
     let k = kept m s c.index.ensures.row.grows c.requires.sound in
     let o = binary_operator_of c.args.op in
     let e = expr_of m.code.file c.args.expr.now in

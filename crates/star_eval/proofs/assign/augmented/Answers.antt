@@ -17,12 +17,12 @@ use Rattle.star_eval.proofs.Growing.{kept}
 use Rattle.star_eval.proofs.assign.augmented.Goals as goal
 
 pub name_gets-requires-clause-sound : goal.name_gets-requires-clause-sound
-name_gets-requires-clause-sound c = (kept c.args.m.now (record { arena = c.augment.new.arena; work = c.augment.new.work }) c.augment.ensures.row.grows c.requires.sound).sound
+name_gets-requires-clause-sound c = (kept c.args.m.now (record c.args.m.now.session { arena = c.augment.new.arena; work = c.augment.new.work }) c.augment.ensures.row.grows c.requires.sound).sound
 
 pub returns-in-Ok : goal.returns-in-Ok
 returns-in-Ok c =
     let m = c.args.m.now in
-    let s : Session = record { arena = c.augment.new.arena; work = c.augment.new.work } in
+    let s : Session = record m.session { arena = c.augment.new.arena; work = c.augment.new.work } in
     let k = kept m s c.augment.ensures.row.grows c.requires.sound in
     let x = c.args.name.now in
     let v = value_of (arena_of s) c.in-Ok.changed in
@@ -34,7 +34,7 @@ returns-in-Ok c =
 pub returns-in-Err-Fault : goal.returns-in-Err-Fault
 returns-in-Err-Fault c =
     let m = c.args.m.now in
-    let s : Session = record { arena = c.augment.new.arena; work = c.augment.new.work } in
+    let s : Session = record m.session { arena = c.augment.new.arena; work = c.augment.new.work } in
     let k = kept m s c.augment.ensures.row.grows c.requires.sound in
     let x = c.args.name.now in
     let row = assignment_row {H = Here} c.args.place (binary_operator_of c.args.op) (value_of (arena_in m) c.args.old) (value_of (arena_in m) c.args.value) in

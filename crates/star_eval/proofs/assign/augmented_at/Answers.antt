@@ -18,19 +18,19 @@ use Rattle.star_eval.proofs.Growing.{kept}
 use Rattle.star_eval.proofs.assign.augmented_at.Goals as goal
 
 pub index_gets-requires-clause-sound : goal.index_gets-requires-clause-sound
-index_gets-requires-clause-sound c = (kept c.args.m.now (record { arena = c.augment.new.arena; work = c.augment.new.work }) c.augment.ensures.row.grows c.requires.sound).sound
+index_gets-requires-clause-sound c = (kept c.args.m.now (record c.args.m.now.session { arena = c.augment.new.arena; work = c.augment.new.work }) c.augment.ensures.row.grows c.requires.sound).sound
 
 pub index_gets-requires-clause-indexed : goal.index_gets-requires-clause-indexed
-index_gets-requires-clause-indexed c = owns_kept (arena_in c.args.m.now) (arena_of (record { arena = c.augment.new.arena; work = c.augment.new.work })) c.args.indexed.0 c.augment.ensures.row.grows c.requires.indexed
+index_gets-requires-clause-indexed c = owns_kept (arena_in c.args.m.now) (arena_of (record c.args.m.now.session { arena = c.augment.new.arena; work = c.augment.new.work })) c.args.indexed.0 c.augment.ensures.row.grows c.requires.indexed
 
 pub index_gets-requires-clause-index : goal.index_gets-requires-clause-index
-index_gets-requires-clause-index c = owns_kept (arena_in c.args.m.now) (arena_of (record { arena = c.augment.new.arena; work = c.augment.new.work })) c.args.indexed.1 c.augment.ensures.row.grows c.requires.index
+index_gets-requires-clause-index c = owns_kept (arena_in c.args.m.now) (arena_of (record c.args.m.now.session { arena = c.augment.new.arena; work = c.augment.new.work })) c.args.indexed.1 c.augment.ensures.row.grows c.requires.index
 
 pub returns-in-Ok : goal.returns-in-Ok
 returns-in-Ok c =
     let m = c.args.m.now in
     let a = arena_in m in
-    let s : Session = record { arena = c.augment.new.arena; work = c.augment.new.work } in
+    let s : Session = record m.session { arena = c.augment.new.arena; work = c.augment.new.work } in
     let b = arena_of s in
     let g = c.augment.ensures.row.grows in
     let k = kept m s g c.requires.sound in
@@ -46,7 +46,7 @@ pub returns-in-Err-Fault : goal.returns-in-Err-Fault
 returns-in-Err-Fault c =
     let m = c.args.m.now in
     let a = arena_in m in
-    let s : Session = record { arena = c.augment.new.arena; work = c.augment.new.work } in
+    let s : Session = record m.session { arena = c.augment.new.arena; work = c.augment.new.work } in
     let k = kept m s c.augment.ensures.row.grows c.requires.sound in
     let row = assignment_row {H = Here} c.args.place (binary_operator_of c.args.op) (value_of a c.args.old) (value_of a c.args.value) in
     let refused : row (state_of m.session) ≡ bad c.in-Err-Fault.fault (state_of s) = subst (λ (e : Stop). Meets (value_of (arena_of s)) (Err e) (state_of s) (row (state_of m.session))) c.in-Err-Fault.field-0-is c.in-Err-Fault.ensures.row.meaning in

@@ -26,7 +26,7 @@ returns-in-Ok-Value c =
     let x = native_in (get_or a.held c.args.native.at none_value) in
     let v = value_of a (value.Native c.args.native) in
     let vs = arguments_in a.held c.args.args in
-    let s : Session = record { arena = c.own_call.new.arena; work = c.own_call.new.work } in
+    let s : Session = record m.session { arena = c.own_call.new.arena; work = c.own_call.new.work } in
     let f = (setting_of m).function in
     let calls = calls_from f c.args.left in
     value_given m s c.requires.sound (calls p v vs) (asked_row p v vs) (with_keys starlark calls p) (by_own f c.args.left p vs (state_of m.session) x c.requires.own) (λ w. refl)
@@ -40,7 +40,7 @@ returns-in-Err-Fault c =
     let x = native_in (get_or a.held c.args.native.at none_value) in
     let v = value_of a (value.Native c.args.native) in
     let vs = arguments_in a.held c.args.args in
-    let s : Session = record { arena = c.own_call.new.arena; work = c.own_call.new.work } in
+    let s : Session = record m.session { arena = c.own_call.new.arena; work = c.own_call.new.work } in
     let f = (setting_of m).function in
     let calls = calls_from f c.args.left in
     subst (λ d. Goes a (record m { session = s }) (control.Failed d) (around_value m (waiting_in m) (calls p v vs (state_of m.session)))) (sym c.in-Err-Fault.fault-is)
@@ -55,7 +55,7 @@ next_key-requires-clause-sound c =
     let x = native_in (get_or a.held c.args.native.at none_value) in
     let v = value_of a (value.Native c.args.native) in
     let vs = arguments_in a.held c.args.args in
-    let s : Session = record { arena = c.own_call.new.arena; work = c.own_call.new.work } in
+    let s : Session = record m.session { arena = c.own_call.new.arena; work = c.own_call.new.work } in
     let f = (setting_of m).function in
     let calls = calls_from f c.args.left in
     let it = keys_asked m s c.requires.sound (calls p v vs) (asked_row p v vs) (with_keys starlark calls p) (by_own f c.args.left p vs (state_of m.session) x c.requires.own) (λ w. refl)
@@ -70,7 +70,7 @@ next_key-requires-clause-function c =
     let x = native_in (get_or a.held c.args.native.at none_value) in
     let v = value_of a (value.Native c.args.native) in
     let vs = arguments_in a.held c.args.args in
-    let s : Session = record { arena = c.own_call.new.arena; work = c.own_call.new.work } in
+    let s : Session = record m.session { arena = c.own_call.new.arena; work = c.own_call.new.work } in
     let f = (setting_of m).function in
     let calls = calls_from f c.args.left in
     let it = keys_asked m s c.requires.sound (calls p v vs) (asked_row p v vs) (with_keys starlark calls p) (by_own f c.args.left p vs (state_of m.session) x c.requires.own) (λ w. refl)
@@ -85,7 +85,7 @@ next_key-requires-clause-members c =
     let x = native_in (get_or a.held c.args.native.at none_value) in
     let v = value_of a (value.Native c.args.native) in
     let vs = arguments_in a.held c.args.args in
-    let s : Session = record { arena = c.own_call.new.arena; work = c.own_call.new.work } in
+    let s : Session = record m.session { arena = c.own_call.new.arena; work = c.own_call.new.work } in
     let f = (setting_of m).function in
     let calls = calls_from f c.args.left in
     let it = keys_asked m s c.requires.sound (calls p v vs) (asked_row p v vs) (with_keys starlark calls p) (by_own f c.args.left p vs (state_of m.session) x c.requires.own) (λ w. refl)
@@ -100,7 +100,7 @@ returns-in-Ok-Keys c =
     let x = native_in (get_or a.held c.args.native.at none_value) in
     let v = value_of a (value.Native c.args.native) in
     let vs = arguments_in a.held c.args.args in
-    let s : Session = record { arena = c.own_call.new.arena; work = c.own_call.new.work } in
+    let s : Session = record m.session { arena = c.own_call.new.arena; work = c.own_call.new.work } in
     let f = (setting_of m).function in
     let calls = calls_from f c.args.left in
     let it = keys_asked m s c.requires.sound (calls p v vs) (asked_row p v vs) (with_keys starlark calls p) (by_own f c.args.left p vs (state_of m.session) x c.requires.own) (λ w. refl)

@@ -24,12 +24,12 @@ returns-in_ok-open_call-in-Lambda c =
     let sound = c.requires.sound in
     let scope = c.requires.scope in
     record {
-      same = opened_value m n None c.args.scope o sound scope _
-          ∙ (λ i. around_value m (waiting_in m) (evaluated (opened_setting m n None c.args.scope o sound scope i) (expr_of (opened_file m n None c.args.scope o sound scope i) c.in-Lambda.body.now) (opened_state m n None c.args.scope o sound scope i)))
-          ∙ sym (ap (λ f. around_value m (waiting_in m) (enter_code starlark (enter_ops starlark) (calls_at m.code.file m.code.functions (m.depth - 1)) (code_of m.code.file f) (env_in (arena_in m).held c.args.scope) (state_of m.session))) c.in-Lambda.is);
-      sound = opened_sound m n None c.args.scope o sound scope;
+      same = opened_value m n c.args.file None c.args.scope o sound scope _
+          ∙ (λ i. around_value m (waiting_in m) (evaluated (opened_setting m n c.args.file None c.args.scope o sound scope i) (expr_of (opened_file m n c.args.file None c.args.scope o sound scope i) c.in-Lambda.body.now) (opened_state m n c.args.file None c.args.scope o sound scope i)))
+          ∙ sym (ap (λ f. around_value m (waiting_in m) (enter_code starlark (enter_ops starlark) (calls_at m.code.functions (m.depth - 1)) (code_of c.args.file f) (env_in (arena_in m).held c.args.scope) (state_of m.session))) c.in-Lambda.is);
+      sound = opened_sound m n c.args.file None c.args.scope o sound scope;
       owned = tt;
-      grows = opened_grows m n None c.args.scope o sound scope;
+      grows = opened_grows m n c.args.file None c.args.scope o sound scope;
     }
 
 pub returns-in_ok-open_call-in-Def : goal.returns-in_ok-open_call-in-Def
@@ -41,10 +41,10 @@ returns-in_ok-open_call-in-Def c =
     let scope = c.requires.scope in
     let fragment = c.in-Def.fragment in
     record {
-      same = opened_flow m n fragment c.args.scope o sound scope _
-          ∙ (λ i. around_value m (waiting_in m) (call_gives (option_map item_kind_of fragment) (through (opened_setting m n fragment c.args.scope o sound scope i) (ops_of (opened_file m n fragment c.args.scope o sound scope i) c.in-Def.body.now) (opened_nodes m n fragment c.args.scope o sound scope i) (opened_state m n fragment c.args.scope o sound scope i))))
-          ∙ sym (ap (λ f. around_value m (waiting_in m) (enter_code starlark (enter_ops starlark) (calls_at m.code.file m.code.functions (m.depth - 1)) (code_of m.code.file f) (env_in (arena_in m).held c.args.scope) (state_of m.session))) c.in-Def.is);
-      sound = opened_sound m n fragment c.args.scope o sound scope;
+      same = opened_flow m n c.args.file fragment c.args.scope o sound scope _
+          ∙ (λ i. around_value m (waiting_in m) (call_gives (option_map item_kind_of fragment) (through (opened_setting m n c.args.file fragment c.args.scope o sound scope i) (ops_of (opened_file m n c.args.file fragment c.args.scope o sound scope i) c.in-Def.body.now) (opened_nodes m n c.args.file fragment c.args.scope o sound scope i) (opened_state m n c.args.file fragment c.args.scope o sound scope i))))
+          ∙ sym (ap (λ f. around_value m (waiting_in m) (enter_code starlark (enter_ops starlark) (calls_at m.code.functions (m.depth - 1)) (code_of c.args.file f) (env_in (arena_in m).held c.args.scope) (state_of m.session))) c.in-Def.is);
+      sound = opened_sound m n c.args.file fragment c.args.scope o sound scope;
       owned = tt;
-      grows = opened_grows m n fragment c.args.scope o sound scope;
+      grows = opened_grows m n c.args.file fragment c.args.scope o sound scope;
     }

@@ -19,7 +19,7 @@ returns-in-None c =
     let m = c.args.m.now in
     let a = arena_in m in
     let none : slice_get (values_of a c.args.members) (length (values_of a c.args.keys)) ≡ None = at_next a c.args.members c.args.keys c.len.result c.len.ensures ∙ ap (option_map (value_in a.held)) (sym c.in-None.ensures.value) in
-    gives_on m (record { arena = c.choose.new.arena; work = record m.session.work { steps = c.choose.new.steps } }) c.requires.sound (keys_in m c.args.left c.args.place c.args.wanted c.args.function c.args.members c.args.keys) c.choose.result c.settle.result
+    gives_on m (record m.session { arena = c.choose.new.arena; work = record m.session.work { steps = c.choose.new.steps } }) c.requires.sound (keys_in m c.args.left c.args.place c.args.wanted c.args.function c.args.members c.args.keys) c.choose.result c.settle.result
     (gives_same _ _ _ _ _ _ (none_wanting (setting_of m) c.args.left c.args.place (wanted_of c.args.wanted) (value_of a c.args.function) (values_of a c.args.members) (values_of a c.args.keys) (state_of m.session) none
     ∙ (λ i. wanted_row c.args.place (wanted_of c.args.wanted) (values_of a (sym c.as_slice.ensures i)) (values_of a (sym c.as_slice-in-None.ensures i)) (state_of m.session))) c.choose.ensures) c.settle.ensures
 

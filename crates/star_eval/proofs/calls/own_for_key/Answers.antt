@@ -23,7 +23,7 @@ unreachable-requires c =
     let x = native_in (get_or a.held c.args.native.at none_value) in
     let v = value_of a (value.Native c.args.native) in
     let vs = one_value (value_of a c.args.member) in
-    let s : Session = record { arena = c.own_call.new.arena; work = c.own_call.new.work } in
+    let s : Session = record m.session { arena = c.own_call.new.arena; work = c.own_call.new.work } in
     let f = (setting_of m).function in
     let calls = calls_from f c.args.left in
     let row = subst (λ args. GivesAsked (asked_row p v (arguments_in a.held args)) c.own_call.result a (arena_of s) m.session.work.steps s.work.steps) c.requires.args c.own_call.ensures.row in
@@ -39,7 +39,7 @@ returns-in-Ok-Value c =
     let x = native_in (get_or a.held c.args.native.at none_value) in
     let v = value_of a (value.Native c.args.native) in
     let vs = one_value (value_of a c.args.member) in
-    let s : Session = record { arena = c.own_call.new.arena; work = c.own_call.new.work } in
+    let s : Session = record m.session { arena = c.own_call.new.arena; work = c.own_call.new.work } in
     let f = (setting_of m).function in
     let calls = calls_from f c.args.left in
     let row = subst (λ args. GivesAsked (asked_row p v (arguments_in a.held args)) c.own_call.result a (arena_of s) m.session.work.steps s.work.steps) c.requires.args c.own_call.ensures.row in
@@ -54,7 +54,7 @@ returns-in-Err-Fault c =
     let x = native_in (get_or a.held c.args.native.at none_value) in
     let v = value_of a (value.Native c.args.native) in
     let vs = one_value (value_of a c.args.member) in
-    let s : Session = record { arena = c.own_call.new.arena; work = c.own_call.new.work } in
+    let s : Session = record m.session { arena = c.own_call.new.arena; work = c.own_call.new.work } in
     let f = (setting_of m).function in
     let calls = calls_from f c.args.left in
     let row = subst (λ args. GivesAsked (asked_row p v (arguments_in a.held args)) c.own_call.result a (arena_of s) m.session.work.steps s.work.steps) c.requires.args c.own_call.ensures.row in

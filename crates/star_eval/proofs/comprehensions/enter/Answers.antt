@@ -1,4 +1,4 @@
-use Rattle.std.proofs.Common.{◌++◌, ◌∷◌, [], ap, ◌∙◌, subst, sym}
+use Rattle.std.proofs.Common.{◌++◌, ◌∷◌, [], ap, ◌∙◌, subst, sym, refl}
 use Rattle.star_spec.specs.Flow.{next_turn, turns}
 use Rattle.star_tree.specs.Listed.{clauses_of}
 use Rattle.star_tree.specs.Whole.{expr_of}
@@ -41,7 +41,7 @@ returns c =
     let s = state_of m.session in
     let b = bag_of a m.code.file c.args.bag in
     let turn = frame.Clauses (in_clauses_frame.Turn p c.args.target c.args.clauses c.args.source) in
-    let waits = pushed_waits m m.session turn (m.frames ++ turn ∷ []) (grows_same a) c.requires.sound c.requires.source (λ i. m.frames ++ turn ∷ []) in
+    let waits = pushed_waits m m.session turn (m.frames ++ turn ∷ []) (grows_same a) c.requires.sound c.requires.source (λ i. m.frames ++ turn ∷ []) refl in
     goes_after a (arena_in c.push_clauses.new.m) c.push_element.result c.push_element.new.m (subst (λ (n : Machine). Grows a (arena_in n)) (sym c.in_ok-push_clauses.ensures) (grows_same a))
     ((λ i. unwind_value (setting_of (c.in_ok-push_clauses.ensures i)) (nodes_in (c.in_ok-push_clauses.ensures i)) (in_element (enter_clauses p (clauses_of (c.in_ok-push_clauses.ensures i).code.file c.args.clauses.now) (bag_of (arena_in (c.in_ok-push_clauses.ensures i)) (c.in_ok-push_clauses.ensures i).code.file c.args.bag)) ∷ waiting_in (c.in_ok-push_clauses.ensures i))
     (with_none (assigned (setting_of (c.in_ok-push_clauses.ensures i)) p (expr_of (c.in_ok-push_clauses.ensures i).code.file c.args.target.now) (value_of (arena_in (c.in_ok-push_clauses.ensures i)) c.args.value)) (state_of (c.in_ok-push_clauses.ensures i).session)))

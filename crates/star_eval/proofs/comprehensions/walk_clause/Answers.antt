@@ -1,4 +1,4 @@
-use Rattle.std.proofs.Common.{◌++◌, ◌∷◌, [], ap, ◌∙◌, subst, sym}
+use Rattle.std.proofs.Common.{◌++◌, ◌∷◌, [], ap, ◌∙◌, subst, sym, refl}
 use Rattle.star_spec.specs.Flow.{turns}
 use Rattle.star_tree.specs.Listed.{clauses_of}
 use Rattle.star_tree.specs.Whole.{expr_of}
@@ -42,7 +42,7 @@ returns c =
     let b = c.in_ok-begin.ensures in
     let k = kept m s b.grows c.requires.sound in
     let ends = frame.Clauses (in_clauses_frame.WalkEnd c.args.object) in
-    let waits = pushed_waits m s ends (m.frames ++ ends ∷ []) b.grows c.requires.sound (walked_kept (arena_in m) (arena_of s) c.args.object b.grows c.requires.object) (λ i. m.frames ++ ends ∷ []) in
+    let waits = pushed_waits m s ends (m.frames ++ ends ∷ []) b.grows c.requires.sound (walked_kept (arena_in m) (arena_of s) c.args.object b.grows c.requires.object) (λ i. m.frames ++ ends ∷ []) refl in
     let from : Source = record { members = c.args.members; next = 0 } in
     let members = ap (left_of (arena_of s)) c.of.ensures ∙ (source_kept (arena_in m) (arena_of s) from b.grows c.requires.members).1 in
     let gathered = (bag_kept (arena_in m) (arena_of s) m.code.file b.grows c.args.bag c.requires.bag).1 in

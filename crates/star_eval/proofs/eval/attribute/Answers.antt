@@ -7,5 +7,5 @@ use Rattle.star_eval.proofs.eval.attribute.Goals as goal
 pub returns : goal.returns
 returns c =
     let m = c.args.m.now in
-    gives_on m (record { arena = c.attribute.new.arena; work = m.session.work }) c.requires.sound (attribute_row c.args.place (value_of (arena_in m) c.args.value) c.args.name.now) c.attribute.result c.settle.result
+    gives_on m (record m.session { arena = c.attribute.new.arena }) c.requires.sound (attribute_row c.args.place (value_of (arena_in m) c.args.value) c.args.name.now) c.attribute.result c.settle.result
     (c.attribute.ensures m.session.work.steps) c.settle.ensures

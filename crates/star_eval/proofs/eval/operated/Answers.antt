@@ -8,5 +8,5 @@ use Rattle.star_eval.proofs.eval.operated.Goals as goal
 pub returns : goal.returns
 returns c =
     let m = c.args.m.now in
-    gives_on m (record { arena = c.binary.new.arena; work = c.binary.new.work }) c.requires.sound (operator_row c.args.place (binary_operator_of c.args.op) (value_of (arena_in m) c.args.left) (value_of (arena_in m) c.args.right)) c.binary.result c.settle.result
+    gives_on m (record m.session { arena = c.binary.new.arena; work = c.binary.new.work }) c.requires.sound (operator_row c.args.place (binary_operator_of c.args.op) (value_of (arena_in m) c.args.left) (value_of (arena_in m) c.args.right)) c.binary.result c.settle.result
     c.binary.ensures.row c.settle.ensures

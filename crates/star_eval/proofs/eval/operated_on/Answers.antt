@@ -8,5 +8,5 @@ use Rattle.star_eval.proofs.eval.operated_on.Goals as goal
 pub returns : goal.returns
 returns c =
     let m = c.args.m.now in
-    gives_on m (record { arena = c.unary.new.arena; work = c.unary.new.work }) c.requires.sound (unary_row c.args.place (unary_operator_of c.args.op) (value_of (arena_in m) c.args.operand)) c.unary.result c.settle.result
+    gives_on m (record m.session { arena = c.unary.new.arena; work = c.unary.new.work }) c.requires.sound (unary_row c.args.place (unary_operator_of c.args.op) (value_of (arena_in m) c.args.operand)) c.unary.result c.settle.result
     c.unary.ensures.row c.settle.ensures

@@ -11,7 +11,7 @@ pub returns-clause-ends : goal.returns-clause-ends
 returns-clause-ends c =
     let before = c.args.session.now in
     let a = arena_of before in
-    let s : Session = record { arena = c.freeze_since.new.self; work = before.work } in
+    let s : Session = record before { arena = c.freeze_since.new.self } in
     let b = arena_of s in
     let frozen = c.freeze_since.ensures in
     let items = c.into_children-documents.result in

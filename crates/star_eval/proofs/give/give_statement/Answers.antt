@@ -1,4 +1,7 @@
-use Rattle.std.proofs.Common.{sym, ap, ◌∙◌}
+use Rattle.std.proofs.Common.{◌≡◌, true, if◌then◌else◌, sym, ap, ◌∙◌}
+use Rattle.star_blocks.specs.Nested.{arms_of, ops_of}
+use Rattle.star_values.proofs.Growing.{grows_same}
+use Rattle.value_spec.specs.Members.{truth_in}
 use Rattle.star_values.specs.View.{value_of}
 use Rattle.star_eval.specs.Frames.{around_flow}
 use Rattle.star_eval.specs.Meets.{state_of}
@@ -8,7 +11,7 @@ use Rattle.star_eval.proofs.Going.{goes}
 use Rattle.star_spec.specs.Flow.{on}
 use Rattle.star_tree.specs.Whole.{expr_of}
 use Rattle.value_spec.specs.Outcomes.{give}
-use Rattle.star_eval.specs.Doing.{assigned}
+use Rattle.star_eval.specs.Doing.{arms_done, assigned, through}
 use Rattle.star_eval.proofs.Chaining.{none_then}
 use Rattle.star_eval.proofs.give.give_statement.Goals as goal
 
@@ -41,3 +44,21 @@ returns-in-AssignTo c =
     (ap (around_flow m (waiting_in m)) (none_then (assigned (setting_of m) b.place (expr_of m.code.file b.target.now) (value_of a c.args.value) s) (give (on k))
     ∙ sym (ap (λ f. statement_goes (setting_of m) (statement_frame a m.code.file f) (value_of a c.args.value) k s) b.is)))
     c.push.ensures
+
+pub returns-then-truth : goal.returns-then-truth
+returns-then-truth c =
+    let m = c.args.m.now in
+    let a = arena_in m in
+    let b = c.in-Branch in
+    let v = value_of a c.args.value in
+    let k = nodes_in m in
+    let s = state_of m.session in
+    let holds : true ≡ truth_in a.store v = sym c.if-truth.true ∙ c.truth.ensures in
+    let here = through (setting_of m) (ops_of m.code.file b.body.now) in
+    let others = arms_done (setting_of m) (arms_of m.code.file b.more.now) in
+    record {
+      same = (λ i. around_flow m (waiting_in m) ((if holds i then here k else others k) s)) ∙ sym (ap (λ f. around_flow m (waiting_in m) (statement_goes (setting_of m) (statement_frame a m.code.file f) v k s)) b.is);
+      sound = c.requires.sound;
+      owned = tt;
+      grows = grows_same a;
+    }

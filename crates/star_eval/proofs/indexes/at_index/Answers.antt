@@ -7,5 +7,5 @@ use Rattle.star_eval.proofs.indexes.at_index.Goals as goal
 pub returns : goal.returns
 returns c =
     let m = c.args.m.now in
-    gives_on m (record { arena = c.index.new.arena; work = c.index.new.work }) c.requires.sound (index_row c.args.place (value_of (arena_in m) c.args.value) (value_of (arena_in m) c.args.index)) c.index.result c.settle.result
+    gives_on m (record m.session { arena = c.index.new.arena; work = c.index.new.work }) c.requires.sound (index_row c.args.place (value_of (arena_in m) c.args.value) (value_of (arena_in m) c.args.index)) c.index.result c.settle.result
     c.index.ensures.row c.settle.ensures

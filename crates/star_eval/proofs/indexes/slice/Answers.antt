@@ -10,5 +10,5 @@ returns c =
     let m = c.args.m.now in
     let a = arena_in m in
     let q = c.args.parts in
-    gives_on m (record { arena = c.slice.new.arena; work = c.slice.new.work }) c.requires.sound (slice_row c.args.place (value_of a c.args.value) (cut (value_of a q.from) (value_of a q.to) (value_of a q.step))) c.slice.result c.settle.result
+    gives_on m (record m.session { arena = c.slice.new.arena; work = c.slice.new.work }) c.requires.sound (slice_row c.args.place (value_of a c.args.value) (cut (value_of a q.from) (value_of a q.to) (value_of a q.step))) c.slice.result c.settle.result
     c.slice.ensures.row c.settle.ensures

@@ -1,5 +1,4 @@
-use Rattle.std.proofs.Common.{Err, Ok, ap, subst, sym, ◌∙◌}
-use Rattle.ytt_base.specs.declared.fault.Stop.TheVariants as stop
+use Rattle.std.proofs.Common.{Err, ap, subst, sym, ◌∙◌}
 use Rattle.star_eval.specs.declared.frame.Control.TheVariants as control
 use Rattle.star_eval.specs.declared.frame.Machine.{Machine}
 use Rattle.star_eval.specs.Frames.{means}

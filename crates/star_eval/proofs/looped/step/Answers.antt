@@ -3,7 +3,7 @@ use Rattle.star_eval.specs.declared.frame.Control.TheVariants as control
 use Rattle.star_eval.specs.declared.frame.Machine.{Machine}
 use Rattle.star_eval.specs.Frames.{inside}
 use Rattle.star_eval.specs.Meets.{state_of}
-use Rattle.star_eval.specs.View.{arena_in, frame_of, nodes_in, setting_of, waiting_in}
+use Rattle.star_eval.specs.View.{arena_in, frame_of, nodes_in, setting_of, waiting_in, waiting_under}
 use Rattle.star_eval.proofs.Going.{goes}
 use Rattle.star_eval.proofs.Popped.{popped_owned, popped_sound, popped_waits}
 use Rattle.star_eval.proofs.Sorts.{flow_fails}
@@ -61,7 +61,7 @@ returns-in-Some-pop-3 c =
     let w = frame_of (arena_in m) m.code c.in-Some-pop-3.frame in
     let g = c.fail-in-Some-pop-3.ensures in
     record {
-      same = g.same ∙ sym (ap (inside m (waiting_in m)) c.in-Left.is ∙ ap (λ ws. inside m ws (control.Left f)) (popped_waits m c.pop-in-Left.new.self c.in-Some-pop-3.frame c.in-Some-pop-3.ensures) ∙ flow_fails (setting_of m) (nodes_in m) (waiting_in n) f (state_of m.session) w);
+      same = g.same ∙ sym (ap (inside m (waiting_in m)) c.in-Left.is ∙ ap (λ ws. inside m ws (control.Left f)) (popped_waits m c.pop-in-Left.new.self c.in-Some-pop-3.frame c.in-Some-pop-3.ensures) ∙ flow_fails (setting_of m) (nodes_in m) (waiting_under n c.in-Some-pop-3.frame) f (state_of m.session) w);
       sound = g.sound;
       owned = g.owned;
       grows = g.grows;

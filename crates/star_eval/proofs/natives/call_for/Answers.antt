@@ -1,4 +1,4 @@
-use Rattle.std.proofs.Common.{ap, subst, sym, ◌∙◌}
+use Rattle.std.proofs.Common.{subst, sym, ◌∙◌}
 use Rattle.star_spec.specs.Calls.{asking as host_asking, resumed_with}
 use Rattle.star_values.specs.Owns.{Owns, OwnsAll, OwnsFields}
 use Rattle.star_values.specs.declared.value.CallArgs.{CallArgs}

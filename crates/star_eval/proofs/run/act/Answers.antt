@@ -9,8 +9,7 @@ use Rattle.star_tree.specs.Whole.{expr_of, loaded_names_of, parameters_of}
 use Rattle.value_spec.specs.Outcomes.{give, then_do}
 use Rattle.star_eval.specs.Frames.{around_flow}
 use Rattle.star_eval.specs.Meets.{state_of}
-use Rattle.star_eval.specs.Doing.{assigned, done_after, concluded, looped, making, through}
-use Rattle.star_eval.specs.Doing.{evaluated}
+use Rattle.star_eval.specs.Doing.{assigned, done_after, concluded, looped, making, through, evaluated}
 use Rattle.star_eval.specs.View.{nodes_in, setting_of, waiting_in, arena_in, env_of}
 use Rattle.star_eval.proofs.Going.{goes}
 use Rattle.std.specs.Option.{option_map}

@@ -8,8 +8,7 @@ use Rattle.star_tree.specs.Whole.{binary_operator_of, expr_of}
 use Rattle.value_spec.specs.Outcomes.{then_do}
 use Rattle.star_eval.specs.Frames.{Goes, around_flow}
 use Rattle.star_eval.specs.Meets.{state_of}
-use Rattle.star_eval.specs.Doing.{augmented}
-use Rattle.star_eval.specs.Doing.{evaluated}
+use Rattle.star_eval.specs.Doing.{augmented, evaluated}
 use Rattle.star_eval.specs.View.{arena_in, env_of, nodes_in, setting_of, waiting_in}
 use Rattle.star_eval.specs.Waiting.{augment_of, statement_goes}
 use Rattle.star_eval.proofs.Going.{goes}

@@ -1,4 +1,4 @@
-use Rattle.std.proofs.Common.{rules, ◌≡◌, ◌++◌, ◌∷◌, [], ap, ◌∙◌}
+use Rattle.std.proofs.Common.{rules, ◌≡◌, ◌++◌, ◌∷◌, [], ap, ◌∙◌, refl}
 use Rattle.star_blocks.specs.Nested.{ops_of}
 use Rattle.star_spec.specs.Flow.{next_turn, turns}
 use Rattle.star_tree.specs.Whole.{expr_of}
@@ -29,7 +29,7 @@ returns c =
     let s = state_of m.session in
     let turn = frame.Block (in_block_frame.Turn p c.args.target c.args.body c.args.source) in
     let more : c.push.new.self ≡ m.frames ++ turn ∷ [] = search rules in
-    let waits = pushed_waits m m.session turn c.push.new.self (grows_same a) c.requires.sound c.requires.source more in
+    let waits = pushed_waits m m.session turn c.push.new.self (grows_same a) c.requires.sound c.requires.source more refl in
     goes _ c.push-2.result c.push-2.new.m
     ((λ i. unwind_value (setting_of m) (nodes_in m) (in_statement (enter os) ∷ waits i) (with_none (assigned (setting_of m) p x v) s))
     ∙ ap (λ r. around_flow m (waiting_in m) (then_do r (next_turn (turns p (turn_of (setting_of m) p x os) (left_of a c.args.source))))) (none_then (assigned (setting_of m) p x v s) (through (setting_of m) os (nodes_in m))))

@@ -1,4 +1,4 @@
-use Rattle.std.proofs.Common.{rules, ◌≡◌, ◌++◌, ◌∷◌, [], ap, ◌∙◌}
+use Rattle.std.proofs.Common.{rules, ◌≡◌, ◌++◌, ◌∷◌, [], ap, ◌∙◌, refl}
 use Rattle.star_blocks.specs.Nested.{ops_of}
 use Rattle.star_spec.specs.Flow.{turns}
 use Rattle.star_tree.specs.Whole.{expr_of}
@@ -34,7 +34,7 @@ returns c =
     let b = c.in_ok-begin.ensures in
     let k = kept m s b.grows c.requires.sound in
     let more : c.push.new.self ≡ m.frames ++ frame.Block (in_block_frame.WalkEnd c.args.object) ∷ [] = search rules in
-    let waits = pushed_waits m s (frame.Block (in_block_frame.WalkEnd c.args.object)) c.push.new.self b.grows c.requires.sound (walked_kept (arena_in m) (arena_of s) c.args.object b.grows c.requires.object) more in
+    let waits = pushed_waits m s (frame.Block (in_block_frame.WalkEnd c.args.object)) c.push.new.self b.grows c.requires.sound (walked_kept (arena_in m) (arena_of s) c.args.object b.grows c.requires.object) more refl in
     let from : Source = record { members = c.args.members; next = 0 } in
     let members = ap (left_of (arena_of s)) c.of.ensures ∙ (source_kept (arena_in m) (arena_of s) from b.grows c.requires.members).1 in
     let p = c.args.place in

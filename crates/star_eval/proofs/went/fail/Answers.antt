@@ -1,11 +1,11 @@
-use Rattle.std.proofs.Common.{◌∷◌, sym, ap, subst}
+use Rattle.std.proofs.Common.{sym, ap, subst}
 use Rattle.value_spec.specs.Outcomes.{bad}
 use Rattle.star_values.proofs.Growing.{grows_same}
 use Rattle.star_eval.specs.declared.frame.Control.TheVariants as control
 use Rattle.star_eval.specs.declared.frame.Machine.{Machine}
 use Rattle.star_eval.specs.Frames.{Goes, inside}
 use Rattle.star_eval.specs.Meets.{state_of}
-use Rattle.star_eval.specs.View.{OwnsCaller, OwnsFrame, arena_in, frame_of, nodes_in, setting_of, waiting_in}
+use Rattle.star_eval.specs.View.{OwnsCaller, OwnsFrame, arena_in, nodes_in, setting_of, waiting_with}
 use Rattle.star_eval.specs.Waiting.{unwind_value}
 use Rattle.star_eval.proofs.went.fail.Goals as goal
 
@@ -14,12 +14,16 @@ returns-in-Call c =
     let m = c.args.m.now in
     let a = arena_in m in
     let s = state_of m.session in
-    let ws = waiting_in m in
     let caller = c.in-Call.caller in
     let owned : OwnsCaller a caller = subst (OwnsFrame a) c.in-Call.is c.requires.frame in
-    subst (λ (n : Machine). Goes a n (control.Failed c.args.fault) (inside m (frame_of a m.code c.args.frame ∷ ws) (control.Failed c.args.fault))) (sym c.restore.ensures) (record {
-      same = sym (ap (λ f. unwind_value (setting_of m) (nodes_in m) (frame_of a m.code f ∷ ws) (bad c.args.fault s)) c.in-Call.is);
+    subst (λ (n : Machine). Goes a n (control.Failed c.args.fault) (inside m (waiting_with m c.args.frame) (control.Failed c.args.fault))) (sym c.restore.ensures) (record {
+      same = sym (ap (λ f. unwind_value (setting_of m) (nodes_in m) (waiting_with m f) (bad c.args.fault s)) c.in-Call.is);
       sound = record { scope = owned.0; nodes = owned.1; frames = c.requires.sound.frames };
       owned = tt;
       grows = grows_same a;
     })
+
+pub returns-in-Native : goal.returns-in-Native
+returns-in-Native c =
+    let m = c.args.m.now in
+    subst (λ f. Goes (arena_in m) c.resume.new.m c.resume.result (inside m (waiting_with m f) (control.Failed c.args.fault))) (sym c.in-Native.is) c.resume.ensures

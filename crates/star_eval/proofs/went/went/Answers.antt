@@ -1,4 +1,4 @@
-use Rattle.std.proofs.Common.{◌≡◌, ◌∷◌, false, refl, sym, ap, ◌∙◌}
+use Rattle.std.proofs.Common.{◌≡◌, false, refl, sym, ap, ◌∙◌}
 use Rattle.ytt_base.specs.declared.fault.FaultKind.TheVariants as kind
 use Rattle.ytt_base.specs.Outcomes.{fault_of}
 use Rattle.star_eval.specs.declared.frame.Control.{Control}
@@ -8,17 +8,17 @@ use Rattle.star_eval.specs.declared.frame.Machine.{Machine}
 use Rattle.star_eval.specs.declared.frame.Flow.{Flow}
 use Rattle.star_eval.specs.Frames.{Goes, flow_of, inside}
 use Rattle.star_eval.specs.Meets.{state_of}
-use Rattle.star_eval.specs.View.{arena_in, frame_of, nodes_in, setting_of, waiting_in}
+use Rattle.star_eval.specs.View.{arena_in, frame_of, nodes_in, setting_of, waiting_under, waiting_with}
 use Rattle.star_eval.proofs.Sorts.{flow_misplaced, takes_flow}
 use Rattle.star_eval.proofs.went.went.Goals as goal
 
 -- a frame that waits for no block
 lost : (m n : Machine) (f g : Frame) (w : Flow) (c : Control) → f ≡ g → takes_flow (frame_of (arena_in m) m.code g) ≡ false →
-    Goes (arena_in m) n c (inside m (frame_of (arena_in m) m.code g ∷ waiting_in m) (control.Failed (fault_of kind.CodeForm))) → Goes (arena_in m) n c (inside m (frame_of (arena_in m) m.code f ∷ waiting_in m) (control.Went w))
+    Goes (arena_in m) n c (inside m (waiting_with m g) (control.Failed (fault_of kind.CodeForm))) → Goes (arena_in m) n c (inside m (waiting_with m f) (control.Went w))
 lost m n f g w c is other h =
     let a = arena_in m in
     record {
-      same = h.same ∙ sym (ap (λ f. inside m (frame_of a m.code f ∷ waiting_in m) (control.Went w)) is ∙ flow_misplaced (setting_of m) (nodes_in m) (waiting_in m) (state_of m.session) (frame_of a m.code g) (flow_of a w (nodes_in m)) other);
+      same = h.same ∙ sym (ap (λ f. inside m (waiting_with m f) (control.Went w)) is ∙ flow_misplaced (setting_of m) (nodes_in m) (waiting_under m g) (state_of m.session) (frame_of a m.code g) (flow_of a w (nodes_in m)) other);
       sound = h.sound;
       owned = h.owned;
       grows = h.grows;
@@ -35,3 +35,6 @@ returns-in-Clauses c = lost c.args.m.now c.misplaced-in-Clauses.new.m c.args.fra
 
 pub returns-in-Gather : goal.returns-in-Gather
 returns-in-Gather c = lost c.args.m.now c.misplaced-in-Gather.new.m c.args.frame _ c.args.flow c.misplaced-in-Gather.result c.in-Gather.is refl c.misplaced-in-Gather.ensures
+
+pub returns-in-Native : goal.returns-in-Native
+returns-in-Native c = lost c.args.m.now c.misplaced-in-Native.new.m c.args.frame _ c.args.flow c.misplaced-in-Native.result c.in-Native.is refl c.misplaced-in-Native.ensures

@@ -1,11 +1,10 @@
-use Rattle.std.proofs.Common.{◌≡◌, ℕ, drop, nat_eq}
-use Rattle.std.specs.Option.{option_map}
-use Rattle.code_spec.specs.Options.{or_else}
-use Rattle.indexmap.specs.IndexMap.{get}
-use Rattle.star_functions.specs.Numbered.{first_with}
-use Rattle.star_functions.specs.View.{all_of, code_of}
+use Rattle.std.proofs.Common.{◌≡◌, ℕ, length}
+use Rattle.star_functions.specs.Known.{files_of, known}
+use Rattle.star_functions.proofs.Files.{code_or}
 use Rattle.star_functions.proofs.functions.functions_of.Given as goal
 
-abbrev pub invariant-loop-numbered : goal.invariant-loop-numbered
-invariant-loop-numbered l =
-    (file k : ℕ) → or_else (option_map (code_of file) (option_map (λ f. f.code) (get nat_eq l.by_number k))) (first_with k (all_of file (drop l.numbered-index l.numbered-items))) ≡ first_with k (all_of file l.numbered-items)
+abbrev pub invariant-loop-first : goal.invariant-loop-first
+invariant-loop-first l = (f k : ℕ) → code_or f k l.files (known (files_of l.rest) f k) ≡ known (files_of l.programs) f k
+
+abbrev pub decreases-loop-first : goal.decreases-loop-first
+decreases-loop-first l = length l.rest
