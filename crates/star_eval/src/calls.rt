@@ -26,7 +26,7 @@ use crate::machine::{failed, ill_formed, settle};
 use crate::natives::is_hosted;
 use node_build::Builder;
 use object_arena::{Boxes, CallArgs, Ref, Value, Values};
-use sqlite_items::Items;
+use sqlite_items::{Boxed, Items};
 use star_builtins::{Asked, own_call};
 use star_calls::call_scope;
 use star_functions::FunctionCode;
@@ -363,6 +363,7 @@ fn open_call(
     ensures { IfOk result (λ u. Opened file fragment scope m.old m.new) }
 {
     let nodes = Builder::within(m.session.arena.alloc(), level_of(fragment));
+    let alloc = m.session.arena.alloc();
     let caller = Caller {
         file: m.code.file,
         depth: m.depth,
@@ -372,7 +373,7 @@ fn open_call(
     };
     m.code.file = file;
     m.depth -= 1;
-    m.frames.push(Frame::Call(caller))?;
+    m.frames.push(Frame::Call(Boxed::new(alloc, caller)?))?;
     Ok(())
 }
 

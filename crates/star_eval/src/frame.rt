@@ -221,8 +221,8 @@ pub(crate) enum Frame<'p> {
     Clauses(Boxed<InClauses<'p>>),
     /// What is made of what a comprehension has gathered, in this scope.
     Gather(Boxes),
-    Call(Caller),
-    Native(Pending),
+    Call(Boxed<Caller>),
+    Native(Boxed<Pending>),
 }
 
 /// What is to be done next.

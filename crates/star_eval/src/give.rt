@@ -43,10 +43,10 @@ pub(crate) fn give<'p>(
         Frame::Statement(inner) => give_statement(m, inner, value),
         Frame::Element(inner) => give_element(m, inner.into_inner(), value),
         Frame::Call(caller) => {
-            restore(m, caller);
+            restore(m, caller.into_inner());
             Ok(Control::Gave(value))
         }
-        Frame::Native(pending) => Ok(resume(m, pending, Ok(value))),
+        Frame::Native(pending) => Ok(resume(m, pending.into_inner(), Ok(value))),
         Frame::Block(inner) => Ok(misplaced(m, Frame::Block(inner))),
         Frame::Clauses(inner) => Ok(misplaced(m, Frame::Clauses(inner))),
         Frame::Gather(scope) => Ok(misplaced(m, Frame::Gather(scope))),

@@ -21,7 +21,7 @@ use crate::machine::failed;
 use crate::session::Session;
 use node_build::Builder;
 use object_arena::{Answerer, Arena, CallArgs, Ref, Reply, Shape, Value, Values};
-use sqlite_items::Items;
+use sqlite_items::{Boxed, Items};
 use std::mem;
 use ytt_base::fault::{Fault, FaultKind, Stop};
 use ytt_base::text::Memory;
@@ -135,7 +135,8 @@ fn wait_for(m: &mut Machine<'_>, asking: Asking, tag: u64) -> Result<(), Memory>
         tag,
         nodes: mem::replace(&mut m.nodes, empty),
     };
-    m.frames.push(Frame::Native(pending))?;
+    let alloc = m.session.arena.alloc();
+    m.frames.push(Frame::Native(Boxed::new(alloc, pending)?))?;
     Ok(())
 }
 

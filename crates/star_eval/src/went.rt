@@ -37,7 +37,7 @@ pub(crate) fn went<'p>(
 {
     match frame {
         Frame::Block(inner) => go_on(m, inner, flow),
-        Frame::Call(caller) => returned(m, caller, flow),
+        Frame::Call(caller) => returned(m, caller.into_inner(), flow),
         Frame::Value(inner) => Ok(misplaced(m, Frame::Value(inner))),
         Frame::Statement(inner) => Ok(misplaced(m, Frame::Statement(inner))),
         Frame::Element(inner) => Ok(misplaced(m, Frame::Element(inner))),
@@ -155,10 +155,10 @@ pub(crate) fn fail<'p>(m: &mut Machine<'p>, frame: Frame<'p>, fault: Fault) -> C
             Control::Failed(fault)
         }
         Frame::Call(caller) => {
-            restore(m, caller);
+            restore(m, caller.into_inner());
             Control::Failed(fault)
         }
-        Frame::Native(pending) => resume(m, pending, Err(fault)),
+        Frame::Native(pending) => resume(m, pending.into_inner(), Err(fault)),
     }
 }
 
