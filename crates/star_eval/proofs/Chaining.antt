@@ -1,5 +1,6 @@
 -- Computations behind one another.
-use Rattle.std.proofs.Common.{◌≡◌, refl}
+use Rattle.std.proofs.Common.{◌≡◌, refl, sym}
+use Rattle.star_spec.specs.Flow.{Flow, Part, go_on, on, out}
 use Rattle.value_spec.proofs.Computations.{then_assoc}
 use Rattle.value_spec.specs.Outcomes.{Ending, Computation, asks, done, bad, give, then_do, ◌>>=◌}
 use Rattle.value_spec.specs.Values.{none_value}
@@ -21,3 +22,10 @@ pub index_goes : {X Y : Type 0} (r : Ending Here X) (f : X → Computation Here 
 index_goes (done x s) f g = then_assoc (f x s) (g x) (λ u. give none_value)
 index_goes (bad e s) f g = refl
 index_goes (asks q s k) f g = λ i. asks q s (λ got t. index_goes (k got t) f g i)
+
+-- the end of a part behind which nothing comes
+pub nothing_behind : {K : Type 0} (r : Ending Here (Flow K)) (b : Part Here K) → ((k : K) → b k ≡ give (on k)) → r ≡ then_do r (go_on b)
+nothing_behind (done (on k) s) b h = λ i. sym (h k) i s
+nothing_behind (done (out w k) s) b h = refl
+nothing_behind (bad e s) b h = refl
+nothing_behind (asks q s k) b h = λ i. asks q s (λ got t. nothing_behind (k got t) b h i)

@@ -1,13 +1,14 @@
 -- What the machine stands for: what comes of a control in what waits around it.
 use Rattle.std.specs.Prelude.{◌≡◌, ℕ, ◌-◌, ◌++◌, ◌∷◌, [], length, Bool, true, false, not, List, Option, Result, Ok, Err, IfOk}
 use Rattle.std.specs.Option.{option_map}
-use Rattle.code_spec.specs.Code.{Name}
+use Rattle.code_spec.specs.Code.{Expr, Name}
 use Rattle.node_build.specs.View.{OwnsNodes, nodes_of}
 use Rattle.node_build.specs.declared.builder.Builder.{Builder}
 use Rattle.star_resolve.specs.Frames.{boxed, with_unset}
 use Rattle.star_resolve.specs.Variables.{each_once}
 use Rattle.star_tree.specs.View.{item_kind_of}
 use Rattle.star_tree.specs.declared.program.ItemKind.{ItemKind}
+use Rattle.star_steps.specs.Meets.{state_in}
 use Rattle.star_values.specs.Objects.{env_in}
 use Rattle.star_values.specs.Owns.{Grows, Owns, OwnsEnv}
 use Rattle.star_values.specs.declared.object.NamedBox.{NamedBox}
@@ -101,6 +102,11 @@ GoesToFlow r n m f = IfOk r (λ c. Goes (arena_in m) n c (around_flow m (waiting
 
 abbrev pub GoesToBag : {E : Type 0} → Result Control E → (after before : Machine) → Computation Here (Flow Bag) → Type 0
 GoesToBag r n m f = IfOk r (λ c. Goes (arena_in m) n c (around_bag m (waiting_in m) (f (state_of m.session))))
+
+-- this value, with so many steps left, is what an expression comes to, and nothing else changes
+pub record Known (m : Machine) (e : Expr) (found : Value × ℕ) : Type 0 where
+  pub value : evaluated (setting_of m) e (state_of m.session) ≡ done (value_of (arena_in m) found.0) (state_in (arena_in m) found.1)
+  pub owned : Owns (arena_in m) found.0
 
 -- ---- the end
 

@@ -1,8 +1,10 @@
 -- What calls come to in the loop.
-use Rattle.std.specs.Prelude.{◌≡◌, Result, Ok, Err}
+use Rattle.std.specs.Borrow.{Bor}
+use Rattle.std.specs.Prelude.{◌≡◌, List, Result, Ok, Err}
 use Rattle.ytt_base.specs.declared.fault.Stop.{Stop}
 use Rattle.ytt_base.specs.declared.fault.Stop.TheVariants as stop
 use Rattle.ytt_base.specs.declared.text.Memory.{Memory}
+use Rattle.star_blocks.specs.declared.block.Op.{Op}
 use Rattle.star_values.specs.declared.value.Value.{Value}
 use Rattle.star_values.specs.declared.value.Value.TheVariants as value
 use Rattle.star_eval.specs.declared.frame.Control.{Control}
@@ -28,3 +30,10 @@ SettlesFlow (Ok u) (Ok c) = c ≡ control.Went flow.On
 SettlesFlow (Err (stop.Fault f)) (Ok c) = c ≡ control.Left f
 SettlesFlow (Err stop.Memory) (Ok c) = ⊥
 SettlesFlow r (Err e) = Unit {0}
+
+-- the same, with a block that runs then
+abbrev pub SettlesRun : Bor (List Op) → Result Here Stop → Result Control Memory → Type 0
+SettlesRun body (Ok u) (Ok c) = c ≡ control.Run body
+SettlesRun body (Err (stop.Fault f)) (Ok c) = c ≡ control.Left f
+SettlesRun body (Err stop.Memory) (Ok c) = ⊥
+SettlesRun body r (Err e) = Unit {0}

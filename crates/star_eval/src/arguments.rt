@@ -10,8 +10,8 @@ ghost use Rattle.star_eval.specs.Frames.{GoesToFlow, GoesToValue};
 ghost use Rattle.star_eval.specs.View.{Sound, arena_in, nodes_in, setting_of};
 
 use crate::calls::call;
-use crate::frame::{Control, Flow, Frame, InStatement, InValue, Machine};
-use crate::machine::push;
+use crate::frame::{Control, Flow, InStatement, InValue, Machine};
+use crate::machine::{push_statement, push_value};
 use object_arena::{BuiltNote, CallArgs, Value};
 use sqlite_items::Items;
 use star_calls::{ArgumentForm, add_argument};
@@ -85,7 +85,7 @@ pub(crate) fn call_with<'p>(
         Some((first, rest)) => {
             let (form, expr) = argument(m.code.file, first);
             let frame = InValue::Argument(place, function, form, rest, given);
-            push(m, Frame::Value(frame), Control::Eval(expr))
+            push_value(m, frame, Control::Eval(expr))
         }
     }
 }
@@ -129,7 +129,7 @@ pub(crate) fn note_with<'p>(
         Some((first, rest)) => {
             let (form, expr) = argument(m.code.file, first);
             let frame = InStatement::NoteArgument(name, form, rest, given);
-            push(m, Frame::Statement(frame), Control::Eval(expr))
+            push_statement(m, frame, Control::Eval(expr))
         }
     }
 }

@@ -13,9 +13,9 @@ ghost use Rattle.star_eval.specs.Sources.{OwnsSource, left_of};
 ghost use Rattle.star_eval.specs.View.{Sound, arena_in, env_of, nodes_in, setting_of};
 ghost use Rattle.star_eval.specs.Waiting.{with_none};
 
-use crate::frame::{Control, Frame, InIndex, InStatement, InValue, Machine};
+use crate::frame::{Control, InIndex, InStatement, InValue, Machine};
 use crate::indexes::within_index;
-use crate::machine::{failed, ill_formed, push, settle_flow, settle_none};
+use crate::machine::{failed, ill_formed, push_statement, push_value, settle_flow, settle_none};
 use crate::names::write;
 use crate::run::within;
 use crate::session::set_at;
@@ -74,6 +74,32 @@ pub(crate) fn assign<'p>(
     }
 }
 
+/// The same, and the statement ends.
+pub(crate) fn target_gets<'p>(
+    m: &mut Machine<'p>,
+    place: Place,
+    target: &'p Expr,
+    value: Value,
+) -> Result<Control<'p>, Memory>
+    requires sound { Sound m.old }
+    requires value { Owns (arena_in m.old) value }
+    ensures { GoesToFlow result m.new m.old (concluded (assigned (setting_of m.old) place (expr_of m.old.code.file target.now) (value_of (arena_in m.old) value)) (nodes_in m.old)) }
+{
+    match target {
+        Expr::Name(line, name) => {
+            let at = Place {
+                file: m.code.file,
+                line: *line,
+            };
+            name_gets(m, at, name, value)
+        }
+        _ => {
+            let control = Control::Assign(place, target, value);
+            push_statement(m, InStatement::Discard, control)
+        }
+    }
+}
+
 /// The members of a value, which has as many, to these targets.
 fn spread<'p>(
     m: &mut Machine<'p>,
@@ -113,8 +139,8 @@ pub(crate) fn next_target<'p>(
     match source.advance()? {
         None => Ok(Control::Gave(Value::None)),
         Some((value, source)) => {
-            let frame = Frame::Value(InValue::Targets(place, rest, source));
-            push(m, frame, Control::Assign(place, target, value))
+            let frame = InValue::Targets(place, rest, source);
+            push_value(m, frame, Control::Assign(place, target, value))
         }
     }
 }

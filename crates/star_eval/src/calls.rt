@@ -103,7 +103,8 @@ fn call_native<'p>(
             place,
             native,
         };
-        return Ok(Control::Ask(asking, Question::Called(args)));
+        let question = Boxed::new(m.session.arena.alloc(), Question::Called(args))?;
+        return Ok(Control::Ask(asking, question));
     }
     call_own(m, left, place, native, args)
 }
@@ -167,7 +168,8 @@ pub(crate) fn next_key<'p>(
         Some(member) => {
             let member = *member;
             let frame = InValue::Key(left, place, wanted, function, members, keys);
-            m.frames.push(Frame::Value(frame))?;
+            let boxed = Boxed::new(m.session.arena.alloc(), frame)?;
+            m.frames.push(Frame::Value(boxed))?;
             call_for_key(m, left, place, function, member)
         }
     }
@@ -235,7 +237,8 @@ fn native_for_key<'p>(
             place,
             native,
         };
-        return Ok(Control::Ask(asking, Question::Called(args)));
+        let question = Boxed::new(m.session.arena.alloc(), Question::Called(args))?;
+        return Ok(Control::Ask(asking, question));
     }
     own_for_key(m, left, place, native, member, args)
 }

@@ -18,7 +18,7 @@ ghost use Rattle.star_eval.specs.View.{OwnsBag, OwnsControl, OwnsInElement, Soun
 ghost use Rattle.star_eval.specs.Waiting.{clause_turn_of, element_goes, in_element, walked};
 
 use crate::frame::{Bag, Control, Frame, InClauses, InElement, InValue, Machine};
-use crate::machine::{ill_formed, lost, push, settle};
+use crate::machine::{ill_formed, lost, push, push_value, settle};
 use crate::session::{Session, make_dict, make_list};
 use crate::source::{Members, Source, members_of};
 use crate::walk::{begin, walk_of};
@@ -48,7 +48,7 @@ pub(crate) fn comprehension<'p>(
     match clauses.as_slice().split_first() {
         Some((Clause::ForIn(_target, members), _rest)) => {
             let frame = InValue::First(place, clauses, bag);
-            push(m, Frame::Value(frame), Control::Eval(members.get()))
+            push_value(m, frame, Control::Eval(members.get()))
         }
         Some((Clause::OnlyIf(_), _)) => Ok(ill_formed(m)),
         None => Ok(ill_formed(m)),
@@ -307,7 +307,7 @@ fn pair<'p>(
     both: (Value, Value),
     key_expr: &'p Expr,
     value_expr: &'p Expr,
-    mut pairs: Pairs,
+    pairs: Boxed<Pairs>,
 ) -> Result<Control<'p>, Memory>
     requires sound { Sound m.old }
     requires key { Owns (arena_in m.old) both.0 }
@@ -319,8 +319,10 @@ fn pair<'p>(
     let session = &mut m.session;
     match key_size(&session.arena, place, key, &mut session.work.steps) {
         Ok(()) => {
-            session.arena.put_pair(&mut pairs, key, value)?;
-            Ok(Control::Bagged(Bag::Pairs(key_expr, value_expr, pairs)))
+            let mut all = pairs.into_inner();
+            session.arena.put_pair(&mut all, key, value)?;
+            let all = Boxed::new(session.arena.alloc(), all)?;
+            Ok(Control::Bagged(Bag::Pairs(key_expr, value_expr, all)))
         }
         Err(Stop::Fault(fault)) => Ok(Control::Lost(fault)),
         Err(Stop::Memory) => Err(Memory),
@@ -335,6 +337,6 @@ pub(crate) fn bag_made<'p>(m: &mut Machine<'p>, bag: Bag<'p>) -> Result<Control<
 {
     match bag {
         Bag::Values(_expr, values) => settle(make_list(&mut m.session, values.as_slice())),
-        Bag::Pairs(_key, _value, pairs) => settle(make_dict(&mut m.session, pairs)),
+        Bag::Pairs(_key, _value, pairs) => { settle(make_dict(&mut m.session, pairs.into_inner())) }
     }
 }

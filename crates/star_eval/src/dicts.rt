@@ -10,8 +10,8 @@ ghost use Rattle.star_eval.specs.Frames.{GoesToValue};
 ghost use Rattle.star_eval.specs.Doing.{entries_done, with_entry};
 ghost use Rattle.star_eval.specs.View.{Sound, arena_in, setting_of};
 
-use crate::frame::{Control, Frame, InValue, Machine};
-use crate::machine::{failed, push, settle};
+use crate::frame::{Control, InValue, Machine};
+use crate::machine::{failed, push_value, settle};
 use crate::session::make_dict;
 use object_arena::{Pairs, Value};
 use star_compare::key_offence;
@@ -50,8 +50,8 @@ fn first_entry<'p>(
 {
     match entry {
         Entry::Pair(key, value) => {
-            let frame = Frame::Value(InValue::KeyOf(place, value.get(), rest, pairs));
-            push(m, frame, Control::Eval(key.get()))
+            let frame = InValue::KeyOf(place, value.get(), rest, pairs);
+            push_value(m, frame, Control::Eval(key.get()))
         }
     }
 }

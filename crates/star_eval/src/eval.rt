@@ -1,5 +1,5 @@
 // Expressions.
-ghost use Rattle.std.specs.Prelude.{◌≡◌, ◌++◌, [], codes, IfOk, option_map, ℕ};
+ghost use Rattle.std.specs.Prelude.{◌≡◌, ◌++◌, [], codes, IfOk, IfSome, option_map, ℕ};
 ghost use Rattle.builtin_spec.specs.Attributes.{attribute_row};
 ghost use Rattle.builtin_spec.specs.Operators.{operator_row};
 ghost use Rattle.operator_spec.specs.Operators.{unary_row};
@@ -11,22 +11,23 @@ ghost use Rattle.star_values.specs.View.{value_of, values_of};
 ghost use Rattle.value_spec.specs.Outcomes.{give, then_do};
 ghost use Rattle.value_spec.specs.Values.{text_value};
 ghost use Rattle.star_eval.specs.declared.frame.Control.TheVariants as control;
-ghost use Rattle.star_eval.specs.Frames.{Goes, GoesToValue, means};
-ghost use Rattle.star_eval.specs.Doing.{acted, all_evaluated, comprehended, first_shown, making, pairs_bag, pieces_done, place_in, values_bag, written_text};
+ghost use Rattle.star_eval.specs.Frames.{Goes, GoesToValue, Known, means};
+ghost use Rattle.star_eval.specs.Doing.{acted, all_evaluated, comprehended, evaluated, first_shown, making, pairs_bag, pieces_done, place_in, values_bag, written_text};
 ghost use Rattle.star_eval.specs.View.{Sound, arena_in, env_of, gathering_of, setting_of};
-ghost use Rattle.star_eval.specs.Waiting.{gathered};
+ghost use Rattle.star_eval.specs.Waiting.{callee, gathered, right, value_goes};
 
+use crate::arguments::{call_with, no_arguments};
 use crate::comprehensions::comprehension;
 use crate::dicts::entries;
-use crate::frame::{Bag, Control, Frame, Gathering, InIndex, InValue, Machine, Making};
+use crate::frame::{Bag, Control, Gathering, InIndex, InValue, Machine, Making};
 use crate::functions::make_function;
 use crate::indexes::within_index;
-use crate::machine::{failed, ill_formed, push, settle};
-use crate::names::read;
+use crate::machine::{failed, ill_formed, push_value, settle};
+use crate::names::{find, read};
 use crate::session::{make_list, make_text, make_tuple};
 use indexmap::IndexMap;
 use object_arena::{Value, Values};
-use sqlite_items::Items;
+use sqlite_items::{Boxed, Items};
 use star_tree::code::{BinOp, Clause, Expr, Param, Piece, UnOp};
 use std::alloc::Global;
 use ytt_base::fault::{FaultKind, Place};
@@ -98,32 +99,26 @@ fn act<'p>(m: &mut Machine<'p>, place: Place, expr: &'p Expr) -> Result<Control<
             within_index(m, InIndex::BoundsOf(place, from, to, step), a.get())
         }
         Expr::Unary(_, op, a) => {
-            let frame = Frame::Value(InValue::OperateOn(place, *op));
-            push(m, frame, Control::Eval(a.get()))
+            let frame = InValue::OperateOn(place, *op);
+            push_value(m, frame, Control::Eval(a.get()))
         }
-        Expr::Binary(_, op, a, b) => {
-            let frame = Frame::Value(InValue::Right(place, *op, b.get()));
-            push(m, frame, Control::Eval(a.get()))
-        }
+        Expr::Binary(_, op, a, b) => binary(m, place, *op, a.get(), b.get()),
         Expr::And(_, a, b) => {
-            let frame = Frame::Value(InValue::AndThen(b.get()));
-            push(m, frame, Control::Eval(a.get()))
+            let frame = InValue::AndThen(b.get());
+            push_value(m, frame, Control::Eval(a.get()))
         }
         Expr::Or(_, a, b) => {
-            let frame = Frame::Value(InValue::OrElse(b.get()));
-            push(m, frame, Control::Eval(a.get()))
+            let frame = InValue::OrElse(b.get());
+            push_value(m, frame, Control::Eval(a.get()))
         }
         Expr::If(_, test, a, b) => {
-            let frame = Frame::Value(InValue::Choose(a.get(), b.get()));
-            push(m, frame, Control::Eval(test.get()))
+            let frame = InValue::Choose(a.get(), b.get());
+            push_value(m, frame, Control::Eval(test.get()))
         }
-        Expr::Call(_, function, args) => {
-            let frame = Frame::Value(InValue::Callee(place, args.as_slice()));
-            push(m, frame, Control::Eval(function.get()))
-        }
+        Expr::Call(_, function, args) => called(m, place, function.get(), args.as_slice()),
         Expr::Dot(_, a, name) => {
-            let frame = Frame::Value(InValue::Attribute(place, name));
-            push(m, frame, Control::Eval(a.get()))
+            let frame = InValue::Attribute(place, name);
+            push_value(m, frame, Control::Eval(a.get()))
         }
         Expr::Lambda(_, number, params, _) => lambda(m, place, *number, params.as_slice()),
         Expr::ListFor(_, expr, clauses) => list_for(m, place, expr.get(), clauses),
@@ -132,6 +127,93 @@ fn act<'p>(m: &mut Machine<'p>, place: Place, expr: &'p Expr) -> Result<Control<
         }
         Expr::Template(_, pieces) => template(m, place, pieces.as_slice()),
         Expr::Named(_, _, _) | Expr::Star(_, _) | Expr::Stars(_, _) => Ok(ill_formed(m)),
+    }
+}
+
+/// The value of a number, or of a name whose box has one, with the steps that are left behind it: what needs no frame. None says nothing.
+fn known<'p>(m: &Machine<'p>, expr: &Expr) -> Option<(Value, u64)>
+    requires { Sound m.now }
+    ensures { IfSome result (Known m.now (expr_of m.now.code.file expr.now)) }
+{
+    let left = m.session.work.steps.checked_sub(1)?;
+    match expr {
+        Expr::Int(_, n) => Some((Value::Int(*n), left)),
+        Expr::Name(_, name) => {
+            let at = find(&m.session.arena, m.scope.as_slice(), name)?;
+            let value = m.session.arena.boxed(at)?;
+            Some((value, left))
+        }
+        _ => None,
+    }
+}
+
+/// An operation between the values of two expressions.
+fn binary<'p>(
+    m: &mut Machine<'p>,
+    place: Place,
+    op: BinOp,
+    a: &'p Expr,
+    b: &'p Expr,
+) -> Result<Control<'p>, Memory>
+    requires { Sound m.old }
+    ensures { GoesToValue result m.new m.old (λ s. then_do (evaluated (setting_of m.old) (expr_of m.old.code.file a.now) s) (value_goes (setting_of m.old) (right place (binary_operator_of op) (expr_of m.old.code.file b.now)))) }
+{
+    match known(m, a) {
+        Some((left, steps)) => {
+            m.session.work.steps = steps;
+            right_operand(m, place, op, left, b)
+        }
+        None => {
+            let frame = InValue::Right(place, op, b);
+            push_value(m, frame, Control::Eval(a))
+        }
+    }
+}
+
+/// An operation between a value and that of an expression.
+pub(crate) fn right_operand<'p>(
+    m: &mut Machine<'p>,
+    place: Place,
+    op: BinOp,
+    left: Value,
+    b: &'p Expr,
+) -> Result<Control<'p>, Memory>
+    requires sound { Sound m.old }
+    requires left { Owns (arena_in m.old) left }
+    ensures { GoesToValue result m.new m.old (value_goes (setting_of m.old) (right place (binary_operator_of op) (expr_of m.old.code.file b.now)) (value_of (arena_in m.old) left)) }
+{
+    match known(m, b) {
+        Some((value, steps)) => {
+            m.session.work.steps = steps;
+            operated(m, place, op, left, value)
+        }
+        None => {
+            let frame = InValue::Operate(place, op, left);
+            push_value(m, frame, Control::Eval(b))
+        }
+    }
+}
+
+/// The call of the value of an expression with these arguments.
+fn called<'p>(
+    m: &mut Machine<'p>,
+    place: Place,
+    function: &'p Expr,
+    exprs: &'p [Expr],
+) -> Result<Control<'p>, Memory>
+    requires { Sound m.old }
+    ensures { GoesToValue result m.new m.old (λ s. then_do (evaluated (setting_of m.old) (expr_of m.old.code.file function.now) s) (value_goes (setting_of m.old) (callee place (exprs_of m.old.code.file exprs.now)))) }
+{
+    match known(m, function) {
+        Some((value, steps)) => {
+            m.session.work.steps = steps;
+            let given = no_arguments(m.session.arena.alloc());
+            call_with(m, place, value, exprs, given)
+        }
+        None => {
+            let frame = InValue::Callee(place, exprs);
+            push_value(m, frame, Control::Eval(function))
+        }
     }
 }
 
@@ -179,7 +261,8 @@ fn dict_for<'p>(
     requires { Sound m.old }
     ensures { GoesToValue result m.new m.old (comprehended (setting_of m.old) place (clauses_of m.old.code.file clauses.now) (pairs_bag (expr_of m.old.code.file key.now) (expr_of m.old.code.file value.now) [])) }
 {
-    let none = IndexMap::new(m.session.arena.alloc());
+    let alloc = m.session.arena.alloc();
+    let none = Boxed::new(alloc, IndexMap::new(alloc))?;
     comprehension(m, place, clauses, Bag::Pairs(key, value, none))
 }
 
@@ -224,8 +307,8 @@ fn template<'p>(
 {
     match first_shown(pieces) {
         Some(expr) => {
-            let frame = Frame::Value(InValue::Unbuilt(place));
-            push(m, frame, Control::Eval(expr))
+            let frame = InValue::Unbuilt(place);
+            push_value(m, frame, Control::Eval(expr))
         }
         None => {
             let text = written_text(m.session.arena.alloc(), pieces)?;
@@ -289,8 +372,8 @@ pub(crate) fn gather<'p>(
 {
     match members.split_first() {
         Some((member, rest)) => {
-            let frame = Frame::Value(InValue::Member(gathering, rest, values));
-            push(m, frame, Control::Eval(member))
+            let frame = InValue::Member(gathering, rest, values);
+            push_value(m, frame, Control::Eval(member))
         }
         None => gather_all(m, gathering, values),
     }

@@ -42,7 +42,7 @@ pub(crate) struct Making<'p> {
 #[derive(Drop)]
 pub(crate) enum Bag<'p> {
     Values(&'p Expr, Values),
-    Pairs(&'p Expr, &'p Expr, Pairs),
+    Pairs(&'p Expr, &'p Expr, Boxed<Pairs>),
 }
 
 /// A part of a slice, if it stands there.
@@ -142,7 +142,7 @@ pub(crate) enum InStatement<'p> {
 #[derive(Drop)]
 pub(crate) enum InBlock<'p> {
     /// The turns of a loop for the members that are left.
-    Turn(Place, &'p Expr, &'p [Op], Source),
+    Turn(Place, &'p Expr, &'p [Op], Boxed<Source>),
     /// These statements.
     Rest(&'p [Op]),
     /// The end of a walk over an object.
@@ -161,9 +161,9 @@ pub(crate) enum InElement<'p> {
     /// One more value.
     Single(&'p Expr, Values),
     /// The key of one more pair.
-    KeyOf(Place, &'p Expr, &'p Expr, Pairs),
+    KeyOf(Place, &'p Expr, &'p Expr, Boxed<Pairs>),
     /// The value of one more pair.
-    PairOf(Place, Value, &'p Expr, &'p Expr, Pairs),
+    PairOf(Place, Value, &'p Expr, &'p Expr, Boxed<Pairs>),
 }
 
 /// What goes on from the end of a turn of a clause.
@@ -214,8 +214,8 @@ pub(crate) struct Pending {
 /// What waits for a value, for the end of a block, or for what a comprehension has gathered.
 #[derive(Drop)]
 pub(crate) enum Frame<'p> {
-    Value(InValue<'p>),
-    Statement(InStatement<'p>),
+    Value(Boxed<InValue<'p>>),
+    Statement(Boxed<InStatement<'p>>),
     Block(InBlock<'p>),
     Element(Boxed<InElement<'p>>),
     Clauses(Boxed<InClauses<'p>>),
@@ -244,7 +244,7 @@ pub(crate) enum Control<'p> {
     /// A fault in the place of what a comprehension has gathered.
     Lost(Fault),
     /// The host is asked about a native.
-    Ask(Asking, Question),
+    Ask(Asking, Boxed<Question>),
 }
 
 /// The number of the file whose code runs, and the functions of all files.

@@ -9,8 +9,8 @@ ghost use Rattle.star_eval.specs.Frames.{GoesToValue};
 ghost use Rattle.star_eval.specs.Meets.{GivesFrom, arena_of};
 ghost use Rattle.star_eval.specs.View.{Sound, arena_in, default_of, making_of, setting_of};
 
-use crate::frame::{Control, Frame, InValue, Machine, Making};
-use crate::machine::{push, settle};
+use crate::frame::{Control, InValue, Machine, Making};
+use crate::machine::{push_value, settle};
 use crate::session::Session;
 use object_arena::{Boxes, Value, Values};
 use sqlite_items::Items;
@@ -62,7 +62,7 @@ pub(crate) fn make_function<'p>(
         None => made(m, making, defaults),
         Some((expr, rest)) => {
             let frame = InValue::Default(making, rest, defaults);
-            push(m, Frame::Value(frame), Control::Eval(expr))
+            push_value(m, frame, Control::Eval(expr))
         }
     }
 }

@@ -9,15 +9,15 @@ ghost use Rattle.star_eval.specs.View.{OwnsFrame, OwnsInStatement, OwnsInValue, 
 ghost use Rattle.star_eval.specs.Waiting.{statement_goes, value_goes};
 
 use crate::arguments::{argued, call_with, no_arguments, note_argued};
-use crate::assign::{augment_at, augmented, augmented_at, name_gets, next_target};
+use crate::assign::{augment_at, augmented, augmented_at, name_gets, next_target, target_gets};
 use crate::calls::{next_key, restore};
 use crate::comprehensions::{first, give_element};
 use crate::dicts::pair;
-use crate::eval::{attribute, gather, operated, operated_on};
+use crate::eval::{attribute, gather, operated, operated_on, right_operand};
 use crate::frame::{Control, Flow, Frame, InStatement, InValue, Machine};
 use crate::functions::make_function;
 use crate::indexes::give_index;
-use crate::machine::{failed, push, settle_flow};
+use crate::machine::{failed, push_value, settle_flow};
 use crate::natives::resume;
 use crate::run::{choose, within};
 use crate::walk::walk;
@@ -39,17 +39,17 @@ pub(crate) fn give<'p>(
     ensures { IfOk result (λ c. Goes (arena_in m.old) m.new c (inside m.old (waiting_with m.old frame.entry) (control.Gave value))) }
 {
     match frame {
-        Frame::Value(inner) => give_value(m, inner, value),
-        Frame::Statement(inner) => give_statement(m, inner, value),
+        Frame::Value(inner) => give_value(m, inner.into_inner(), value),
+        Frame::Statement(inner) => give_statement(m, inner.into_inner(), value),
         Frame::Element(inner) => give_element(m, inner.into_inner(), value),
         Frame::Call(caller) => {
             restore(m, caller.into_inner());
             Ok(Control::Gave(value))
         }
-        Frame::Native(pending) => Ok(resume(m, pending.into_inner(), Ok(value))),
-        Frame::Block(inner) => Ok(misplaced(m, Frame::Block(inner))),
-        Frame::Clauses(inner) => Ok(misplaced(m, Frame::Clauses(inner))),
-        Frame::Gather(scope) => Ok(misplaced(m, Frame::Gather(scope))),
+        Frame::Native(pending) => resume(m, pending.into_inner(), Ok(value)),
+        Frame::Block(inner) => misplaced(m, Frame::Block(inner)),
+        Frame::Clauses(inner) => misplaced(m, Frame::Clauses(inner)),
+        Frame::Gather(scope) => misplaced(m, Frame::Gather(scope)),
     }
 }
 
@@ -65,10 +65,7 @@ fn give_value<'p>(
     ensures { GoesToValue result m.new m.old (value_goes (setting_of m.old) (value_frame (arena_in m.old) m.old.code.file frame.entry) (value_of (arena_in m.old) value)) }
 {
     match frame {
-        InValue::Right(place, op, right) => {
-            let frame = Frame::Value(InValue::Operate(place, op, value));
-            push(m, frame, Control::Eval(right))
-        }
+        InValue::Right(place, op, right) => right_operand(m, place, op, value, right),
         InValue::Operate(place, op, left) => operated(m, place, op, left, value),
         InValue::OperateOn(place, op) => operated_on(m, place, op, value),
         InValue::Member(gathering, rest, mut values) => {
@@ -98,8 +95,8 @@ fn give_value<'p>(
         }
         InValue::Targets(place, targets, source) => next_target(m, place, targets, source),
         InValue::KeyOf(place, other, rest, pairs) => {
-            let frame = Frame::Value(InValue::PairOf(place, value, rest, pairs));
-            push(m, frame, Control::Eval(other))
+            let frame = InValue::PairOf(place, value, rest, pairs);
+            push_value(m, frame, Control::Eval(other))
         }
         InValue::PairOf(place, key, rest, pairs) => pair(m, place, key, value, rest, pairs),
         InValue::Index(inner) => give_index(m, inner, value),
@@ -137,10 +134,7 @@ fn give_statement<'p>(
 {
     match frame {
         InStatement::Discard => Ok(Control::Went(Flow::On)),
-        InStatement::AssignTo(place, target) => {
-            let frame = Frame::Statement(InStatement::Discard);
-            push(m, frame, Control::Assign(place, target, value))
-        }
+        InStatement::AssignTo(place, target) => target_gets(m, place, target, value),
         InStatement::Augment(place, op, at, name, old) => {
             augmented(m, place, op, at, name, old, value)
         }

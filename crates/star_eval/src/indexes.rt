@@ -12,8 +12,8 @@ ghost use Rattle.star_eval.specs.Doing.{bound_then, cut, evaluated};
 ghost use Rattle.star_eval.specs.View.{OwnsInIndex, Sound, arena_in, index_frame, setting_of};
 ghost use Rattle.star_eval.specs.Waiting.{cut_at, end_of, step_of, value_goes, with_none};
 
-use crate::frame::{Bound, Control, Frame, InIndex, InValue, Machine};
-use crate::machine::{push, settle, settle_none};
+use crate::frame::{Bound, Control, InIndex, InValue, Machine};
+use crate::machine::{push_value, settle, settle_none};
 use crate::session::set_at;
 use object_arena::{Cut, Value};
 use star_tree::code::Expr;
@@ -30,7 +30,7 @@ pub(crate) fn within_index<'p>(
     requires frame { OwnsInIndex (arena_in m.old) frame }
     ensures { GoesToValue result m.new m.old (λ s. then_do (evaluated (setting_of m.old) (expr_of m.old.code.file expr.now) s) (value_goes (setting_of m.old) (index_frame (arena_in m.old) m.old.code.file frame.entry))) }
 {
-    push(m, Frame::Value(InValue::Index(frame)), Control::Eval(expr))
+    push_value(m, InValue::Index(frame), Control::Eval(expr))
 }
 
 /// A value in an index, in a slice, or in a target that is an index.

@@ -81,7 +81,7 @@ fn step<'p>(m: &mut Machine<'p>, control: Control<'p>) -> Result<Control<'p>, Me
         },
         Control::Failed(fault) => match m.frames.pop() {
             None => Ok(Control::Failed(fault)),
-            Some(frame) => Ok(fail(m, frame, fault)),
+            Some(frame) => fail(m, frame, fault),
         },
         Control::Run(block) => run(m, block),
         Control::Went(flow) => match m.frames.pop() {
@@ -90,7 +90,7 @@ fn step<'p>(m: &mut Machine<'p>, control: Control<'p>) -> Result<Control<'p>, Me
         },
         Control::Left(fault) => match m.frames.pop() {
             None => Ok(Control::Left(fault)),
-            Some(frame) => Ok(fail(m, frame, fault)),
+            Some(frame) => fail(m, frame, fault),
         },
         Control::Assign(place, target, value) => assign(m, place, target, value),
         Control::Clauses(place, rest, bag) => clauses(m, place, rest, bag),
@@ -100,7 +100,7 @@ fn step<'p>(m: &mut Machine<'p>, control: Control<'p>) -> Result<Control<'p>, Me
         },
         Control::Lost(fault) => match m.frames.pop() {
             None => Ok(Control::Lost(fault)),
-            Some(frame) => Ok(fail(m, frame, fault)),
+            Some(frame) => fail(m, frame, fault),
         },
         Control::Ask(_, _) => unreachable!(),
     }
@@ -137,7 +137,7 @@ fn turn<'p, H: Host>(
     ensures { IfOk result (λ c. Comes H.answers (arena_in m.old) m.new c host.new (hosted_at H.answers (means m.old control.entry) host.old)) }
 {
     match control {
-        Control::Ask(asking, question) => ask(m, host, asking, question),
+        Control::Ask(asking, question) => ask(m, host, asking, question.into_inner()),
         other => step(m, other),
     }
 }

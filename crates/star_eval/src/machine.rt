@@ -1,14 +1,17 @@
 // What is put on others, and ways to end.
-ghost use Rattle.std.specs.Prelude.{◌≡◌, IfOk};
+ghost use Rattle.std.specs.Prelude.{◌≡◌, ◌∷◌, IfOk};
 ghost use Rattle.ytt_base.specs.declared.fault.FaultKind.TheVariants as kind;
 ghost use Rattle.ytt_base.specs.Outcomes.{fault_at, fault_of};
 ghost use Rattle.star_eval.specs.declared.frame.Control.TheVariants as control;
 ghost use Rattle.star_eval.specs.Frames.{Goes, inside};
-ghost use Rattle.star_eval.specs.Settled.{Settles, SettlesFlow, SettlesNone};
-ghost use Rattle.star_eval.specs.View.{OwnsControl, OwnsFrame, Sound, arena_in, waiting_with};
+ghost use Rattle.star_eval.specs.Settled.{Settles, SettlesFlow, SettlesNone, SettlesRun};
+ghost use Rattle.star_eval.specs.View.{OwnsControl, OwnsFrame, OwnsInStatement, OwnsInValue, Sound, arena_in, statement_frame, value_frame, waiting_in, waiting_with};
+ghost use Rattle.star_eval.specs.Waiting.{in_statement, in_value};
 
-use crate::frame::{Control, Flow, Frame, Machine};
+use crate::frame::{Control, Flow, Frame, InStatement, InValue, Machine};
 use object_arena::{Arena, Value};
+use sqlite_items::Boxed;
+use star_blocks::Op;
 use ytt_base::fault::{Fault, FaultKind, Place, Stop};
 use ytt_base::text::{Memory, Text};
 
@@ -25,6 +28,36 @@ pub(crate) fn push<'p>(
 {
     m.frames.push(frame)?;
     Ok(control)
+}
+
+/// The same, in a frame where a value goes on to a value.
+pub(crate) fn push_value<'p>(
+    m: &mut Machine<'p>,
+    frame: InValue<'p>,
+    control: Control<'p>,
+) -> Result<Control<'p>, Memory>
+    requires sound { Sound m.old }
+    requires frame { OwnsInValue (arena_in m.old) frame }
+    requires control { OwnsControl (arena_in m.old) control }
+    ensures { IfOk result (λ c. Goes (arena_in m.old) m.new c (inside m.old (in_value (value_frame (arena_in m.old) m.old.code.file frame.entry) ∷ waiting_in m.old) control.entry)) }
+{
+    let boxed = Boxed::new(m.session.arena.alloc(), frame)?;
+    push(m, Frame::Value(boxed), control)
+}
+
+/// The same, where it goes on to the end of a statement.
+pub(crate) fn push_statement<'p>(
+    m: &mut Machine<'p>,
+    frame: InStatement<'p>,
+    control: Control<'p>,
+) -> Result<Control<'p>, Memory>
+    requires sound { Sound m.old }
+    requires frame { OwnsInStatement (arena_in m.old) frame }
+    requires control { OwnsControl (arena_in m.old) control }
+    ensures { IfOk result (λ c. Goes (arena_in m.old) m.new c (inside m.old (in_statement (statement_frame (arena_in m.old) m.old.code.file frame.entry) ∷ waiting_in m.old) control.entry)) }
+{
+    let boxed = Boxed::new(m.session.arena.alloc(), frame)?;
+    push(m, Frame::Statement(boxed), control)
 }
 
 /// What a call that gives a value comes to.
@@ -55,6 +88,17 @@ pub(crate) fn settle_flow<'p>(done: Result<(), Stop>) -> Result<Control<'p>, Mem
 {
     match done {
         Ok(_) => Ok(Control::Went(Flow::On)),
+        Err(Stop::Fault(fault)) => Ok(Control::Left(fault)),
+        Err(Stop::Memory) => Err(Memory),
+    }
+}
+
+/// The same, with a block that runs then.
+pub(crate) fn settle_run<'p>(done: Result<(), Stop>, body: &'p [Op]) -> Result<Control<'p>, Memory>
+    ensures { SettlesRun body.entry done result }
+{
+    match done {
+        Ok(_) => Ok(Control::Run(body)),
         Err(Stop::Fault(fault)) => Ok(Control::Left(fault)),
         Err(Stop::Memory) => Err(Memory),
     }

@@ -145,12 +145,14 @@ pub(crate) fn resume<'p>(
     m: &mut Machine<'p>,
     pending: Pending,
     got: Result<Value, Fault>,
-) -> Control<'p>
+) -> Result<Control<'p>, Memory>
     requires sound { Sound m.old }
     requires pending { OwnsPending (arena_in m.old) pending }
     requires got { OwnsGot (arena_in m.old) got }
-    ensures { Goes (arena_in m.old) m.new result (inside m.old (native_frame (arena_in m.old) pending ∷ waiting_in m.old) (answer_of got)) }
+    ensures { IfOk result (λ c. Goes (arena_in m.old) m.new c (inside m.old (native_frame (arena_in m.old) pending ∷ waiting_in m.old) (answer_of got))) }
 {
+    let question = Question::Resumed(pending.tag, got);
+    let question = Boxed::new(m.session.arena.alloc(), question)?;
     m.nodes = pending.nodes;
-    Control::Ask(pending.asking, Question::Resumed(pending.tag, got))
+    Ok(Control::Ask(pending.asking, question))
 }

@@ -12,7 +12,7 @@ ghost use Rattle.star_eval.specs.View.{Sound, nodes_in, setting_of};
 
 use crate::arguments::{no_arguments, note_with};
 use crate::frame::{Control, Flow, Frame, InBlock, InStatement, Machine};
-use crate::machine::{ill_flow, left, push, settle_flow};
+use crate::machine::{ill_flow, left, push_statement, settle_flow};
 use star_blocks::Op;
 use star_tree::code::NodeOp;
 use star_tree::{Holds, ItemKind};
@@ -51,11 +51,7 @@ fn build<'p>(m: &mut Machine<'p>, part: &'p NodeOp) -> Result<Control<'p>, Memor
         NodeOp::End(_) => settle_flow(m.nodes.end()),
         NodeOp::ValueFrom(_, expr) => {
             if m.nodes.holds_two() {
-                push(
-                    m,
-                    Frame::Statement(InStatement::Take),
-                    Control::Eval(expr.get()),
-                )
+                push_statement(m, InStatement::Take, Control::Eval(expr.get()))
             } else {
                 Ok(ill_flow(m))
             }

@@ -14,10 +14,10 @@ ghost use Rattle.star_eval.specs.Waiting.{statement_goes};
 
 use crate::frame::{Control, Flow, Frame, InBlock, InStatement, Machine, Making};
 use crate::functions::make_function;
-use crate::machine::{ill_flow, left, push};
+use crate::machine::{ill_flow, left, push_statement};
 use crate::names::read;
 use crate::parts::node_part;
-use sqlite_items::Items;
+use sqlite_items::{Boxed, Items};
 use star_blocks::{Arm, Op, Statement};
 use star_tree::code::{BinOp, Expr, Param};
 use ytt_base::fault::{FaultKind, Place, Stop};
@@ -74,6 +74,9 @@ fn run_statement<'p>(
     requires { Sound m.old }
     ensures { GoesToFlow result m.new m.old (λ s. then_do (op_done (setting_of m.old) (statement_of m.old.code.file statement.now) (nodes_in m.old) s) (go_on (through (setting_of m.old) (ops_of m.old.code.file rest.now)))) }
 {
+    if rest.is_empty() {
+        return begin(m, statement);
+    }
     m.frames.push(Frame::Block(InBlock::Rest(rest)))?;
     begin(m, statement)
 }
@@ -138,8 +141,8 @@ fn define<'p>(
     requires { Sound m.old }
     ensures { GoesToFlow result m.new m.old (λ s. then_do (making (setting_of m.old) (record { place = place; name = name.now; number = number }) (parameters_of m.old.code.file params.now) [] s) (λ f. concluded (write_name place name.now f (box_of name.now (setting_of m.old).env)) (nodes_in m.old))) }
 {
-    m.frames
-        .push(Frame::Statement(InStatement::Bind(place, name)))?;
+    let frame = Boxed::new(m.session.arena.alloc(), InStatement::Bind(place, name))?;
+    m.frames.push(Frame::Statement(frame))?;
     let making = Making {
         place,
         name: Some(name),
@@ -159,7 +162,7 @@ pub(crate) fn within<'p>(
     requires frame { OwnsInStatement (arena_in m.old) frame }
     ensures { GoesToFlow result m.new m.old (λ s. then_do (evaluated (setting_of m.old) (expr_of m.old.code.file expr.now) s) (λ v. statement_goes (setting_of m.old) (statement_frame (arena_in m.old) m.old.code.file frame.entry) v (nodes_in m.old))) }
 {
-    push(m, Frame::Statement(frame), Control::Eval(expr))
+    push_statement(m, frame, Control::Eval(expr))
 }
 
 /// An augmented assignment, with its operator at this place.

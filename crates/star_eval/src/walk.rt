@@ -15,10 +15,12 @@ ghost use Rattle.star_eval.specs.View.{Sound, arena_in, nodes_in, setting_of};
 ghost use Rattle.star_eval.specs.Waiting.{turn_of, walked};
 
 use crate::frame::{Control, Flow, Frame, InBlock, InStatement, Machine};
-use crate::machine::{left, push};
+use crate::machine::{left, push_statement, settle_run};
+use crate::names::write;
 use crate::session::Session;
 use crate::source::{Members, Source, members_of};
 use object_arena::{Ref, Value};
+use sqlite_items::Boxed;
 use star_blocks::Op;
 use star_tree::code::Expr;
 use ytt_base::fault::{FaultKind, Place};
@@ -125,8 +127,36 @@ fn enter<'p>(
     requires source { OwnsSource (arena_in m.old) source }
     ensures { GoesToFlow result m.new m.old (λ s. then_do (turn_of (setting_of m.old) place (expr_of m.old.code.file target.now) (ops_of m.old.code.file body.now) (value_of (arena_in m.old) value) (nodes_in m.old) s) (next_turn (turns place (turn_of (setting_of m.old) place (expr_of m.old.code.file target.now) (ops_of m.old.code.file body.now)) (left_of (arena_in m.old) source)))) }
 {
-    m.frames
-        .push(Frame::Block(InBlock::Turn(place, target, body, source)))?;
-    let frame = Frame::Statement(InStatement::Enter(body));
-    push(m, frame, Control::Assign(place, target, value))
+    let source = Boxed::new(m.session.arena.alloc(), source)?;
+    let frame = InBlock::Turn(place, target, body, source);
+    m.frames.push(Frame::Block(frame))?;
+    bound(m, place, target, body, value)
+}
+
+/// A block behind its target, which gets a value.
+fn bound<'p>(
+    m: &mut Machine<'p>,
+    place: Place,
+    target: &'p Expr,
+    body: &'p [Op],
+    value: Value,
+) -> Result<Control<'p>, Memory>
+    requires sound { Sound m.old }
+    requires value { Owns (arena_in m.old) value }
+    ensures { GoesToFlow result m.new m.old (turn_of (setting_of m.old) place (expr_of m.old.code.file target.now) (ops_of m.old.code.file body.now) (value_of (arena_in m.old) value) (nodes_in m.old)) }
+{
+    match target {
+        Expr::Name(line, name) => {
+            let at = Place {
+                file: m.code.file,
+                line: *line,
+            };
+            let done = write(&mut m.session, m.scope.as_slice(), at, name, value);
+            settle_run(done, body)
+        }
+        _ => {
+            let control = Control::Assign(place, target, value);
+            push_statement(m, InStatement::Enter(body), control)
+        }
+    }
 }

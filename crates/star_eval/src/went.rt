@@ -38,12 +38,12 @@ pub(crate) fn went<'p>(
     match frame {
         Frame::Block(inner) => go_on(m, inner, flow),
         Frame::Call(caller) => returned(m, caller.into_inner(), flow),
-        Frame::Value(inner) => Ok(misplaced(m, Frame::Value(inner))),
-        Frame::Statement(inner) => Ok(misplaced(m, Frame::Statement(inner))),
-        Frame::Element(inner) => Ok(misplaced(m, Frame::Element(inner))),
-        Frame::Clauses(inner) => Ok(misplaced(m, Frame::Clauses(inner))),
-        Frame::Gather(scope) => Ok(misplaced(m, Frame::Gather(scope))),
-        Frame::Native(pending) => Ok(misplaced(m, Frame::Native(pending))),
+        Frame::Value(inner) => misplaced(m, Frame::Value(inner)),
+        Frame::Statement(inner) => misplaced(m, Frame::Statement(inner)),
+        Frame::Element(inner) => misplaced(m, Frame::Element(inner)),
+        Frame::Clauses(inner) => misplaced(m, Frame::Clauses(inner)),
+        Frame::Gather(scope) => misplaced(m, Frame::Gather(scope)),
+        Frame::Native(pending) => misplaced(m, Frame::Native(pending)),
     }
 }
 
@@ -62,8 +62,8 @@ fn go_on<'p>(m: &mut Machine<'p>, frame: InBlock<'p>, flow: Flow) -> Result<Cont
             Flow::Return(value) => Ok(Control::Went(Flow::Return(value))),
         },
         InBlock::Turn(place, target, body, source) => match flow {
-            Flow::On => turn(m, place, target, body, source),
-            Flow::Continue => turn(m, place, target, body, source),
+            Flow::On => turn(m, place, target, body, source.into_inner()),
+            Flow::Continue => turn(m, place, target, body, source.into_inner()),
             Flow::Break => Ok(Control::Went(Flow::On)),
             Flow::Return(value) => Ok(Control::Went(Flow::Return(value))),
         },
@@ -88,12 +88,12 @@ pub(crate) fn bagged<'p>(
     match frame {
         Frame::Clauses(inner) => next_clause_turn(m, inner.into_inner(), bag),
         Frame::Gather(scope) => gathered(m, scope, bag),
-        Frame::Value(inner) => Ok(misplaced(m, Frame::Value(inner))),
-        Frame::Statement(inner) => Ok(misplaced(m, Frame::Statement(inner))),
-        Frame::Block(inner) => Ok(misplaced(m, Frame::Block(inner))),
-        Frame::Element(inner) => Ok(misplaced(m, Frame::Element(inner))),
-        Frame::Call(caller) => Ok(misplaced(m, Frame::Call(caller))),
-        Frame::Native(pending) => Ok(misplaced(m, Frame::Native(pending))),
+        Frame::Value(inner) => misplaced(m, Frame::Value(inner)),
+        Frame::Statement(inner) => misplaced(m, Frame::Statement(inner)),
+        Frame::Block(inner) => misplaced(m, Frame::Block(inner)),
+        Frame::Element(inner) => misplaced(m, Frame::Element(inner)),
+        Frame::Call(caller) => misplaced(m, Frame::Call(caller)),
+        Frame::Native(pending) => misplaced(m, Frame::Native(pending)),
     }
 }
 
@@ -139,34 +139,38 @@ fn end(session: &mut Session, object: Ref)
 }
 
 /// A fault in the hole of a frame, which ends its walk, brings the scope and the nodes of a caller back, and is told to a native.
-pub(crate) fn fail<'p>(m: &mut Machine<'p>, frame: Frame<'p>, fault: Fault) -> Control<'p>
+pub(crate) fn fail<'p>(
+    m: &mut Machine<'p>,
+    frame: Frame<'p>,
+    fault: Fault,
+) -> Result<Control<'p>, Memory>
     requires sound { Sound m.old }
     requires frame { OwnsFrame (arena_in m.old) frame }
-    ensures { Goes (arena_in m.old) m.new result (inside m.old (waiting_with m.old frame.entry) (control.Failed fault)) }
+    ensures { IfOk result (λ c. Goes (arena_in m.old) m.new c (inside m.old (waiting_with m.old frame.entry) (control.Failed fault))) }
 {
     match frame {
-        Frame::Value(_inner) => Control::Failed(fault),
-        Frame::Statement(_inner) => Control::Left(fault),
-        Frame::Block(inner) => leave_block(m, inner, fault),
-        Frame::Element(_inner) => Control::Lost(fault),
-        Frame::Clauses(inner) => leave_clauses(m, inner.into_inner(), fault),
+        Frame::Value(_inner) => Ok(Control::Failed(fault)),
+        Frame::Statement(_inner) => Ok(Control::Left(fault)),
+        Frame::Block(inner) => Ok(leave_block(m, inner, fault)),
+        Frame::Element(_inner) => Ok(Control::Lost(fault)),
+        Frame::Clauses(inner) => Ok(leave_clauses(m, inner.into_inner(), fault)),
         Frame::Gather(scope) => {
             m.scope = scope;
-            Control::Failed(fault)
+            Ok(Control::Failed(fault))
         }
         Frame::Call(caller) => {
             restore(m, caller.into_inner());
-            Control::Failed(fault)
+            Ok(Control::Failed(fault))
         }
         Frame::Native(pending) => resume(m, pending.into_inner(), Err(fault)),
     }
 }
 
 /// What comes where a frame waits for something else: the program is in no proper form.
-pub(crate) fn misplaced<'p>(m: &mut Machine<'p>, frame: Frame<'p>) -> Control<'p>
+pub(crate) fn misplaced<'p>(m: &mut Machine<'p>, frame: Frame<'p>) -> Result<Control<'p>, Memory>
     requires sound { Sound m.old }
     requires frame { OwnsFrame (arena_in m.old) frame }
-    ensures { Goes (arena_in m.old) m.new result (inside m.old (waiting_with m.old frame.entry) (control.Failed (fault_of kind.CodeForm))) }
+    ensures { IfOk result (λ c. Goes (arena_in m.old) m.new c (inside m.old (waiting_with m.old frame.entry) (control.Failed (fault_of kind.CodeForm)))) }
 {
     let fault = form_fault(&m.session.arena);
     fail(m, frame, fault)

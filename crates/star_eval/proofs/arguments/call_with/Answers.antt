@@ -31,8 +31,8 @@ returns-in-Some c =
     let e = expr_of f c.in-Some.first.now in
     let es = exprs_of f c.in-Some.rest.now in
     let some = c.in-Some.ensures.cases.0 in
-    goes _ c.push.result c.push.new.m
+    goes _ c.push_value.result c.push_value.new.m
     (ap (around_value m (waiting_in m))
     ((λ i. then_do (evaluated (setting_of m) (c.argument.ensures.value i) s) (argument_then (setting_of m) (c.argument.ensures.form i) es before then))
     ∙ sym (ap (λ xs. arguments_then (setting_of m) (exprs_of f xs) before then s) some ∙ (λ i. argument_first (setting_of m) before then e es i s))))
-    c.push.ensures
+    c.push_value.ensures

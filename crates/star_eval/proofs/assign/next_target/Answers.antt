@@ -11,11 +11,11 @@ use Rattle.star_eval.proofs.Going.{goes}
 use Rattle.star_eval.proofs.Rows.{first_assigned, none_assigned}
 use Rattle.star_eval.proofs.assign.next_target.Goals as goal
 
-pub push-requires-clause-frame : goal.push-requires-clause-frame
-push-requires-clause-frame c = let h = c.in_ok-advance.ensures (arena_in c.args.m.now) c.requires.source in search (rules, h)
+pub push_value-requires-clause-frame : goal.push_value-requires-clause-frame
+push_value-requires-clause-frame c = let h = c.in_ok-advance.ensures (arena_in c.args.m.now) c.requires.source in search (rules, h)
 
-pub push-requires-clause-control : goal.push-requires-clause-control
-push-requires-clause-control c = let h = c.in_ok-advance.ensures (arena_in c.args.m.now) c.requires.source in search (rules, h)
+pub push_value-requires-clause-control : goal.push_value-requires-clause-control
+push_value-requires-clause-control c = let h = c.in_ok-advance.ensures (arena_in c.args.m.now) c.requires.source in search (rules, h)
 
 pub returns-in-None-2 : goal.returns-in-None-2
 returns-in-None-2 c =
@@ -36,8 +36,8 @@ returns-in-Some-2 c =
     let h = c.in_ok-advance.ensures a c.requires.source in
     let first : left_of a c.args.source ≡ value_of a c.in-Some-2.value ∷ left_of a c.in-Some-2.source = search (rules, h) in
     let targets : exprs_of m.code.file c.args.targets.now ≡ an_expr (expr_of m.code.file c.in-Some.target.now) (exprs_of m.code.file c.in-Some.rest.now) = search rules in
-    goes _ c.push.result c.push.new.m
+    goes _ c.push_value.result c.push_value.new.m
     (ap (around_value m (waiting_in m))
     (first_assigned c.args.place (setting_of m) (expr_of m.code.file c.in-Some.target.now) (exprs_of m.code.file c.in-Some.rest.now) (exprs_of m.code.file c.args.targets.now) (value_of a c.in-Some-2.value) (left_of a c.in-Some-2.source) (left_of a c.args.source) (state_of m.session) targets
     first))
-    c.push.ensures
+    c.push_value.ensures

@@ -16,9 +16,9 @@ returns-then-is_hosted c =
     let p = c.args.place in
     let given = subst (OwnsArguments a) (sym c.requires.args) ((c.requires.member, tt), tt) in
     let g = asked_host m c.args.left p c.args.native c.args.args c.requires.sound c.requires.native (sym c.is_hosted.ensures ∙ c.if-is_hosted.true) given in
-    record {
+    rw c.in_ok-question.ensures (record {
       same = g.same ∙ ap (λ args. around_value m (waiting_in m) (calls_from (setting_of m).function c.args.left p (value_of a (value.Native c.args.native)) (arguments_in a.held args) (state_of m.session))) c.requires.args;
       sound = g.sound;
       owned = g.owned;
       grows = g.grows;
-    }
+    })

@@ -1,4 +1,4 @@
-use Rattle.std.proofs.Common.{◌≡◌, length, None, Some, ap, option_map, slice_get, sym, ◌∙◌}
+use Rattle.std.proofs.Common.{◌≡◌, ◌++◌, ◌∷◌, [], length, None, Some, ap, option_map, slice_get, sym, ◌∙◌}
 use Rattle.builtin_spec.specs.Sorting.{wanted_row}
 use Rattle.star_sorting.specs.View.{wanted_of}
 use Rattle.star_steps.proofs.Meeting.{gives_same}
@@ -9,6 +9,7 @@ use Rattle.star_eval.specs.Asking.{called_with, keys_in}
 use Rattle.star_eval.specs.Frames.{around_value}
 use Rattle.star_eval.specs.Meets.{state_of}
 use Rattle.star_eval.specs.View.{arena_in, setting_of, waiting_in}
+use Rattle.star_eval.specs.declared.frame.Frame.TheVariants as frame
 use Rattle.star_eval.specs.declared.frame.InValue.TheVariants as in_value
 use Rattle.star_eval.proofs.Asking.{at_next, first_wanting, none_wanting, pushed}
 use Rattle.star_eval.proofs.Going.{gives_on, goes}
@@ -36,6 +37,6 @@ returns c =
     let p = c.args.place in
     let some : slice_get (values_of a c.args.members) (length (values_of a c.args.keys)) ≡ Some v = at_next a c.args.members c.args.keys c.len.result c.len.ensures ∙ ap (option_map (value_in a.held)) (sym c.in-Some.ensures.value) in
     goes _ c.call_for_key.result c.call_for_key.new.m
-    (pushed m c.push.new.self (in_value.Key c.args.left p c.args.wanted c.args.function c.args.members c.args.keys) c.in_ok-push-in-Some.ensures.ok (called_with m c.args.left p c.args.function c.in-Some.member.now (state_of m.session))
+    (pushed m c.push.new.self (in_value.Key c.args.left p c.args.wanted c.args.function c.args.members c.args.keys) (c.in_ok-push-in-Some.ensures.ok ∙ ap (λ x. m.frames ++ frame.Value x ∷ []) c.in_ok-boxed-in-Some.ensures) (called_with m c.args.left p c.args.function c.in-Some.member.now (state_of m.session))
     ∙ ap (around_value m (waiting_in m)) (sym (first_wanting (setting_of m) c.args.left p (wanted_of c.args.wanted) (value_of a c.args.function) (values_of a c.args.members) (values_of a c.args.keys) v (state_of m.session) some)))
     c.call_for_key.ensures

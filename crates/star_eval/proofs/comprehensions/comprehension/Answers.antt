@@ -28,10 +28,10 @@ returns-in-Some-ForIn-default c =
     let is : clauses_of f c.args.clauses.now ≡ plain.for_clause x e cs =
     ap (clauses_of f) (sym c.as_slice.ensures ∙ n.ensures.cases.0) ∙ ap (λ x. clauses_from (x ∷ each (clause_of f) n._rest.now)) (ap (clause_of f) n.field-0-0-is ∙ clause_of-ForIn f n._target n.members) in
     let members : expr_of f c.get.result.now ≡ e = grind (arith, common_steps) in
-    goes _ c.push.result c.push.new.m
+    goes _ c.push_value.result c.push_value.new.m
     (ap (around_value m (waiting_in m))
     ((λ i. then_do (evaluated here (members i) s) (first_done here p (clauses_of f c.args.clauses.now) b))
     ∙ (λ i. then_do (evaluated here e s) (first_done here p (is i) b))
     ∙ (λ i. sym (comprehended_first here p x e cs b) i s)
     ∙ sym (ap (λ cs. comprehended here p cs b s) is)))
-    c.push.ensures
+    c.push_value.ensures

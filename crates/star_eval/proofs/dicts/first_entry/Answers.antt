@@ -34,7 +34,7 @@ returns c =
     let rest = entries_of m.code.file c.args.rest.now in
     let key : (entry_of m.code.file c.args.entry.now).key ≡ expr_of m.code.file c.get-2.result.now = grind (arith, common_steps, the_lemmas) in
     let value : (entry_of m.code.file c.args.entry.now).value ≡ expr_of m.code.file c.get.result.now = grind (arith, common_steps, the_lemmas) in
-    goes _ c.push.result c.push.new.m
+    goes _ c.push_value.result c.push_value.new.m
     (sym ((λ i. around_value m (waiting_in m) (key_first (setting_of m) c.args.place (entry_of m.code.file c.args.entry.now).key (entry_of m.code.file c.args.entry.now).value rest ps i s))
     ∙ (λ i. around_value m (waiting_in m) (then_do (evaluated (setting_of m) (key i) s) (value_goes (setting_of m) (key_of c.args.place (value i) rest ps))))))
-    c.push.ensures
+    c.push_value.ensures

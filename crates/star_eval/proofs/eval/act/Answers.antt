@@ -22,10 +22,10 @@ returns-in-Binary c =
     let s = state_of m.session in
     let b = c.in-Binary in
     let is : expr_of m.code.file c.args.expr.now ≡ plain.binary (place_at m.code.file b.field-0) (binary_operator_of b.op) (expr_of m.code.file b.a) (expr_of m.code.file b.b) = ap (expr_of m.code.file) b.is ∙ expr_of-Binary m.code.file b.field-0 b.op b.a b.b in
-    goes _ c.push-in-Binary.result c.push-in-Binary.new.m
-    ((λ i. around_value m (waiting_in m) (then_do (evaluated (setting_of m) (expr_of m.code.file (c.get-in-Binary-2.ensures i)) s) (λ x. evaluated (setting_of m) (expr_of m.code.file (c.get-in-Binary.ensures i)) >>= operator_row c.args.place (binary_operator_of b.op) x)))
+    goes _ c.binary.result c.binary.new.m
+    ((λ i. around_value m (waiting_in m) (then_do (evaluated (setting_of m) (expr_of m.code.file (c.get-in-Binary.ensures i)) s) (λ x. evaluated (setting_of m) (expr_of m.code.file (c.get-in-Binary-2.ensures i)) >>= operator_row c.args.place (binary_operator_of b.op) x)))
     ∙ sym (ap (λ e. around_value m (waiting_in m) (acted (setting_of m) c.args.place e s)) is))
-    c.push-in-Binary.ensures
+    c.binary.ensures
 
 pub returns-in-Index : goal.returns-in-Index
 returns-in-Index c =
@@ -68,7 +68,7 @@ returns-in-Unary c =
     let s = state_of m.session in
     let b = c.in-Unary in
     let is : expr_of m.code.file c.args.expr.now ≡ plain.unary (place_at m.code.file b.field-0) (unary_operator_of b.op) (expr_of m.code.file b.a) = ap (expr_of m.code.file) b.is ∙ expr_of-Unary m.code.file b.field-0 b.op b.a in
-    goes _ c.push.result c.push.new.m
+    goes _ c.push_value.result c.push_value.new.m
     ((λ i. around_value m (waiting_in m) (then_do (evaluated (setting_of m) (expr_of m.code.file (c.get-in-Unary.ensures i)) s) (unary_row c.args.place (unary_operator_of b.op))))
     ∙ sym (ap (λ e. around_value m (waiting_in m) (acted (setting_of m) c.args.place e s)) is))
-    c.push.ensures
+    c.push_value.ensures

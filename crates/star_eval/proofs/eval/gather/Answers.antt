@@ -22,9 +22,9 @@ returns-in-Some c =
     let es = exprs_of f c.in-Some.rest.now in
     let g = gathering_of c.args.gathering in
     let is : exprs_of f c.args.members.now ≡ an_expr e es = ap (exprs_of f) c.in-Some.ensures.cases.0 in
-    goes _ c.push.result c.push.new.m
+    goes _ c.push_value.result c.push_value.new.m
     (ap (around_value m (waiting_in m))
     (sym (ap (λ xs. then_do (all_evaluated (setting_of m) xs s) (λ ws. gathered g (before ++ ws))) is
     ∙ then_assoc (evaluated (setting_of m) e s) (λ v t. then_do (all_evaluated (setting_of m) es t) (λ vs. give (v ∷ vs))) (λ ws. gathered g (before ++ ws))
     ∙ (λ i. then_do (evaluated (setting_of m) e s) (λ v t. then_assoc (all_evaluated (setting_of m) es t) (λ vs. give (v ∷ vs)) (λ ws. gathered g (before ++ ws)) i)))))
-    c.push.ensures
+    c.push_value.ensures

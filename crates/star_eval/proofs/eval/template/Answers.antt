@@ -18,7 +18,7 @@ returns-in-Some c =
     let ps = pieces_of f c.args.pieces.now in
     let e = expr_of f c.in-Some.expr.now in
     let some : first_shown ps ≡ Some e = sym (c.first_shown.ensures f) ∙ ap (option_map (λ x. expr_of f x.now)) c.in-Some.is in
-    goes _ c.push.result c.push.new.m (ap (around_value m (waiting_in m)) (sym (λ i. one_shown (setting_of m) c.args.place ps e some i (state_of m.session)))) c.push.ensures
+    goes _ c.push_value.result c.push_value.new.m (ap (around_value m (waiting_in m)) (sym (λ i. one_shown (setting_of m) c.args.place ps e some i (state_of m.session)))) c.push_value.ensures
 
 pub returns-in_ok-text-in-None : goal.returns-in_ok-text-in-None
 returns-in_ok-text-in-None c =

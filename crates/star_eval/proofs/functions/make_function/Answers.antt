@@ -26,4 +26,4 @@ returns-in-Some c =
     let e = expr_of f c.in-Some.expr.now in
     let rest = parameters_of f c.in-Some.rest.now in
     let some : next_default ps ≡ Some (e, rest) = sym (c.next_default.ensures f) ∙ ap (default_of f) c.in-Some.is in
-    goes _ c.push.result c.push.new.m (ap (around_value m (waiting_in m)) (sym (λ i. one_defaulted (setting_of m) (making_of c.args.making) before ps e rest some i (state_of m.session)))) c.push.ensures
+    goes _ c.push_value.result c.push_value.new.m (ap (around_value m (waiting_in m)) (sym (λ i. one_defaulted (setting_of m) (making_of c.args.making) before ps e rest some i (state_of m.session)))) c.push_value.ensures

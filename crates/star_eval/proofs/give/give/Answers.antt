@@ -1,4 +1,4 @@
-use Rattle.std.proofs.Common.{sym, ap, subst, ◌∙◌}
+use Rattle.std.proofs.Common.{IfOk, sym, ap, subst, ◌∙◌}
 use Rattle.star_values.specs.View.{value_of}
 use Rattle.value_spec.specs.Outcomes.{done}
 use Rattle.star_values.proofs.Growing.{grows_same}
@@ -26,7 +26,19 @@ returns-in-Call c =
       grows = grows_same a;
     })
 
+pub returns-in-Value : goal.returns-in-Value
+returns-in-Value c =
+    let m = c.args.m.now in
+    let is = c.in-Value.is ∙ ap frame.Value (sym c.into_inner.ensures) in
+    subst (λ f. IfOk c.give_value.result (λ k. Goes (arena_in m) c.give_value.new.m k (inside m (waiting_with m f) (control.Gave c.args.value)))) (sym is) c.give_value.ensures
+
+pub returns-in-Statement : goal.returns-in-Statement
+returns-in-Statement c =
+    let m = c.args.m.now in
+    let is = c.in-Statement.is ∙ ap frame.Statement (sym c.into_inner-in-Statement.ensures) in
+    subst (λ f. IfOk c.give_statement.result (λ k. Goes (arena_in m) c.give_statement.new.m k (inside m (waiting_with m f) (control.Gave c.args.value)))) (sym is) c.give_statement.ensures
+
 pub returns-in-Native : goal.returns-in-Native
 returns-in-Native c =
     let m = c.args.m.now in
-    subst (λ f. Goes (arena_in m) c.resume.new.m c.resume.result (inside m (waiting_with m f) (control.Gave c.args.value))) (sym (c.in-Native.is ∙ ap frame.Native (sym c.into_inner-in-Native.ensures))) c.resume.ensures
+    subst (λ f. IfOk c.resume.result (λ k. Goes (arena_in m) c.resume.new.m k (inside m (waiting_with m f) (control.Gave c.args.value)))) (sym (c.in-Native.is ∙ ap frame.Native (sym c.into_inner-in-Native.ensures))) c.resume.ensures

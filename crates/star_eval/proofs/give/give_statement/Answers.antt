@@ -8,11 +8,7 @@ use Rattle.star_eval.specs.Meets.{state_of}
 use Rattle.star_eval.specs.View.{arena_in, nodes_in, setting_of, statement_frame, waiting_in}
 use Rattle.star_eval.specs.Waiting.{statement_goes}
 use Rattle.star_eval.proofs.Going.{goes}
-use Rattle.star_spec.specs.Flow.{on}
-use Rattle.star_tree.specs.Whole.{expr_of}
-use Rattle.value_spec.specs.Outcomes.{give}
-use Rattle.star_eval.specs.Doing.{arms_done, assigned, through}
-use Rattle.star_eval.proofs.Chaining.{none_then}
+use Rattle.star_eval.specs.Doing.{arms_done, through}
 use Rattle.star_eval.proofs.give.give_statement.Goals as goal
 
 pub returns-in-Walk : goal.returns-in-Walk
@@ -37,13 +33,7 @@ pub returns-in-AssignTo : goal.returns-in-AssignTo
 returns-in-AssignTo c =
     let m = c.args.m.now in
     let a = arena_in m in
-    let b = c.in-AssignTo in
-    let k = nodes_in m in
-    let s = state_of m.session in
-    goes _ c.push.result c.push.new.m
-    (ap (around_flow m (waiting_in m)) (none_then (assigned (setting_of m) b.place (expr_of m.code.file b.target.now) (value_of a c.args.value) s) (give (on k))
-    ∙ sym (ap (λ f. statement_goes (setting_of m) (statement_frame a m.code.file f) (value_of a c.args.value) k s) b.is)))
-    c.push.ensures
+    goes _ c.target_gets.result c.target_gets.new.m (sym (ap (λ f. around_flow m (waiting_in m) (statement_goes (setting_of m) (statement_frame a m.code.file f) (value_of a c.args.value) (nodes_in m) (state_of m.session))) c.in-AssignTo.is)) c.target_gets.ensures
 
 pub returns-then-truth : goal.returns-then-truth
 returns-then-truth c =

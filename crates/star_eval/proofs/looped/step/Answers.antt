@@ -6,7 +6,7 @@ use Rattle.star_eval.specs.Meets.{state_of}
 use Rattle.star_eval.specs.View.{arena_in, frame_of, nodes_in, setting_of, waiting_in, waiting_under}
 use Rattle.star_eval.proofs.Going.{goes}
 use Rattle.star_eval.proofs.Popped.{popped_owned, popped_sound, popped_waits}
-use Rattle.star_eval.proofs.Sorts.{flow_fails}
+use Rattle.star_eval.proofs.Sorts.{bag_fails, flow_fails}
 use Rattle.star_eval.proofs.looped.step.Goals as goal
 
 pub fail-requires-clause-sound : goal.fail-requires-clause-sound
@@ -59,13 +59,9 @@ returns-in-Some-pop-3 c =
     let f = c.in-Left.fault in
     let n : Machine = record m { frames = c.pop-in-Left.new.self } in
     let w = frame_of (arena_in m) m.code c.in-Some-pop-3.frame in
-    let g = c.fail-in-Some-pop-3.ensures in
-    record {
-      same = g.same ∙ sym (ap (inside m (waiting_in m)) c.in-Left.is ∙ ap (λ ws. inside m ws (control.Left f)) (popped_waits m c.pop-in-Left.new.self c.in-Some-pop-3.frame c.in-Some-pop-3.ensures) ∙ flow_fails (setting_of m) (nodes_in m) (waiting_under n c.in-Some-pop-3.frame) f (state_of m.session) w);
-      sound = g.sound;
-      owned = g.owned;
-      grows = g.grows;
-    }
+    goes _ c.fail-in-Some-pop-3.result c.fail-in-Some-pop-3.new.m
+    (sym (ap (inside m (waiting_in m)) c.in-Left.is ∙ ap (λ ws. inside m ws (control.Left f)) (popped_waits m c.pop-in-Left.new.self c.in-Some-pop-3.frame c.in-Some-pop-3.ensures) ∙ flow_fails (setting_of m) (nodes_in m) (waiting_under n c.in-Some-pop-3.frame) f (state_of m.session) w))
+    c.fail-in-Some-pop-3.ensures
 
 pub returns-in-Some-pop-4 : goal.returns-in-Some-pop-4
 returns-in-Some-pop-4 c =
@@ -73,3 +69,20 @@ returns-in-Some-pop-4 c =
     goes _ c.bagged.result c.bagged.new.m
     (sym (ap (inside m (waiting_in m)) c.in-Bagged.is ∙ ap (λ ws. inside m ws (control.Bagged c.in-Bagged.bag)) (popped_waits m c.pop-in-Bagged.new.self c.in-Some-pop-4.frame c.in-Some-pop-4.ensures)))
     c.bagged.ensures
+
+pub returns-in-Some-pop : goal.returns-in-Some-pop
+returns-in-Some-pop c =
+    let m = c.args.m.now in
+    goes _ c.fail.result c.fail.new.m
+    (sym (ap (inside m (waiting_in m)) c.in-Failed.is ∙ ap (λ ws. inside m ws (control.Failed c.in-Failed.fault)) (popped_waits m c.pop-in-Failed.new.self c.in-Some-pop.frame c.in-Some-pop.ensures)))
+    c.fail.ensures
+
+pub returns-in-Some-pop-5 : goal.returns-in-Some-pop-5
+returns-in-Some-pop-5 c =
+    let m = c.args.m.now in
+    let f = c.in-Lost.fault in
+    let n : Machine = record m { frames = c.pop-in-Lost.new.self } in
+    let w = frame_of (arena_in m) m.code c.in-Some-pop-5.frame in
+    goes _ c.fail-in-Some-pop-5.result c.fail-in-Some-pop-5.new.m
+    (sym (ap (inside m (waiting_in m)) c.in-Lost.is ∙ ap (λ ws. inside m ws (control.Lost f)) (popped_waits m c.pop-in-Lost.new.self c.in-Some-pop-5.frame c.in-Some-pop-5.ensures) ∙ bag_fails (setting_of m) (nodes_in m) (waiting_under n c.in-Some-pop-5.frame) f (state_of m.session) w))
+    c.fail-in-Some-pop-5.ensures

@@ -55,8 +55,8 @@ returns-then-holds_two c =
     let s = state_of m.session in
     let b = c.in-ValueFrom in
     let two : has_two k ≡ true = sym (c.holds_two.ensures (arena_in m)) ∙ c.if-holds_two.true in
-    goes _ c.push.result c.push.new.m
+    goes _ c.push_statement.result c.push_statement.new.m
     ((λ i. around_flow m (waiting_in m) (then_do (evaluated (setting_of m) (expr_of f (c.get.ensures i)) s) (λ v. taking v k)))
     ∙ (λ i. around_flow m (waiting_in m) (sym (two_open k (evaluated (setting_of m) (expr_of f b.expr) >>= λ v. taking v k) two) i s))
     ∙ sym (ap (λ x. around_flow m (waiting_in m) (part_done (setting_of m) (part_of f x) k s)) b.is))
-    c.push.ensures
+    c.push_statement.ensures

@@ -1,4 +1,4 @@
-use Rattle.std.proofs.Common.{sym, ap, subst, ◌∙◌}
+use Rattle.std.proofs.Common.{IfOk, sym, ap, subst, ◌∙◌}
 use Rattle.value_spec.specs.Outcomes.{bad}
 use Rattle.star_values.proofs.Growing.{grows_same}
 use Rattle.star_eval.specs.declared.frame.Control.TheVariants as control
@@ -28,4 +28,4 @@ returns-in-Call c =
 pub returns-in-Native : goal.returns-in-Native
 returns-in-Native c =
     let m = c.args.m.now in
-    subst (λ f. Goes (arena_in m) c.resume.new.m c.resume.result (inside m (waiting_with m f) (control.Failed c.args.fault))) (sym (c.in-Native.is ∙ ap frame.Native (sym c.into_inner-in-Native.ensures))) c.resume.ensures
+    subst (λ f. IfOk c.resume.result (λ k. Goes (arena_in m) c.resume.new.m k (inside m (waiting_with m f) (control.Failed c.args.fault)))) (sym (c.in-Native.is ∙ ap frame.Native (sym c.into_inner-in-Native.ensures))) c.resume.ensures

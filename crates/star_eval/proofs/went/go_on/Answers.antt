@@ -1,5 +1,6 @@
-use Rattle.std.proofs.Common.{sym, ◌∙◌}
+use Rattle.std.proofs.Common.{sym, ap, ◌∙◌}
 use Rattle.value_spec.specs.Outcomes.{done}
+use Rattle.star_eval.specs.declared.frame.InBlock.TheVariants as in_block
 use Rattle.star_eval.specs.Frames.{around_flow, flow_of}
 use Rattle.star_eval.specs.Meets.{arena_of, state_of}
 use Rattle.star_eval.specs.View.{arena_in, block_frame, nodes_in, setting_of, waiting_in}
@@ -27,13 +28,17 @@ returns-in-WalkEnd c =
 pub returns-in-On-flow : goal.returns-in-On-flow
 returns-in-On-flow c =
     let m = c.args.m.now in
+    let b = c.in-Turn in
+    let is = b.is ∙ ap (in_block.Turn b.place b.target b.body) (sym c.into_inner.ensures) in
     goes _ c.turn.result c.turn.new.m
-    (sym (λ i. around_flow m (waiting_in m) (block_ends (setting_of m) (block_frame (arena_in m) m.code.file (c.in-Turn.is i)) (done (flow_of (arena_in m) (c.in-On-flow.is i) (nodes_in m)) (state_of m.session)))))
+    (sym (λ i. around_flow m (waiting_in m) (block_ends (setting_of m) (block_frame (arena_in m) m.code.file (is i)) (done (flow_of (arena_in m) (c.in-On-flow.is i) (nodes_in m)) (state_of m.session)))))
     c.turn.ensures
 
 pub returns-in-Continue-flow : goal.returns-in-Continue-flow
 returns-in-Continue-flow c =
     let m = c.args.m.now in
+    let b = c.in-Turn in
+    let is = b.is ∙ ap (in_block.Turn b.place b.target b.body) (sym c.into_inner-in-Continue-flow.ensures) in
     goes _ c.turn-in-Continue-flow.result c.turn-in-Continue-flow.new.m
-    (sym (λ i. around_flow m (waiting_in m) (block_ends (setting_of m) (block_frame (arena_in m) m.code.file (c.in-Turn.is i)) (done (flow_of (arena_in m) (c.in-Continue-flow.is i) (nodes_in m)) (state_of m.session)))))
+    (sym (λ i. around_flow m (waiting_in m) (block_ends (setting_of m) (block_frame (arena_in m) m.code.file (is i)) (done (flow_of (arena_in m) (c.in-Continue-flow.is i) (nodes_in m)) (state_of m.session)))))
     c.turn-in-Continue-flow.ensures

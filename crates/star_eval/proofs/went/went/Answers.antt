@@ -1,4 +1,4 @@
-use Rattle.std.proofs.Common.{◌≡◌, false, refl, sym, ap, ◌∙◌}
+use Rattle.std.proofs.Common.{◌≡◌, IfOk, Result, false, refl, sym, ap, ◌∙◌}
 use Rattle.ytt_base.specs.declared.fault.FaultKind.TheVariants as kind
 use Rattle.ytt_base.specs.Outcomes.{fault_of}
 use Rattle.star_eval.specs.declared.frame.Control.{Control}
@@ -9,20 +9,16 @@ use Rattle.star_eval.specs.declared.frame.Flow.{Flow}
 use Rattle.star_eval.specs.Frames.{Goes, flow_of, inside}
 use Rattle.star_eval.specs.Meets.{state_of}
 use Rattle.star_eval.specs.View.{arena_in, frame_of, nodes_in, setting_of, waiting_under, waiting_with}
+use Rattle.star_eval.proofs.Going.{goes}
 use Rattle.star_eval.proofs.Sorts.{flow_misplaced, takes_flow}
 use Rattle.star_eval.proofs.went.went.Goals as goal
 
 -- a frame that waits for no block
-lost : (m n : Machine) (f g : Frame) (w : Flow) (c : Control) → f ≡ g → takes_flow (frame_of (arena_in m) m.code g) ≡ false →
-    Goes (arena_in m) n c (inside m (waiting_with m g) (control.Failed (fault_of kind.CodeForm))) → Goes (arena_in m) n c (inside m (waiting_with m f) (control.Went w))
-lost m n f g w c is other h =
+lost : {E : Type 0} (m n : Machine) (f g : Frame) (w : Flow) (r : Result Control E) → f ≡ g → takes_flow (frame_of (arena_in m) m.code g) ≡ false →
+    IfOk r (λ c. Goes (arena_in m) n c (inside m (waiting_with m g) (control.Failed (fault_of kind.CodeForm)))) → IfOk r (λ c. Goes (arena_in m) n c (inside m (waiting_with m f) (control.Went w)))
+lost m n f g w r is other h =
     let a = arena_in m in
-    record {
-      same = h.same ∙ sym (ap (λ f. inside m (waiting_with m f) (control.Went w)) is ∙ flow_misplaced (setting_of m) (nodes_in m) (waiting_under m g) (state_of m.session) (frame_of a m.code g) (flow_of a w (nodes_in m)) other);
-      sound = h.sound;
-      owned = h.owned;
-      grows = h.grows;
-    }
+    goes a r n (sym (ap (λ f. inside m (waiting_with m f) (control.Went w)) is ∙ flow_misplaced (setting_of m) (nodes_in m) (waiting_under m g) (state_of m.session) (frame_of a m.code g) (flow_of a w (nodes_in m)) other)) h
 
 pub returns-in-Value : goal.returns-in-Value
 returns-in-Value c = lost c.args.m.now c.misplaced.new.m c.args.frame _ c.args.flow c.misplaced.result c.in-Value.is refl c.misplaced.ensures
