@@ -1,3 +1,4 @@
+pub mod Contents
 pub mod Depth
 pub mod Pass
 pub mod Stack

@@ -8,8 +8,8 @@ use Rattle.yaml_noted.specs.View.{Noted, content_of, in_items}
 use Rattle.yaml_noted.proofs.Views.{content_of-List, content_of-Map}
 use Rattle.yaml_spec.specs.Entries.{Found}
 use Rattle.yaml_spec.specs.Noted.{Content, item, no_items, noted_list, noted_map}
-use Rattle.yaml_read.specs.View.{done_of, frame_of, frames_of}
-use Rattle.yaml_read.specs.declared.frames.Frame as shown
+use Rattle.yaml_entries.specs.View.{done_of, frame_of, frames_of}
+use Rattle.yaml_entries.specs.declared.frames.Frame as shown
 
 -- ---- items
 

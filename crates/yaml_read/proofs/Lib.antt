@@ -1,5 +1,4 @@
 pub mod Blocks
-pub mod Contents
 pub mod EndedBehind
 pub mod Explicit
 pub mod Fitting
@@ -7,6 +6,7 @@ pub mod InParts
 pub mod MarkerBytes
 pub mod Openings
 pub mod Parts
+pub mod Roots
 pub mod Segmenting
 pub mod Starts
 pub mod Turns

@@ -10,7 +10,8 @@ use Rattle.yaml_spec.specs.Rows.{Head, Mark, Row, dash_mark, key_mark}
 use Rattle.yaml_rows.specs.declared.row.Head as held
 use Rattle.yaml_rows.specs.declared.row.Row as held_row
 use Rattle.yaml_rows.specs.View.{head_of, heads_of, mark_of, row_of}
-use Rattle.yaml_read.specs.Heads.{begin_last, goes_on, new_frame, onto, opens_in, row_from}
+use Rattle.yaml_entries.specs.Heads.{begin_last}
+use Rattle.yaml_read.specs.Heads.{goes_on, new_frame, onto, opens_in, row_from}
 use Rattle.ytt_laws.proofs.Chains.{when_true}
 
 -- the row from these heads on

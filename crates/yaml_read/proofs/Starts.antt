@@ -15,7 +15,7 @@ use Rattle.yaml_spec.specs.Lines.{Line}
 use Rattle.yaml_spec.specs.Noted.{Comment}
 use Rattle.yaml_spec.specs.Rows as plain
 use Rattle.yaml_spec.specs.Rows.{Head, Key_text, Row, dash_mark, has_tab_before, has_value, is_dash, key_at, key_mark, row_at}
-use Rattle.yaml_read.specs.Heads.{FitsRow}
+use Rattle.yaml_entries.specs.Heads.{FitsRow}
 use Rattle.yaml_read.specs.Passing.{Leads, pass_behind}
 use Rattle.ytt_laws.proofs.Chains.{when_false}
 

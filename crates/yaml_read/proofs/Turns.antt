@@ -13,8 +13,8 @@ use Rattle.yaml_rows.specs.declared.row.Head as held_head
 use Rattle.yaml_rows.specs.declared.row.Row as held_row
 use Rattle.yaml_rows.specs.View.{row_of}
 use Rattle.yaml_read.specs.Steps.{begins, entry_in, last_left, misfit, root_in, with_next}
-use Rattle.yaml_read.specs.View.{frame_of, frames_of}
-use Rattle.yaml_read.specs.declared.frames.Frame as held
+use Rattle.yaml_entries.specs.View.{frame_of, frames_of}
+use Rattle.yaml_entries.specs.declared.frames.Frame as held
 
 -- ---- the innermost block
 

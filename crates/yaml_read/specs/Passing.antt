@@ -8,7 +8,7 @@ use Rattle.yaml_noted.specs.View.{comments_of}
 use Rattle.ytt_base.specs.Trees.{max_depth}
 use Rattle.yaml_spec.specs.Lines.{Line}
 use Rattle.yaml_spec.specs.Rows.{Row, taken}
-use Rattle.yaml_read.specs.View.{frames_of, hole_of}
+use Rattle.yaml_entries.specs.View.{frames_of, hole_of}
 use Rattle.yaml_read.specs.declared.state.State.{State}
 
 -- what the pass gives for these lines from this state on

@@ -7,7 +7,7 @@ use Rattle.yaml_pass.specs.Machine.{Frame, Hole, begin_at, finish, opens, step}
 use Rattle.yaml_spec.specs.Entries.{begins_entry, is_dash_mark, stray}
 use Rattle.yaml_spec.specs.Noted.{Content, Note}
 use Rattle.yaml_spec.specs.Rows.{Head, Row}
-use Rattle.yaml_read.specs.declared.frames.Frame as held
+use Rattle.yaml_entries.specs.declared.frames.Frame as held
 
 -- the row begins an entry of the block
 abbrev pub begins : Row → held.Frame → Bool

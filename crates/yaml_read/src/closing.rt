@@ -3,10 +3,10 @@ ghost use Rattle.std.specs.Prelude.{◌≡◌, ◌≤◌, [], ◌∷◌, ◌++�
 ghost use Rattle.yaml_pass.specs.Machine.{finish, with_items, wrap};
 ghost use Rattle.yaml_noted.specs.View.{content_of, noted_of};
 ghost use Rattle.yaml_spec.specs.Noted.{item, no_items};
-ghost use Rattle.yaml_read.specs.View.{done_of, found_of, frames_of, hole_of, note_of};
+ghost use Rattle.yaml_entries.specs.View.{done_of, found_of, frames_of, hole_of, note_of};
 
-use crate::frames::{Found, Frame, Frames, Note};
 use std::alloc::Global;
+use yaml_entries::{Found, Frame, Frames, Note};
 use yaml_noted::{Content, NotedItem, NotedItems};
 use ytt_base::text::Memory;
 use ytt_base::tree::Tree;

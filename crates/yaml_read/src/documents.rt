@@ -12,13 +12,12 @@ ghost use Rattle.yaml_read.specs.Segments.{BeginsWithMarker, FitSegment, segment
 ghost use Rattle.yaml_read.specs.View.{part_of, passed_of};
 
 use crate::between::{first_content, push_comments, read_ended};
-use crate::entries::row_comment;
-use crate::frames::Found;
 use crate::markers::{behind_marker, is_start};
 use crate::pass::{Passed, pass_lines};
 use crate::segments::{Segment, first_line, split_front, split_segment};
 use sqlite_items::Items;
 use std::alloc::Global;
+use yaml_entries::{Found, row_comment};
 use yaml_noted::{Comments, Content, NotedDocs, NotedItem, NotedItems, RawComment};
 use yaml_rows::{MAX_DEPTH, Row, has_value, open_place_of, row_value};
 use yaml_text::{first, refusal};

@@ -8,8 +8,6 @@
 mod between;
 mod closing;
 mod documents;
-mod entries;
-mod frames;
 mod markers;
 mod opening;
 mod pass;

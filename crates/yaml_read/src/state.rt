@@ -1,7 +1,7 @@
 // What a pass over lines keeps.
 ghost use Rattle.std.specs.Prelude.{◌≤◌, ◌^◌};
 
-use crate::frames::{Found, Frames};
+use yaml_entries::{Found, Frames};
 use yaml_noted::Comments;
 
 /// What a pass over the lines of a document has found so far.

@@ -5,13 +5,13 @@ ghost use Rattle.ytt_main.specs.Answers.{Answers};
 ghost use Rattle.ytt_main.specs.Found.{Found};
 ghost use Rattle.ytt_main.specs.Seen.{seen_files};
 
-use crate::render::{RenderStop, render};
-use crate::words::read_words;
+use render_core::{RenderStop, render};
 use std::alloc::Global;
 use ytt_base::report::fault_text;
 use ytt_base::text::{Memory, Text};
 use ytt_base::tree::Trees;
 use ytt_outside::files::Files;
+use ytt_words::read_words;
 
 /// What is to be written, and where: documents to `out`, or a line to `err`.
 #[derive(Drop)]

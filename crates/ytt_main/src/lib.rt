@@ -2,10 +2,6 @@
 #![tactic(auto)]
 
 mod answer;
-mod natives;
-mod render;
 mod run;
-mod template;
-mod words;
 
 pub use run::{Status, ytt_main};

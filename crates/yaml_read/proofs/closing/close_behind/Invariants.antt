@@ -1,5 +1,5 @@
 use Rattle.std.proofs.Common.{length}
-use Rattle.yaml_read.specs.View.{found_of, hole_of}
+use Rattle.yaml_entries.specs.View.{found_of, hole_of}
 use Rattle.yaml_read.proofs.Blocks.{IsClosing}
 use Rattle.yaml_read.proofs.closing.close_behind.Given as goal
 

@@ -1,7 +1,7 @@
 use Rattle.std.proofs.Common.{◌≡◌, ◌-◌, Err, refl, rules, arith, sym, ◌∙◌, ap}
 use Rattle.yaml_rows.specs.View.{row_of}
 use Rattle.yaml_noted.specs.View.{comments_of}
-use Rattle.yaml_read.specs.View.{begun_of, frames_of, note_of, opened_of}
+use Rattle.yaml_entries.specs.View.{begun_of, frames_of, note_of, opened_of}
 use Rattle.ytt_laws.proofs.Chains.{gives_first, gives_same}
 use Rattle.yaml_read.proofs.Openings.{more_blocks, last_block, last_opened}
 use Rattle.yaml_read.proofs.opening.+open_blocks.Goals as goal

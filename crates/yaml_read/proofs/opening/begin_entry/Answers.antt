@@ -1,7 +1,7 @@
 use Rattle.std.proofs.Common.{refl, sym, ◌∙◌, ap}
 use Rattle.yaml_noted.specs.View.{comments_of}
 use Rattle.yaml_rows.specs.View.{row_of, mark_of}
-use Rattle.yaml_read.specs.View.{frames_of, note_of, opened_of}
+use Rattle.yaml_entries.specs.View.{frames_of, note_of, opened_of}
 use Rattle.yaml_read.proofs.Openings.{entry_begun}
 use Rattle.yaml_read.proofs.opening.begin_entry.Goals as goal
 

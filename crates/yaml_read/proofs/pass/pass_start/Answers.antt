@@ -3,7 +3,7 @@ use Rattle.yaml_noted.specs.View.{comments_of}
 use Rattle.yaml_spec.specs.Held.{plain_line, plain_lines}
 use Rattle.yaml_spec.specs.Rows.{Row}
 use Rattle.yaml_read.specs.Passing.{pass_behind, pass_from}
-use Rattle.yaml_read.specs.View.{frames_of, hole_of}
+use Rattle.yaml_entries.specs.View.{frames_of, hole_of}
 use Rattle.yaml_read.proofs.Starts.{leads-same, pass-start, row-fits, row-value}
 use Rattle.yaml_read.proofs.pass.pass_start.Goals as goal
 

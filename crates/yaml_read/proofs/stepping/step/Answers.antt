@@ -3,7 +3,7 @@ use Rattle.std.specs.List.{prefix_len}
 use Rattle.yaml_noted.specs.View.{comments_of}
 use Rattle.yaml_rows.specs.View.{row_of}
 use Rattle.yaml_read.specs.Steps.{begins, last_left, root_in}
-use Rattle.yaml_read.specs.View.{frames_of, hole_of, opened_of}
+use Rattle.yaml_entries.specs.View.{frames_of, hole_of, opened_of}
 use Rattle.ytt_laws.proofs.Chains.{gives_same}
 use Rattle.yaml_read.proofs.Turns.{some-at, step-begins, step-root}
 use Rattle.yaml_read.proofs.stepping.step.Goals as goal

@@ -2,7 +2,7 @@ use Rattle.std.proofs.Common.{◌≡◌, [], ◌++◌, ◌∷◌, take, ◌∙�
 use Rattle.yaml_noted.specs.View.{comments_of, content_of}
 use Rattle.yaml_rows.specs.View.{row_of}
 use Rattle.yaml_read.specs.Steps.{with_next}
-use Rattle.yaml_read.specs.View.{begun_of, found_of, frame_of, frames_of, hole_of, note_of}
+use Rattle.yaml_entries.specs.View.{begun_of, found_of, frame_of, frames_of, hole_of, note_of}
 use Rattle.yaml_read.proofs.Turns.{entry_in-begun, joined-frames, take-next}
 use Rattle.yaml_read.proofs.stepping.step_at.Goals as goal
 

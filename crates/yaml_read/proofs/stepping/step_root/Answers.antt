@@ -2,7 +2,7 @@ use Rattle.std.proofs.Common.{◌≡◌, ap, sym, ◌∙◌, arith, length, Ok}
 use Rattle.std.proofs.lemmas.Grind.{common_steps}
 use Rattle.yaml_noted.specs.View.{comments_of}
 use Rattle.yaml_rows.specs.View.{value_of}
-use Rattle.yaml_read.proofs.Contents.{taken-root}
+use Rattle.yaml_read.proofs.Roots.{taken-root}
 use Rattle.yaml_read.proofs.stepping.step_root.Goals as goal
 
 pub returns-clause-extent : goal.returns-clause-extent

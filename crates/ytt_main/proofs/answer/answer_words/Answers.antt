@@ -1,4 +1,4 @@
-use Rattle.ytt_main.specs.Asks.{command_of}
+use Rattle.ytt_words.specs.Asks.{command_of}
 use Rattle.ytt_main.proofs.answer.answer_words.Goals as goal
 
 pub returns-in-Ok-fault_text-clause-found : goal.returns-in-Ok-fault_text-clause-found

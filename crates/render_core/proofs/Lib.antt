@@ -1,0 +1,5 @@
+pub mod Built
+pub mod Chains
+pub mod Names
+pub mod Refusals
+pub mod Texts
