@@ -35,34 +35,62 @@ fn push_char(alloc: Global, line: &mut String, c: char) -> Result<(), AllocError
     }
 }
 
-/// A text in double quotes, cut around a place where it is long.
-fn shown(alloc: Global, bytes: &[u8], place: usize) -> Result<String, AllocError> {
-    let start = place.saturating_sub(BEFORE);
-    let end = bytes.len().min(place.saturating_add(BEHIND));
-    let part = bytes.get(start..end).unwrap_or(bytes);
-    let mut line = String::from_str(alloc, if start > 0 { "..\"" } else { "\"" })?;
-    for chunk in part.utf8_chunks() {
+/// Puts bytes behind a text, so that a person sees each of them.
+fn push_bytes(alloc: Global, line: &mut String, bytes: &[u8]) -> Result<(), AllocError> {
+    for chunk in bytes.utf8_chunks() {
         for c in chunk.valid().chars() {
-            push_char(alloc, &mut line, c)?;
+            push_char(alloc, line, c)?;
         }
         for byte in chunk.invalid() {
             let code = format!(in alloc; "\\x{byte:02X}")?;
             line.push_str(code.as_str())?;
         }
     }
-    line.push_str(if end < bytes.len() { "\".." } else { "\"" })?;
-    Ok(line)
+    Ok(())
 }
 
-/// The line for a stream that differs, or nothing.
-fn stream_line(alloc: Global, name: &str, is: &[u8], due: &[u8]) -> Result<String, AllocError> {
+/// Puts a text in double quotes behind another, cut around a place where it is long.
+fn push_shown(
+    alloc: Global,
+    line: &mut String,
+    bytes: &[u8],
+    place: usize,
+) -> Result<(), AllocError> {
+    let start = place.saturating_sub(BEFORE);
+    let end = bytes.len().min(place.saturating_add(BEHIND));
+    line.push_str(if start > 0 { "..\"" } else { "\"" })?;
+    push_bytes(alloc, line, bytes.get(start..end).unwrap_or(bytes))?;
+    line.push_str(if end < bytes.len() { "\".." } else { "\"" })
+}
+
+/// Puts a line behind the others for a stream that differs.
+fn push_stream(
+    alloc: Global,
+    lines: &mut String,
+    name: &str,
+    is: &[u8],
+    due: &[u8],
+) -> Result<(), AllocError> {
     if is == due {
-        return Ok(String::new(alloc));
+        return Ok(());
     }
     let place = first_difference(is, due);
-    let is = shown(alloc, is, place)?;
-    let due = shown(alloc, due, place)?;
-    format!(in alloc; "{name} is {is} and not {due}, from byte {place} on\n")
+    lines.push_str(name)?;
+    lines.push_str(" is ")?;
+    push_shown(alloc, lines, is, place)?;
+    lines.push_str(" and not ")?;
+    push_shown(alloc, lines, due, place)?;
+    let end = format!(in alloc; ", from byte {place} on\n")?;
+    lines.push_str(end.as_str())
+}
+
+/// Puts a line behind the others for a status that differs.
+fn push_status(alloc: Global, lines: &mut String, is: u8, due: u8) -> Result<(), AllocError> {
+    if is == due {
+        return Ok(());
+    }
+    let line = format!(in alloc; "status is {is} and not {due}\n")?;
+    lines.push_str(line.as_str())
 }
 
 /// A line for each difference of what a run left from what is due, or nothing.
@@ -74,14 +102,9 @@ fn compared(
     err: &[u8],
 ) -> Result<String, AllocError> {
     let mut lines = String::new(alloc);
-    if ran.status != status {
-        let line = format!(in alloc; "status is {} and not {status}\n", ran.status)?;
-        lines.push_str(line.as_str())?;
-    }
-    let out = stream_line(alloc, "out", ran.out.bytes(), out)?;
-    lines.push_str(out.as_str())?;
-    let err = stream_line(alloc, "err", ran.err.bytes(), err)?;
-    lines.push_str(err.as_str())?;
+    push_status(alloc, &mut lines, ran.status, status)?;
+    push_stream(alloc, &mut lines, "out", ran.out.bytes(), out)?;
+    push_stream(alloc, &mut lines, "err", ran.err.bytes(), err)?;
     Ok(lines)
 }
 
@@ -111,22 +134,33 @@ fn again(alloc: Global, out: &[u8], text: &mut String) -> Result<(), Stop> {
     Ok(())
 }
 
-/// What the row gives in place of what is due, a line for each difference.
-pub fn differences(alloc: Global, row: &Row) -> Result<String, Stop> {
+/// A line for each difference of what the row gives from what is due.
+fn run_once(alloc: Global, row: &Row) -> Result<String, Stop> {
     let enough = row.steps.as_ref().map(|steps| steps.enough);
     let ran = run_row(alloc, row, enough)?;
-    let mut text = compared(
+    Ok(compared(
         alloc,
         &ran,
         row.status,
         row.out.as_slice(),
         row.err.as_slice(),
-    )?;
+    )?)
+}
+
+/// Runs the row with fewer steps, and what it prints once more, where that is due.
+fn run_further(alloc: Global, row: &Row, text: &mut String) -> Result<(), Stop> {
     if let Some(steps) = &row.steps {
-        short(alloc, row, steps, &mut text)?;
+        short(alloc, row, steps, text)?;
     }
     if row.status == 0 {
-        again(alloc, row.out.as_slice(), &mut text)?;
+        again(alloc, row.out.as_slice(), text)?;
     }
+    Ok(())
+}
+
+/// What the row gives in place of what is due, a line for each difference.
+pub fn differences(alloc: Global, row: &Row) -> Result<String, Stop> {
+    let mut text = run_once(alloc, row)?;
+    run_further(alloc, row, &mut text)?;
     Ok(text)
 }

@@ -76,11 +76,13 @@ pub struct Row {
 impl Row {
     /// The row `render -f a.yml`, over no files, to which nothing is due.
     fn new(alloc: Global, title: &str, line: u64) -> Result<Row, Stop> {
+        let title = String::from_str(alloc, title)?;
+        let words = words_in(alloc, "render -f a.yml", line)?;
         Ok(Row {
-            title: String::from_str(alloc, title)?,
+            title,
             line,
             names: BTreeSet::new(alloc),
-            words: words_in(alloc, "render -f a.yml", line)?,
+            words,
             files: Vec::new(alloc),
             files_fail: Items::new(alloc),
             out_fails: SinkFails::none(alloc),
@@ -154,12 +156,18 @@ fn steps_in(alloc: Global, text: &str) -> Result<Option<Steps>, Stop> {
 }
 
 impl Row {
+    /// Takes a text as the file `a.yml`, and as what is due.
+    fn take_text(&mut self, alloc: Global, text: &[u8]) -> Result<(), Stop> {
+        let bytes = Vec::from_slice(alloc, text)?;
+        self.take_file(alloc, "a.yml", bytes)?;
+        self.out = Vec::from_slice(alloc, text)?;
+        Ok(())
+    }
+
     /// The row of a text as the file `a.yml`, which is to give itself.
     pub fn of_text(alloc: Global, text: &[u8]) -> Result<Row, Stop> {
         let mut row = Row::new(alloc, "", 0)?;
-        let path = String::from_str(alloc, "a.yml")?;
-        row.files.push((path, Vec::from_slice(alloc, text)?))?;
-        row.out = Vec::from_slice(alloc, text)?;
+        row.take_text(alloc, text)?;
         Ok(row)
     }
 

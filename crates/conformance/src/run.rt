@@ -65,16 +65,33 @@ pub fn run_words(alloc: Global, row: &Row, words: &[String]) -> Result<Ran, Stop
     Ok(Ran { status, out, err })
 }
 
-/// Runs the words of the row, and behind them a budget of steps if there is one.
-pub fn run_row(alloc: Global, row: &Row, steps: Option<u64>) -> Result<Ran, Stop> {
-    let mut words = Vec::new(alloc);
+/// Puts the option for a budget of steps behind the words.
+fn put_steps(alloc: Global, words: &mut Vec<String>, steps: u64) -> Result<(), Stop> {
+    words.push(String::from_str(alloc, "--steps")?)?;
+    words.push(format!(in alloc; "{steps}")?)?;
+    Ok(())
+}
+
+/// Puts the words of the row behind the others, and behind them a budget of steps if there is one.
+fn put_words(
+    alloc: Global,
+    words: &mut Vec<String>,
+    row: &Row,
+    steps: Option<u64>,
+) -> Result<(), Stop> {
     for word in &row.words {
         words.push(word.clone()?)?;
     }
-    if let Some(steps) = steps {
-        words.push(String::from_str(alloc, "--steps")?)?;
-        words.push(format!(in alloc; "{steps}")?)?;
+    match steps {
+        Some(steps) => put_steps(alloc, words, steps),
+        None => Ok(()),
     }
+}
+
+/// Runs the words of the row, and behind them a budget of steps if there is one.
+pub fn run_row(alloc: Global, row: &Row, steps: Option<u64>) -> Result<Ran, Stop> {
+    let mut words = Vec::new(alloc);
+    put_words(alloc, &mut words, row, steps)?;
     run_words(alloc, row, words.as_slice())
 }
 

@@ -7,7 +7,7 @@ ghost use Rattle.star_grammar.specs.declared.start.Start.TheVariants as start;
 ghost use Rattle.star_read.specs.Answers.{HasRead};
 ghost use Rattle.star_tree.specs.Whole as whole;
 
-use sqlite_items::Items;
+use sqlite_items::{Boxed, Items};
 use star_read as read;
 use star_token::{Tokens, tokens};
 use star_tree::code::{Args, Expr, Header, Stmt};
@@ -16,7 +16,7 @@ use ytt_base::fault::{Place, Stop};
 use ytt_base::text::Text;
 
 /// The expression that code is, whose first line is this place's.
-pub fn read_expr(alloc: Global, code: &str, at: Place) -> Result<Expr, Stop>
+pub fn read_expr(alloc: Global, code: &str, at: Place) -> Result<Boxed<Expr>, Stop>
     ensures { GivesCode (whole.expr_of at.file) result (λ r. r.expr at code.now) }
 {
     let text = Text::of(alloc, code)?;

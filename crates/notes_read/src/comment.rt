@@ -1,6 +1,6 @@
 // What a comment says.
 
-use sqlite_items::Items;
+use sqlite_items::{Boxed, Items};
 use star_tree::code::{Args, Expr, Header, Stmt};
 use ytt_base::text::Text;
 
@@ -12,10 +12,10 @@ pub enum Comment {
     /// The head of an `if`, a `for` or a `def`, and whether it has `/end` and so holds for one item alone.
     Open(Header, bool),
     Else,
-    Elif(Expr),
+    Elif(Boxed<Expr>),
     End,
     /// The value expression of the item on its line.
-    Value(Expr),
+    Value(Boxed<Expr>),
     /// A note: its name without the `#@`, and its arguments.
     Note(Text, Args),
     Ignored,

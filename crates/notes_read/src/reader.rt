@@ -41,7 +41,7 @@ fn said(header: Header, for_one: bool) -> Comment
     ensures { (file : ℕ) → spec.header_said for_one (header_of file header) ≡ Ok (said_of file result) }
 {
     match header {
-        Header::Elif(test) => Comment::Elif(test.into_inner()),
+        Header::Elif(test) => Comment::Elif(test),
         Header::Else => Comment::Else,
         Header::End => Comment::End,
         head => Comment::Open(head, for_one),

@@ -12,4 +12,4 @@ mod values;
 
 pub use ends::{build, put_token};
 pub use parts::Parts;
-pub use values::{expr_of, no_items};
+pub use values::{boxed_of, no_items};

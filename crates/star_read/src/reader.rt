@@ -16,8 +16,8 @@ use crate::standing::{at_first, opens_too_many, stand_after};
 use crate::trees::{args_of, code_of, header_in};
 use crate::weight::is_low;
 use ll::{Shape, Shapes};
-use sqlite_items::Items;
-use star_build::{Parts, expr_of};
+use sqlite_items::{Boxed, Items};
+use star_build::{Parts, boxed_of};
 use star_grammar::{Block, Kind, Part, Rule, Stand, Start, Symbol, Terminal, Token};
 use star_token::Tokens;
 use star_tree::code::{Args, Expr, Header, Program};
@@ -159,12 +159,12 @@ fn read_part(alloc: Global, start: Start, tokens: &Tokens) -> Result<Part, Stop>
 /// grammar begins, or none of at most 100 levels: a fault without a detail, CodeForm on the token's line,
 /// or TooDeep on the line where the outermost expression begins that holds it. Want of memory is
 /// `Stop::Memory`.
-pub fn read_expr(alloc: Global, tokens: &Tokens) -> Result<Expr, Stop>
+pub fn read_expr(alloc: Global, tokens: &Tokens) -> Result<Boxed<Expr>, Stop>
     requires ended { ends tokens.now.tokens ≡ true }
     ensures { HasRead start.Expr expr_in tokens.now result }
 {
     let part = read_part(alloc, Start::Expr, tokens)?;
-    Ok(expr_of(alloc, part))
+    Ok(boxed_of(alloc, part)?)
 }
 
 /// The arguments that tokens are, refused as an expression's tokens are.

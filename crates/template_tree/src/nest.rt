@@ -286,10 +286,14 @@ fn around_one(
 }
 
 #[tactic(auto, using(crate::proofs::Nesting::nests))]
-fn next_branch(alloc: Global, place: Place, test: Expr, nested: Nested) -> Result<Nested, Memory>
+fn next_branch(
+    alloc: Global,
+    place: Place,
+    test: Boxed<Expr>,
+    nested: Nested,
+) -> Result<Nested, Memory>
     ensures { (file : ℕ) → IfOk result (λ n. nested_of file n ≡ nesting.next_branch (place_at file place.line) (expr_of file test) (nested_of file nested)) }
 {
-    let test = Boxed::new(alloc, test)?;
     match nested {
         Nested::Inside(items, more, outer) => {
             let body = turned_items(alloc, items)?;

@@ -118,7 +118,7 @@ fn put_beside(
     ensures { (file : ℕ) → OnOk result (slots_of file slots.new.items ≡ build.changed level (build.with_beside file line (said_of file comment)) (slots_of file slots.old.items)) }
 {
     match comment {
-        Comment::Value(value) => put_value(alloc, slots, level, Boxed::new(alloc, value)?),
+        Comment::Value(value) => put_value(alloc, slots, level, value),
         Comment::Note(name, args) => {
             let mut notes: TNotes = Items::new(alloc);
             notes.push(TNote { name, args, line })?;

@@ -107,14 +107,44 @@ const TEXTS: &[(&str, &str)] = &[("/b.yml", "abc"), ("/B", "")];
 /// Links below the folder, and to what they lead.
 const LINKS: &[(&str, &str)] = &[("/link", "b.yml"), ("/loop", "loop"), ("/nothing", "c.yml")];
 
+fn add_folder(alloc: Global, rt: &HostRuntime, folder: &str, path: &str) -> Result<(), Fail> {
+    let path = joined(alloc, folder, path)?;
+    fs::create_dir_all(rt, path.as_str())?;
+    Ok(())
+}
+
+fn add_file(
+    alloc: Global,
+    rt: &HostRuntime,
+    folder: &str,
+    path: &str,
+    text: &str,
+) -> Result<(), Fail> {
+    let path = joined(alloc, folder, path)?;
+    fs::write(rt, path.as_str(), text)?;
+    Ok(())
+}
+
+fn add_link(
+    alloc: Global,
+    rt: &HostRuntime,
+    folder: &str,
+    path: &str,
+    to: &str,
+) -> Result<(), Fail> {
+    let path = joined(alloc, folder, path)?;
+    symlink(rt, to, path.as_str())?;
+    Ok(())
+}
+
 /// Makes the files, the links and a folder `é`.
 fn lay_out(alloc: Global, rt: &HostRuntime, folder: &str) -> Result<(), Fail> {
-    fs::create_dir_all(rt, joined(alloc, folder, "/é")?.as_str())?;
+    add_folder(alloc, rt, folder, "/é")?;
     for (path, text) in TEXTS {
-        fs::write(rt, joined(alloc, folder, path)?.as_str(), *text)?;
+        add_file(alloc, rt, folder, path, text)?;
     }
     for (path, to) in LINKS {
-        symlink(rt, *to, joined(alloc, folder, path)?.as_str())?;
+        add_link(alloc, rt, folder, path, to)?;
     }
     Ok(())
 }
@@ -177,19 +207,36 @@ fn a_read_of_the_machine_fails(rt: HostRuntime) -> Result<(), Fail> {
     Ok(())
 }
 
+/// Whether three pieces, one of them empty, are taken.
+fn are_taken(stream: &mut impl Write) -> bool {
+    let mut sink = HostSink::new(stream);
+    sink.write_piece(b"ab").is_ok()
+        && sink.write_piece(b"").is_ok()
+        && sink.write_piece(b"cd\n").is_ok()
+}
+
+/// Writes these pieces to a new file.
+fn write_pieces(rt: &HostRuntime, path: &str) -> Result<bool, Fail> {
+    let mut stream = fs::create(rt, path)?;
+    let all = are_taken(&mut stream);
+    stream.flush()?;
+    Ok(all)
+}
+
+/// What a file in this folder then holds, or nothing where a piece isn't taken.
+fn written(alloc: Global, rt: &HostRuntime, folder: &str) -> Result<String, Fail> {
+    let path = joined(alloc, folder, "/out")?;
+    if !write_pieces(rt, path.as_str())? {
+        return Ok(String::new(alloc));
+    }
+    Ok(fs::read_to_string(rt, path.as_str())?)
+}
+
 #[test]
 fn a_file_of_the_machine_is_written(rt: HostRuntime) -> Result<(), Fail> {
     let alloc = rt.alloc();
     let folder = folder(alloc, &rt, "sink")?;
-    let path = joined(alloc, folder.as_str(), "/out")?;
-    let mut stream = fs::create(&rt, path.as_str())?;
-    {
-        let mut sink = HostSink::new(&mut stream);
-        let is_first = sink.write_piece(b"ab").is_ok() && sink.write_piece(b"").is_ok();
-        assert!(rt; is_first && sink.write_piece(b"cd\n").is_ok());
-    }
-    stream.flush()?;
-    let text = fs::read_to_string(&rt, path.as_str())?;
+    let text = written(alloc, &rt, folder.as_str())?;
     fs::remove_dir_all(&rt, folder.as_str())?;
     assert_eq!(rt; text.as_str(), "abcd\n");
     Ok(())

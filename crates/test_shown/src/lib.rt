@@ -7,4 +7,4 @@ mod shown;
 
 pub use differing::Differing;
 pub use faults::shown_stop;
-pub use shown::Shown;
+pub use shown::{Shown, unfolded};

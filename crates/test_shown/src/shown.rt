@@ -51,3 +51,12 @@ impl Shown {
         Ok(self.text)
     }
 }
+
+/// A text of a row, whose line ends are written `⏎`. The error is want of memory.
+pub fn unfolded(alloc: Global, text: &str) -> Result<String, Memory> {
+    let mut whole = String::new(alloc);
+    for letter in text.chars() {
+        whole.push(if letter == '⏎' { '\n' } else { letter })?;
+    }
+    Ok(whole)
+}

@@ -1,13 +1,15 @@
 // Texts of whole code: their trees, or why and on which line they are refused. Each line of a table is a text and behind `=>` what
 // is due; a line's end in either is written `⏎`, and a line that begins with `//` says what stands below it. Where several tokens of
 // a text that is refused could be meant, each stands on a line of its own.
+ghost use Rattle.std.specs.Prelude.{◌≡◌, true};
+ghost use Rattle.star_grammar.specs.Tokens.{ends};
 
 use crate::whole::{shown_args, shown_code, shown_header, shown_statements};
 use star_read::{read_args, read_expr, read_file, read_header, read_simple};
-use star_token::{file_tokens, tokens};
-use std::alloc::{AllocError, Global};
+use star_token::{Tokens, file_tokens, tokens};
+use std::alloc::Global;
 use std::test::Fail;
-use test_shown::{Differing, Shown, shown_stop};
+use test_shown::{Differing, Shown, shown_stop, unfolded};
 use ytt_base::fault::Stop;
 use ytt_base::text::{Memory, Text};
 
@@ -21,22 +23,63 @@ enum As {
     File,
 }
 
-fn read(alloc: Global, kind: As, text: &str) -> Result<String, Stop> {
-    let text = Text::of(alloc, text)?;
-    if let As::File = kind {
-        let found = file_tokens(alloc, &text, 2)?;
-        return Ok(shown_statements(alloc, &read_file(alloc, &found)?.code)?);
-    }
-    read_comment(alloc, kind, &text)
+/// A file's code as it is read.
+fn read_whole(alloc: Global, text: &Text) -> Result<String, Stop> {
+    let found = file_tokens(alloc, text, 2)?;
+    file_in(alloc, &found)
 }
 
+fn file_in(alloc: Global, found: &Tokens) -> Result<String, Stop>
+    requires { ends found.now.tokens ≡ true }
+{
+    let file = read_file(alloc, found)?;
+    Ok(shown_statements(alloc, &file.code)?)
+}
+
+fn expr_in(alloc: Global, found: &Tokens) -> Result<String, Stop>
+    requires { ends found.now.tokens ≡ true }
+{
+    let expr = read_expr(alloc, found)?;
+    Ok(shown_code(alloc, expr.get())?)
+}
+
+fn args_in(alloc: Global, found: &Tokens) -> Result<String, Stop>
+    requires { ends found.now.tokens ≡ true }
+{
+    let args = read_args(alloc, found)?;
+    Ok(shown_args(alloc, &args)?)
+}
+
+fn line_in(alloc: Global, found: &Tokens) -> Result<String, Stop>
+    requires { ends found.now.tokens ≡ true }
+{
+    let line = read_simple(alloc, found)?;
+    Ok(shown_statements(alloc, &line.code)?)
+}
+
+fn header_in(alloc: Global, found: &Tokens) -> Result<String, Stop>
+    requires { ends found.now.tokens ≡ true }
+{
+    let header = read_header(alloc, found)?;
+    Ok(shown_header(alloc, &header)?)
+}
+
+/// A comment's code as it is read.
 fn read_comment(alloc: Global, kind: As, text: &Text) -> Result<String, Stop> {
     let found = tokens(alloc, text, 2, 1)?;
     match kind {
-        As::Expr | As::File => Ok(shown_code(alloc, &read_expr(alloc, &found)?)?),
-        As::Args => Ok(shown_args(alloc, &read_args(alloc, &found)?)?),
-        As::Line => Ok(shown_statements(alloc, &read_simple(alloc, &found)?.code)?),
-        As::Header => Ok(shown_header(alloc, &read_header(alloc, &found)?)?),
+        As::Expr | As::File => expr_in(alloc, &found),
+        As::Args => args_in(alloc, &found),
+        As::Line => line_in(alloc, &found),
+        As::Header => header_in(alloc, &found),
+    }
+}
+
+fn read(alloc: Global, kind: As, text: &str) -> Result<String, Stop> {
+    let text = Text::of(alloc, text)?;
+    match kind {
+        As::File => read_whole(alloc, &text),
+        _ => read_comment(alloc, kind, &text),
     }
 }
 
@@ -425,39 +468,40 @@ for x in y:⏎else:⏎end⏎ => error: CodeForm at b.yml:2
 def f():⏎end x⏎ => error: CodeForm at b.yml:2
 ";
 
-/// A text of a row, whose line ends are written `⏎`.
-fn unfolded(alloc: Global, text: &str) -> Result<String, AllocError> {
-    let mut whole = String::new(alloc);
-    for letter in text.chars() {
-        whole.push(if letter == '⏎' { '\n' } else { letter })?;
-    }
-    Ok(whole)
+/// Compares what the text of a row is read as with what is due.
+fn compare_row(alloc: Global, wrong: &mut Differing, kind: As, row: &str) -> Result<(), Fail> {
+    let (text, due) = row.split_once(" =>").ok_or("a row without what is due")?;
+    let text = unfolded(alloc, text)?;
+    let is = answer(alloc, kind, text.as_str())?;
+    let due = unfolded(alloc, due.strip_prefix(" ").unwrap_or(""))?;
+    wrong.compare(row, is.as_str(), due.as_str());
+    Ok(())
 }
 
-/// Compares what each text of a table is read as with what is due.
+/// Compares the rows of a table.
 fn compare_all(alloc: Global, wrong: &mut Differing, kind: As, table: &str) -> Result<(), Fail> {
     for row in table.lines() {
-        if row.starts_with("//") {
-            continue;
+        if !row.starts_with("//") {
+            compare_row(alloc, wrong, kind, row)?;
         }
-        let (text, due) = row.split_once(" =>").ok_or("a row without what is due")?;
-        let text = unfolded(alloc, text)?;
-        let due = unfolded(alloc, due.strip_prefix(" ").unwrap_or(""))?;
-        let is = answer(alloc, kind, text.as_str())?;
-        wrong.compare(row, is.as_str(), due.as_str());
     }
     Ok(())
+}
+
+/// Compares the rows of all tables.
+fn compare_tables(alloc: Global, wrong: &mut Differing) -> Result<(), Fail> {
+    compare_all(alloc, wrong, As::Expr, EXPRESSIONS)?;
+    compare_all(alloc, wrong, As::Args, ARGS)?;
+    compare_all(alloc, wrong, As::Line, LINES)?;
+    compare_all(alloc, wrong, As::Header, HEADERS)?;
+    compare_all(alloc, wrong, As::File, FILES)
 }
 
 #[test]
 fn code_is_read_or_refused(rt: HostRuntime) -> Result<(), Fail> {
     let alloc = rt.alloc();
     let mut wrong = Differing::new(alloc);
-    compare_all(alloc, &mut wrong, As::Expr, EXPRESSIONS)?;
-    compare_all(alloc, &mut wrong, As::Args, ARGS)?;
-    compare_all(alloc, &mut wrong, As::Line, LINES)?;
-    compare_all(alloc, &mut wrong, As::Header, HEADERS)?;
-    compare_all(alloc, &mut wrong, As::File, FILES)?;
+    compare_tables(alloc, &mut wrong)?;
     assert_eq!(rt; wrong.take()?.as_str(), "");
     Ok(())
 }
@@ -516,18 +560,22 @@ fn too_deep(alloc: Global, line: u32) -> Result<String, Memory> {
     due.take()
 }
 
+/// Whether a text is read, where the line is 0, and else is too deep on this line.
+fn is_as_deep(alloc: Global, kind: As, text: &str, line: u32) -> Result<bool, Fail> {
+    let is = answer(alloc, kind, text)?;
+    if line == 0 {
+        return Ok(!is.starts_with("error"));
+    }
+    let due = too_deep(alloc, line)?;
+    Ok(is.as_str() == due.as_str())
+}
+
 #[test]
 fn code_is_too_deep(rt: HostRuntime) -> Result<(), Fail> {
     let alloc = rt.alloc();
     for (kind, count, front, inside, back, line) in DEEP {
         let text = nested(alloc, *count, front, inside, back)?;
-        let is = answer(alloc, *kind, text.as_str())?;
-        let due = too_deep(alloc, *line)?;
-        let is_due = if *line == 0 {
-            !is.starts_with("error")
-        } else {
-            is.as_str() == due.as_str()
-        };
+        let is_due = is_as_deep(alloc, *kind, text.as_str(), *line)?;
         assert!(rt; is_due, "{count} times {front}");
     }
     Ok(())

@@ -41,18 +41,27 @@ fn stands(
     Ok(all)
 }
 
-#[test]
-fn a_million_of_each(rt: HostRuntime) -> Result<(), Fail> {
-    let alloc = rt.alloc();
-    let mut arena = Arena::new(alloc);
+/// Whether all of a million numbers, each pushed onto a list and put into a dict, are found again.
+fn all_stand(alloc: Global, arena: &mut Arena) -> Result<bool, Memory> {
     let list = arena.new_list(&[])?;
     let dict = arena.new_dict()?;
     match (list, dict) {
         (Value::List(list), Value::Dict(dict)) => {
-            fill(alloc, &mut arena, list, dict, 1_000_000)?;
-            assert!(rt; stands(alloc, &mut arena, list, dict, 1_000_000)?);
+            fill(alloc, arena, list, dict, 1_000_000)?;
+            stands(alloc, arena, list, dict, 1_000_000)
         }
-        _ => assert!(rt; false),
+        _ => Ok(false),
     }
+}
+
+/// The same in an arena of its own.
+fn all_stand_alone(alloc: Global) -> Result<bool, Memory> {
+    let mut arena = Arena::new(alloc);
+    all_stand(alloc, &mut arena)
+}
+
+#[test]
+fn a_million_of_each(rt: HostRuntime) -> Result<(), Fail> {
+    assert!(rt; all_stand_alone(rt.alloc())?);
     Ok(())
 }

@@ -65,6 +65,21 @@ fn meant(alloc: Global, arena: &mut Arena, made: &[Value], word: &str) -> Result
     arena.new_text(Text::of(alloc, word)?)
 }
 
+/// Puts what a word stands for behind the arguments, if it is one.
+fn put_arg(
+    alloc: Global,
+    arena: &mut Arena,
+    made: &[Value],
+    word: &str,
+    args: &mut Values,
+) -> Result<(), Memory> {
+    if word != "" {
+        let value = meant(alloc, arena, made, word)?;
+        args.push(value)?;
+    }
+    Ok(())
+}
+
 /// What the words stand for.
 fn args_of(
     alloc: Global,
@@ -74,10 +89,7 @@ fn args_of(
 ) -> Result<Values, Memory> {
     let mut args = Items::new(alloc);
     for word in words.split(" ") {
-        if word != "" {
-            let value = meant(alloc, arena, made, word)?;
-            args.push(value)?;
-        }
+        put_arg(alloc, arena, made, word, &mut args)?;
     }
     Ok(args)
 }
@@ -153,28 +165,46 @@ fn call(
     })
 }
 
+/// Makes one call of a script, and shows what it answers.
+fn answer(
+    alloc: Global,
+    arena: &mut Arena,
+    made: &mut Values,
+    mark: &mut Mark,
+    one: &str,
+    said: &mut Shown,
+) -> Result<(), Memory> {
+    let (name, words) = match one.split_once(" ") {
+        None => (one, ""),
+        Some(parts) => parts,
+    };
+    let args = args_of(alloc, arena, made.as_slice(), words)?;
+    let answer = call(alloc, arena, made, mark, name, args.as_slice())?;
+    put_said(said, arena, answer);
+    said.put(" ");
+    Ok(())
+}
+
+/// Makes all calls of a script in an arena, and shows what they answer.
+fn answer_all(
+    alloc: Global,
+    arena: &mut Arena,
+    made: &mut Values,
+    script: &str,
+    said: &mut Shown,
+) -> Result<(), Memory> {
+    let mut mark = arena.mark();
+    for one in script.split("; ") {
+        answer(alloc, arena, made, &mut mark, one, said)?;
+    }
+    Ok(())
+}
+
 /// What each call of a script answers.
 pub fn answers(alloc: Global, script: &str) -> Result<String, Memory> {
     let mut arena = Arena::new(alloc);
-    let mut mark = arena.mark();
     let mut made = Items::new(alloc);
     let mut said = Shown::new(alloc);
-    for one in script.split("; ") {
-        let (name, words) = match one.split_once(" ") {
-            None => (one, ""),
-            Some(parts) => parts,
-        };
-        let args = args_of(alloc, &mut arena, made.as_slice(), words)?;
-        let answer = call(
-            alloc,
-            &mut arena,
-            &mut made,
-            &mut mark,
-            name,
-            args.as_slice(),
-        )?;
-        put_said(&mut said, &arena, answer);
-        said.put(" ");
-    }
+    answer_all(alloc, &mut arena, &mut made, script, &mut said)?;
     said.take()
 }

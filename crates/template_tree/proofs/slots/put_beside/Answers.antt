@@ -1,22 +1,17 @@
 use Rattle.std.proofs.Common.{◌∙◌, ap, sym}
 use Rattle.std.proofs.Common.{List, ◌∷◌, [], ◌++◌}
 use Rattle.notes_read.specs.View.{said_of}
-use Rattle.star_tree.specs.Whole.{expr_of}
-use Rattle.template_spec.specs.Comments.{a_value}
 use Rattle.template_pass.specs.Building as build
 use Rattle.template_tree.specs.Slots.{slots_of, with_notes}
 use Rattle.template_tree.specs.View.{notes_of}
 use Rattle.notes_read.specs.declared.comment.Comment.{Comment}
-use Rattle.template_spec.specs.Comments.{Said}
 use Rattle.template_tree.proofs.Slotting.{on_ok}
 use Rattle.template_tree.specs.declared.tree.TNote.{TNote}
 use Rattle.template_tree.proofs.slots.put_beside.Goals as goal
 
-pub returns-in_ok-new-in-Value : goal.returns-in_ok-new-in-Value
-returns-in_ok-new-in-Value c = λ file.
-    on_ok c.put_value.result _ _
-    (λ h. h ∙ ap (λ (s : Said). build.changed c.args.level (build.with_beside file c.args.line s) (slots_of file c.args.slots.now.items)) (ap (λ e. a_value (expr_of file e)) (c.in_ok-new-in-Value.ensures) ∙ ap (said_of file) (sym c.in-Value.is)))
-    (c.put_value.ensures file c.args.line)
+pub returns-in-Value : goal.returns-in-Value
+returns-in-Value c = λ file.
+    on_ok c.put_value.result _ _ (λ h. h ∙ ap (λ (t : Comment). build.changed c.args.level (build.with_beside file c.args.line (said_of file t)) (slots_of file c.args.slots.now.items)) (sym c.in-Value.is)) (c.put_value.ensures file c.args.line)
 
 pub returns-in_ok-push-in-Note : goal.returns-in_ok-push-in-Note
 returns-in_ok-push-in-Note c = λ file.
