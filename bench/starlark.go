@@ -1,4 +1,4 @@
-// Runs a file of Starlark in starlark-go, as ytt does, and prints what it calls `t`.
+// Runs a file of Starlark in starlark-go, and prints what it calls `t`.
 package main
 
 import (
