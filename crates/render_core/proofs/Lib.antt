@@ -1,5 +1,3 @@
 pub mod Built
 pub mod Chains
-pub mod Names
-pub mod Refusals
 pub mod Texts

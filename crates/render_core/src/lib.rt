@@ -1,12 +1,11 @@
-//! What a request means over the files that are handed in: documents, a fault, or that the files failed.
+//! What the text of a file means: documents, or a fault.
 //!
-//! `render` gives exactly the documents that the request means over the tree of the files, such as can be written, or exactly its
-//! fault with the names of the files in which it may stand (`Renders`). The files' count of failures rises where they failed, at
-//! the path, and stands else as it was (`HasCause`).
+//! `read_documents` gives exactly the documents that a text means, such as can be written, or exactly its first fault
+//! (`documents`, `held`, `writable`). A text with code is a template, which is placed, compiled and run; any other is its documents.
 #![tactic(auto)]
 
 mod natives;
 mod rendering;
 mod template;
 
-pub use rendering::{RenderStop, render};
+pub use rendering::read_documents;

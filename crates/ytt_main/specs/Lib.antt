@@ -1,6 +1,8 @@
 pub mod Answers
+pub mod Asked
 pub mod Endings
 pub mod Found
 pub mod Headline
 pub mod Seen
 pub mod Status
+pub mod Written

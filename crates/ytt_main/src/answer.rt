@@ -5,7 +5,7 @@ ghost use Rattle.ytt_main.specs.Answers.{Answers};
 ghost use Rattle.ytt_main.specs.Found.{Found};
 ghost use Rattle.ytt_main.specs.Seen.{seen_files};
 
-use render_core::{RenderStop, render};
+use crate::asked::{RenderStop, render};
 use std::alloc::Global;
 use ytt_base::report::fault_text;
 use ytt_base::text::{Memory, Text};

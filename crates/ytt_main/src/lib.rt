@@ -1,7 +1,12 @@
 //! The top call: all that the program does. Its clauses are retold in the README, and stand beside `ytt_main`.
+//!
+//! `answer_words` finds what is to be written, with its cause (`Found`), and writes nothing; `write_answer` writes that alone
+//! (`Written`). What both give together is what `ytt_main` tells.
 #![tactic(auto)]
 
 mod answer;
+mod asked;
 mod run;
+mod written;
 
 pub use run::{Status, ytt_main};

@@ -4,9 +4,9 @@ ghost use Rattle.ytt_main.specs.Endings.{Ends};
 ghost use Rattle.ytt_main.specs.Headline.{GivesDue, IsWhole};
 ghost use Rattle.ytt_main.specs.Seen.{seen_files, seen_sink};
 
-use crate::answer::{Answer, answer_words};
+use crate::answer::answer_words;
+use crate::written::write_answer;
 use std::alloc::Global;
-use yaml_print::print_to;
 use ytt_outside::files::Files;
 use ytt_outside::sink::Sink;
 
@@ -81,32 +81,6 @@ pub fn ytt_main<F: Files, O: Sink, E: Sink>(
     ensures files_whole { IsWhole result → F.faults files.new ≡ F.faults files.old }
     ensures out_whole { result ≡ Status.Done → O.faults out.new ≡ O.faults out.old }
 {
-    match answer_words(alloc, words, files) {
-        Answer::Documents(trees) => {
-            let mut buffer = [0u8; 4096];
-            match print_to(&trees, out, &mut buffer) {
-                Ok(()) => Status::Done,
-                Err(_) => {
-                    let _ = err.write_piece(b"error: write failed\n");
-                    Status::WriteFault
-                }
-            }
-        }
-        Answer::Fault(line) => match err.write_piece(line.as_str().as_bytes()) {
-            Ok(()) => Status::Fault,
-            Err(_) => Status::WriteFault,
-        },
-        Answer::Usage(line) => match err.write_piece(line.as_str().as_bytes()) {
-            Ok(()) => Status::Usage,
-            Err(_) => Status::WriteFault,
-        },
-        Answer::ReadFailed(line) => match err.write_piece(line.as_str().as_bytes()) {
-            Ok(()) => Status::ReadFault,
-            Err(_) => Status::WriteFault,
-        },
-        Answer::Memory => {
-            let _ = err.write_piece(b"error: out of memory\n");
-            Status::Memory
-        }
-    }
+    let answer = answer_words(alloc, words, files);
+    write_answer(&answer, out, err)
 }

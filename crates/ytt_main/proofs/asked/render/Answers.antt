@@ -1,5 +1,5 @@
-use Rattle.render_core.proofs.Refusals.{no_template}
-use Rattle.render_core.proofs.rendering.render.Goals as goal
+use Rattle.ytt_main.proofs.Refusals.{no_template}
+use Rattle.ytt_main.proofs.asked.render.Goals as goal
 
 pub returns-then-not-gives_documents-clause-told : goal.returns-then-not-gives_documents-clause-told
 returns-then-not-gives_documents-clause-told g c =

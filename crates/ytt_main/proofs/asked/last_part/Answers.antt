@@ -1,8 +1,8 @@
 use Rattle.std.proofs.Common.{sym, ◌∙◌, ap, arith, rules}
 use Rattle.std.proofs.lemmas.Str.Pattern.{split_once_first}
 use Rattle.ytt_spec.specs.Meaning.{last_part}
-use Rattle.render_core.proofs.Names.{last_part-behind, last_part-itself}
-use Rattle.render_core.proofs.rendering.last_part.Goals as goal
+use Rattle.ytt_main.proofs.Names.{last_part-behind, last_part-itself}
+use Rattle.ytt_main.proofs.asked.last_part.Goals as goal
 
 pub loop-behind-preserved : goal.loop-behind-preserved
 loop-behind-preserved c =

@@ -1,4 +1,4 @@
--- What rendering answers.
+-- What the file that is asked for means.
 use Rattle.std.specs.Prelude.{◌≡◌, ℕ, List, Result, Ok, Err}
 use Rattle.ytt_base.specs.View.{trees_of}
 use Rattle.ytt_base.specs.declared.fault.Fault.{Fault}
@@ -7,8 +7,8 @@ use Rattle.ytt_outside.specs.Counts.{Rose}
 use Rattle.ytt_outside.specs.Standing.{Standing, nothing, file, folder}
 use Rattle.ytt_spec.specs.Meaning.{Meant, file_names}
 use Rattle.ytt_spec.specs.Words.{Command, render}
-use Rattle.render_core.specs.declared.rendering.RenderStop.{RenderStop}
-use Rattle.render_core.specs.declared.rendering.RenderStop.TheVariants as stop
+use Rattle.ytt_main.specs.declared.asked.RenderStop.{RenderStop}
+use Rattle.ytt_main.specs.declared.asked.RenderStop.TheVariants as stop
 
 -- What was answered is a meaning of which this holds, unless the files failed or there was no room.
 abbrev pub Renders : (Meant → Type 0) → Result (List Tree) RenderStop → Type 0

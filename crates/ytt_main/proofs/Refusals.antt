@@ -9,9 +9,9 @@ use Rattle.code_spec.specs.CodeReading.{CodeReader}
 use Rattle.ytt_spec.specs.Meaning.{Means, file_names, gives_documents, largest_file, last_part, named_in, not_built, path_fault, path_meaning, text_meaning}
 use Rattle.ytt_spec.specs.Words.{Budget, Command}
 use Rattle.ytt_words.specs.Asks.{budget_of, command_of}
-use Rattle.render_core.specs.Rendering.{Refuses, Renders}
-use Rattle.render_core.specs.declared.rendering.RenderStop.{RenderStop}
-use Rattle.render_core.specs.declared.rendering.RenderStop.TheVariants as stop
+use Rattle.ytt_main.specs.Asked.{Refuses, Renders}
+use Rattle.ytt_main.specs.declared.asked.RenderStop.{RenderStop}
+use Rattle.ytt_main.specs.declared.asked.RenderStop.TheVariants as stop
 use Rattle.ytt_words.specs.declared.words.Request.{Request}
 
 means_refused : (command : Command) (tree : List ℕ → Standing) (f : Fault) (r : RenderStop) → Means command tree (Err (record { fault = f; names = file_names command })) → Refuses command f r → Renders (Means command tree) (Err r)
