@@ -1,5 +1,8 @@
 -- An answer behind its cost, and a call of a method from the values of its parameters.
-use Rattle.std.proofs.Common.{◌≡◌, ℕ, ◌+◌, nat_le, Bool, true, false, List, ◌∷◌, Some, Result, Err, refl, subst, sym, ap, arith, ◌∙◌}
+use Rattle.std.proofs.Common.{◌≡◌, ℕ, ◌+◌, ◌/◌, ◌^◌, ◌<◌, ◌≤◌, nat_le, Bool, true, false, List, [], ◌∷◌, length, Some, Result, Err, refl, subst, sym, ap, arith, ◌∙◌}
+use Rattle.std.proofs.lemmas.Bool.{lt-leb}
+use Rattle.std.proofs.lemmas.List.{nil_from_length}
+use Rattle.ytt_base.specs.Outcomes.{fault_at}
 use Rattle.ytt_base.specs.declared.fault.FaultKind.TheVariants as kind
 use Rattle.ytt_base.specs.declared.fault.Place.{Place}
 use Rattle.ytt_base.specs.declared.fault.Stop.{Stop}
@@ -7,12 +10,12 @@ use Rattle.ytt_base.specs.declared.fault.Stop.TheVariants as stop
 use Rattle.code_spec.specs.Code.{Name}
 use Rattle.star_steps.specs.Meets.{Gives, Meets, as_is, state_in}
 use Rattle.star_values.proofs.Growing.{grows_same}
-use Rattle.star_values.specs.View.{View}
+use Rattle.star_values.specs.View.{View, values_of}
 use Rattle.star_values.specs.declared.value.Value.{Value as Held}
-use Rattle.text_spec.specs.Answers.{Answer, answer_bytes, answer_members, give_answer, operation_cost, paid_answer, paid_operation}
+use Rattle.text_spec.specs.Answers.{Answer, all_bytes, all_members, answer_bytes, answer_members, give_answer, operation_cost, paid_answer, paid_operation}
 use Rattle.text_spec.specs.Methods.{Method, method_answer, method_row}
 use Rattle.text_spec.specs.Signatures.{Operands, read_operands}
-use Rattle.value_spec.specs.Outcomes.{Computation, Ending, State, done, give, or_fail, take_if, then_do, ◌>>=◌}
+use Rattle.value_spec.specs.Outcomes.{Computation, Ending, State, bad, done, give, or_fail, take_if, take_steps, then_do, ◌>>=◌}
 use Rattle.value_spec.specs.Binding.{bound_values, none_for_each, parameters_named}
 use Rattle.value_spec.specs.Values.{Arguments, Value, text_value}
 
@@ -22,6 +25,40 @@ Here = State (Unit {0})
 -- so many more
 pub counted : (n k x y total : ℕ) → k ≡ x → n + (x + y) ≡ total → n + k + y ≡ total
 counted n k x y total e h = grind arith
+
+add-zero : (n : ℕ) → n + 0 ≡ n
+add-zero n = omega arith
+
+-- a cost alone
+alone : (b : Bool) (n : ℕ) (p : Place) (s : Here) → then_do (take_if b n p s) (λ (u : Unit {0}). give (tt {0})) ≡ take_if b n p s
+alone true n p s = refl
+alone false n p s = refl
+
+-- what an operation costs that was counted so
+module _ (p : Place) (v : Value) (vs : List Value) (b m bytes members : ℕ) (a : View) (k : ℕ) (rest : List Held) (none : length rest ≡ 0)
+    (of_bytes : bytes + all_bytes (values_of a rest) ≡ all_bytes (v ∷ vs) + b) (of_members : members + all_members a.store (values_of a rest) ≡ all_members a.store (v ∷ vs) + m) where
+  last : rest ≡ []
+  last = nil_from_length rest none
+
+  same_cost : operation_cost (v ∷ vs) b m a.store ≡ bytes / 16 + members
+  same_cost =
+      (λ i. sym of_bytes i / 16 + sym of_members i)
+      ∙ (λ i. (bytes + all_bytes (values_of a (last i))) / 16 + (members + all_members a.store (values_of a (last i))))
+      ∙ (λ i. add-zero bytes i / 16 + add-zero members i)
+
+  abbrev taking : Bool → ℕ → Ending (Unit {0}) (Unit {0})
+  taking fits n = then_do (take_if fits n p (state_in a k)) (λ (u : Unit {0}). give (tt {0}))
+
+  -- no budget has so many steps
+  pub past_all : 2 ^ 64 ≤ bytes / 16 + members → k < 2 ^ 64 → paid_operation p (v ∷ vs) b m (give (tt {0})) (state_in a k) ≡ bad (fault_at kind.Steps p) (state_in a k)
+  past_all much few = ap (λ n. taking (nat_le n k) n) same_cost ∙ ap (λ fits. taking fits (bytes / 16 + members)) (lt-leb (bytes / 16 + members) k (omega (arith, much, few)))
+
+  pub paid_all : (n : ℕ) (r : Result (Unit {0}) Stop) (after : Here) → n ≡ bytes / 16 + members → Meets as_is r after (take_steps n p (state_in a k)) → Meets as_is r after (paid_operation p (v ∷ vs) b m (give (tt {0})) (state_in a k))
+  paid_all n r after is e = subst (Meets as_is r after) (sym (ap (λ n. taking (nat_le n k) n) (same_cost ∙ sym is) ∙ alone (nat_le n k) n p (state_in a k))) e
+
+-- counts before all others
+pub begun : (b k x y : ℕ) → k ≡ y → b + k + x ≡ y + x + b
+begun b k x y e = omega (arith, e)
 
 paid_if : {A : Type 0} (b : Bool) (n : ℕ) (p : Place) (m : Computation (Unit {0}) A) (s : Here) → then_do (take_if b n p s) (λ u. m) ≡ then_do (then_do (take_if b n p s) (λ u. give (tt {0}))) (λ (u : Unit {0}). m)
 paid_if true n p m s = refl

@@ -1,5 +1,7 @@
 -- From the code's types to the definitions': kinds, operands, methods, answers.
-use Rattle.std.specs.Prelude.{◌≡◌, ◌<◌, ◌≤◌, length, ◌^◌, ℕ, Bool, List, MatchOption, Option}
+use Rattle.std.specs.Prelude.{◌≡◌, ◌<◌, ◌≤◌, length, ◌^◌, ℕ, Bool, List, MatchOption, Option, map as each}
+use Rattle.std.specs.Borrow.{Bor}
+use Rattle.code_spec.specs.Code.{Name}
 use Rattle.operator_spec.specs.Operators.{begins_with}
 use Rattle.text_spec.specs.Answers as plain
 use Rattle.text_spec.specs.Classes.{capitalized, is_all, is_cased, is_digit, is_letter, is_letter_or_digit, is_lower, is_space, is_upper, lowered, uppered}
@@ -103,6 +105,10 @@ method_of text_method.Lines = by_lines
 method_of (text_method.Strip e) = stripping (stripped_at e)
 method_of (text_method.Change l) = changing (changed_by l)
 method_of (text_method.Ask t) = testing (passes t)
+
+-- names with the methods that they are
+abbrev pub named_methods : List (Bor (List ℕ) × TextMethod) → List (Name × Method)
+named_methods ms = each (λ m. (m.0.now, method_of m.1)) ms
 
 -- where a method cuts at its first argument that isn't empty
 abbrev pub IsSeparated : TextMethod → read.Operands → Type 0

@@ -1,7 +1,7 @@
 // The table of the methods: which one a name is, what it takes, and as what.
 ghost use Rattle.std.specs.Prelude.{◌≡◌, ◌||◌, bytes_eq, codes, is_some, map as each, option_map};
 ghost use Rattle.text_spec.specs.Methods.{method_in, text_methods};
-ghost use Rattle.star_text.specs.View.{kinds_of, method_of};
+ghost use Rattle.star_text.specs.View.{kinds_of, method_of, named_methods};
 
 use crate::kinds::{Kind, Kinds};
 
@@ -60,41 +60,55 @@ pub(crate) enum TextMethod {
     Ask(Test),
 }
 
+/// The method of a name among these.
+fn method_among(name: &str, methods: &[(&str, TextMethod)]) -> Option<TextMethod>
+    ensures { option_map method_of result ≡ method_in name.now (named_methods methods.now) }
+{
+    for method in methods {
+        if name == method.0 {
+            return Some(method.1);
+        }
+    }
+    None
+}
+
 /// The method of a name.
 pub(crate) fn method_named(name: &str) -> Option<TextMethod>
     ensures { option_map method_of result ≡ method_in name.now text_methods }
 {
-    match name {
-        "count" => Some(TextMethod::Search(Sought::HowOften, false)),
-        "find" => Some(TextMethod::Search(Sought::First, false)),
-        "rfind" => Some(TextMethod::Search(Sought::Last, false)),
-        "index" => Some(TextMethod::Search(Sought::First, true)),
-        "rindex" => Some(TextMethod::Search(Sought::Last, true)),
-        "startswith" => Some(TextMethod::AtFront),
-        "endswith" => Some(TextMethod::AtBack),
-        "removeprefix" => Some(TextMethod::WithoutPrefix),
-        "removesuffix" => Some(TextMethod::WithoutSuffix),
-        "replace" => Some(TextMethod::Replace),
-        "join" => Some(TextMethod::Join),
-        "partition" => Some(TextMethod::Partition),
-        "rpartition" => Some(TextMethod::PartitionBack),
-        "split" => Some(TextMethod::Split),
-        "rsplit" => Some(TextMethod::SplitBack),
-        "splitlines" => Some(TextMethod::Lines),
-        "strip" => Some(TextMethod::Strip(End::Both)),
-        "lstrip" => Some(TextMethod::Strip(End::Front)),
-        "rstrip" => Some(TextMethod::Strip(End::Back)),
-        "lower" => Some(TextMethod::Change(Letters::Lower)),
-        "upper" => Some(TextMethod::Change(Letters::Upper)),
-        "capitalize" => Some(TextMethod::Change(Letters::Capital)),
-        "isalnum" => Some(TextMethod::Ask(Test::LetterOrDigit)),
-        "isalpha" => Some(TextMethod::Ask(Test::Letter)),
-        "isdigit" => Some(TextMethod::Ask(Test::Digit)),
-        "isspace" => Some(TextMethod::Ask(Test::Space)),
-        "islower" => Some(TextMethod::Ask(Test::Lower)),
-        "isupper" => Some(TextMethod::Ask(Test::Upper)),
-        _ => None,
-    }
+    method_among(
+        name,
+        &[
+            ("count", TextMethod::Search(Sought::HowOften, false)),
+            ("find", TextMethod::Search(Sought::First, false)),
+            ("rfind", TextMethod::Search(Sought::Last, false)),
+            ("index", TextMethod::Search(Sought::First, true)),
+            ("rindex", TextMethod::Search(Sought::Last, true)),
+            ("startswith", TextMethod::AtFront),
+            ("endswith", TextMethod::AtBack),
+            ("removeprefix", TextMethod::WithoutPrefix),
+            ("removesuffix", TextMethod::WithoutSuffix),
+            ("replace", TextMethod::Replace),
+            ("join", TextMethod::Join),
+            ("partition", TextMethod::Partition),
+            ("rpartition", TextMethod::PartitionBack),
+            ("split", TextMethod::Split),
+            ("rsplit", TextMethod::SplitBack),
+            ("splitlines", TextMethod::Lines),
+            ("strip", TextMethod::Strip(End::Both)),
+            ("lstrip", TextMethod::Strip(End::Front)),
+            ("rstrip", TextMethod::Strip(End::Back)),
+            ("lower", TextMethod::Change(Letters::Lower)),
+            ("upper", TextMethod::Change(Letters::Upper)),
+            ("capitalize", TextMethod::Change(Letters::Capital)),
+            ("isalnum", TextMethod::Ask(Test::LetterOrDigit)),
+            ("isalpha", TextMethod::Ask(Test::Letter)),
+            ("isdigit", TextMethod::Ask(Test::Digit)),
+            ("isspace", TextMethod::Ask(Test::Space)),
+            ("islower", TextMethod::Ask(Test::Lower)),
+            ("isupper", TextMethod::Ask(Test::Upper)),
+        ],
+    )
 }
 
 /// Whether texts have a method of this name, `format` among them.
