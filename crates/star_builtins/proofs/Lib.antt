@@ -9,4 +9,3 @@ mod Pairing
 mod Ranges
 mod Reading
 mod Sequencing
-mod Tables

@@ -1,5 +1,6 @@
 -- What the code's functions and methods are in the definitions.
-use Rattle.std.specs.Prelude.{ℕ, Bool, false, List, [], ◌∷◌, codes, if◌then◌else◌}
+use Rattle.std.specs.Prelude.{ℕ, Bool, false, List, [], ◌∷◌, codes, map as each, if◌then◌else◌}
+use Rattle.std.specs.Borrow.{Bor}
 use Rattle.ytt_base.specs.declared.fault.FaultKind.TheVariants as kind
 use Rattle.ytt_base.specs.declared.fault.Place.{Place}
 use Rattle.builtin_spec.specs.Binding.{Own, is_given, taking}
@@ -172,6 +173,10 @@ builtin_of (named.Bound b) = taken_by (bound.Function b)
 builtin_of named.Range = range_row
 builtin_of named.Zip = zip_row
 builtin_of named.Dict = dict_row
+
+-- names with the functions that they are
+abbrev pub named_functions : List (Bor (List ℕ) × Named) → List (Name × Own Here)
+named_functions fs = each (λ f. (f.0.now, builtin_of f.1)) fs
 
 abbrev pub list_method_of : ℕ → ListMethod → Own Here
 list_method_of r m p args = taking (list_method_needs m) (list_method_may_have m) (list_method_gives r m (given_to_list_method m args)) p args

@@ -4,7 +4,7 @@ ghost use Rattle.builtin_spec.specs.Binding.{is_given, own_in};
 ghost use Rattle.builtin_spec.specs.Builtins.{builtins};
 ghost use Rattle.builtin_spec.specs.Dicts.{dict_methods};
 ghost use Rattle.builtin_spec.specs.Lists.{list_methods};
-ghost use Rattle.star_builtins.specs.View.{builtin_of, dict_method_may_have, dict_method_needs, dict_method_of, function_may_have, function_needs, list_method_may_have, list_method_needs, list_method_of, needed_of, optional_of, was_given};
+ghost use Rattle.star_builtins.specs.View.{builtin_of, dict_method_may_have, dict_method_needs, dict_method_of, function_may_have, function_needs, list_method_may_have, list_method_needs, list_method_of, named_functions, needed_of, optional_of, was_given};
 ghost use Rattle.star_values.specs.View.{arguments_in, fields_in};
 ghost use Rattle.value_spec.specs.Binding.{has_field};
 ghost use Rattle.value_spec.specs.Values as plain;
@@ -82,33 +82,47 @@ pub(crate) enum Bound {
     OfDict(DictMethod, Ref),
 }
 
+/// The function of a name among these.
+fn function_among(name: &str, functions: &[(&str, Named)]) -> Option<Named>
+    ensures { option_map builtin_of result ≡ own_in name.now (named_functions functions.now) }
+{
+    for function in functions {
+        if name == function.0 {
+            return Some(function.1);
+        }
+    }
+    None
+}
+
 /// The function of a name.
 pub(crate) fn builtin_named(name: &str) -> Option<Named>
     ensures { option_map builtin_of result ≡ own_in name.now builtins }
 {
-    match name {
-        "len" => Some(Named::Bound(Builtin::Len)),
-        "str" => Some(Named::Bound(Builtin::Str)),
-        "repr" => Some(Named::Bound(Builtin::Repr)),
-        "type" => Some(Named::Bound(Builtin::Type)),
-        "bool" => Some(Named::Bound(Builtin::Bool)),
-        "fail" => Some(Named::Bound(Builtin::Fail)),
-        "list" => Some(Named::Bound(Builtin::List)),
-        "tuple" => Some(Named::Bound(Builtin::Tuple)),
-        "reversed" => Some(Named::Bound(Builtin::Reversed)),
-        "any" => Some(Named::Bound(Builtin::Any)),
-        "all" => Some(Named::Bound(Builtin::All)),
-        "abs" => Some(Named::Bound(Builtin::Abs)),
-        "range" => Some(Named::Range),
-        "enumerate" => Some(Named::Bound(Builtin::Enumerate)),
-        "zip" => Some(Named::Zip),
-        "int" => Some(Named::Bound(Builtin::Int)),
-        "hasattr" => Some(Named::Bound(Builtin::HasAttr)),
-        "getattr" => Some(Named::Bound(Builtin::GetAttr)),
-        "dict" => Some(Named::Dict),
-        "dir" => Some(Named::Bound(Builtin::Dir)),
-        _ => None,
-    }
+    function_among(
+        name,
+        &[
+            ("len", Named::Bound(Builtin::Len)),
+            ("str", Named::Bound(Builtin::Str)),
+            ("repr", Named::Bound(Builtin::Repr)),
+            ("type", Named::Bound(Builtin::Type)),
+            ("bool", Named::Bound(Builtin::Bool)),
+            ("fail", Named::Bound(Builtin::Fail)),
+            ("list", Named::Bound(Builtin::List)),
+            ("tuple", Named::Bound(Builtin::Tuple)),
+            ("reversed", Named::Bound(Builtin::Reversed)),
+            ("any", Named::Bound(Builtin::Any)),
+            ("all", Named::Bound(Builtin::All)),
+            ("abs", Named::Bound(Builtin::Abs)),
+            ("range", Named::Range),
+            ("enumerate", Named::Bound(Builtin::Enumerate)),
+            ("zip", Named::Zip),
+            ("int", Named::Bound(Builtin::Int)),
+            ("hasattr", Named::Bound(Builtin::HasAttr)),
+            ("getattr", Named::Bound(Builtin::GetAttr)),
+            ("dict", Named::Dict),
+            ("dir", Named::Bound(Builtin::Dir)),
+        ],
+    )
 }
 
 /// The method of lists of a name.

@@ -1,5 +1,5 @@
 -- What parts of a collection become, one after another.
-use Rattle.std.proofs.Common.{◌≡◌, ℕ, true, false, List, [], ◌∷◌, ◌++◌, reverse, map as each, Option, Some, None, Result, Ok, Err, IfOk, refl, ap, sym, ◌∙◌, append_assoc, rules}
+use Rattle.std.proofs.Common.{◌≡◌, ℕ, true, false, List, [], ◌∷◌, ◌++◌, reverse, map as each, Option, Some, None, Result, Ok, Err, OnOk, refl, ap, sym, ◌∙◌, append_assoc, rules}
 use Rattle.std.proofs.lemmas.List.{map-append, reverse-append, reverse-reverse}
 use Rattle.ytt_base.specs.declared.fault.Place.{Place}
 use Rattle.ytt_base.specs.Outcomes.{place_at}
@@ -116,9 +116,9 @@ nesting_ends file kind all left nested w e =
 
 -- ---- what each call gives
 
-pub ok_same : (file : ℕ) (r : Result Nested Memory) (a b : nesting.Nested) → IfOk r (λ n. nested_of file n ≡ a) → a ≡ b → IfOk r (λ n. nested_of file n ≡ b)
-ok_same file (Ok n) a b h e = h ∙ e
-ok_same file (Err m) a b h e = tt
+pub done_same : (r : Result (Unit {0}) Memory) (new a b : nesting.Nested) → OnOk r (new ≡ a) → a ≡ b → OnOk r (new ≡ b)
+done_same (Ok u) new a b h e = h ∙ e
+done_same (Err m) new a b h e = tt
 
 pub statement_same : (file : ℕ) (s : Stmt) (n : nesting.Nested) → true ≡ is_statement (instruction_of file s) → put (item_of file (item.Code s)) n ≡ put_statements (instruction_of file s ∷ []) n
 statement_same file s n e = ap (λ i. put i n) (item_of-Code file s) ∙ sym (one_statement file (instruction_of file s) n (sym e))
@@ -176,6 +176,9 @@ else_given file p n is body new more outer e b t f =
     ∙ ap (λ (m : Branches). nesting.last_branch (place_at file p.line) (inside (items_of file (reverse is)) m (nested_of file outer))) (sym (branch_is (branches_of file more) b))
     ∙ ap (nesting.last_branch (place_at file p.line)) (sym (nested_of-Inside file is more outer) ∙ ap (nested_of file) (sym e))
 
+pub inside_as : (file : ℕ) (is : List TItem) (more same : TBranches) (outer : Nested) → more ≡ same → nested_of file (held.Inside is more outer) ≡ nested_of file (held.Inside is same outer)
+inside_as file is more same outer e = ap (λ (m : TBranches). nested_of file (held.Inside is m outer)) e
+
 pub else_not_given : (file : ℕ) (p : Place) (n : Nested) (is : List TItem) (more : TBranches) (outer : Nested) → n ≡ held.Inside is more outer → false ≡ is_no_branch (branches_of file more)
     → nested_of file held.Broken ≡ nesting.last_branch (place_at file p.line) (nested_of file n)
 else_not_given file p n is more outer e b =
@@ -184,25 +187,6 @@ else_not_given file p n is more outer e b =
 
 front_pushed : (file : ℕ) (items rest : List TItem) (i : TItem) → items ≡ rest ++ i ∷ [] → items_of file (reverse items) ≡ an_item (item_of file i) (items_of file (reverse rest))
 front_pushed file items rest i e = ap (items_of file) (ap reverse e ∙ reverse-append rest (i ∷ []))
-
-pub top_none : (file : ℕ) (kind : ItemKind) (p : Place) (h : plain_header.Header) (items : List TItem) → items ≡ [] → nested_of file held.Broken ≡ nesting.around_one kind p h (at_top (items_of file (reverse items)))
-top_none file kind p h items e = nested_of-Broken file ∙ ap (λ (is : List TItem). nesting.around_one kind p h (at_top (items_of file (reverse is)))) (sym e)
-
-pub top_one : (file : ℕ) (kind : ItemKind) (p : Place) (h : plain_header.Header) (items rest : List TItem) (i : TItem) (b : Option Item) (front : nesting.Nested) → items ≡ rest ++ i ∷ []
-    → b ≡ nesting.block_of kind p h (an_item (item_of file i) no_items) no_branch → front ≡ nesting.put_block b (nested_of file (held.AtTop rest))
-    → front ≡ nesting.around_one kind p h (at_top (items_of file (reverse items)))
-top_one file kind p h items rest i b front e k f =
-    f ∙ (λ j. nesting.put_block (k j) (nested_of-AtTop file rest j)) ∙ ap (λ (is : Items). nesting.around_one kind p h (at_top is)) (sym (front_pushed file items rest i e))
-
-pub inside_none : (file : ℕ) (kind : ItemKind) (p : Place) (h : plain_header.Header) (items : List TItem) (more : Branches) (outer : nesting.Nested) → items ≡ []
-    → nested_of file held.Broken ≡ nesting.around_one kind p h (inside (items_of file (reverse items)) more outer)
-inside_none file kind p h items more outer e = nested_of-Broken file ∙ ap (λ (is : List TItem). nesting.around_one kind p h (inside (items_of file (reverse is)) more outer)) (sym e)
-
-pub inside_one : (file : ℕ) (kind : ItemKind) (p : Place) (h : plain_header.Header) (items rest : List TItem) (i : TItem) (more : TBranches) (outer : Nested) (b : Option Item) (front : nesting.Nested) → items ≡ rest ++ i ∷ []
-    → b ≡ nesting.block_of kind p h (an_item (item_of file i) no_items) no_branch → front ≡ nesting.put_block b (nested_of file (held.Inside rest more outer))
-    → front ≡ nesting.around_one kind p h (inside (items_of file (reverse items)) (branches_of file more) (nested_of file outer))
-inside_one file kind p h items rest i more outer b front e k f =
-    f ∙ (λ j. nesting.put_block (k j) (nested_of-Inside file rest more outer j)) ∙ ap (λ (is : Items). nesting.around_one kind p h (inside is (branches_of file more) (nested_of file outer))) (sym (front_pushed file items rest i e))
 
 pub block_opened : (file : ℕ) (kind : ItemKind) (p : Place) (h : plain_header.Header) (n : Nested) (items body : List TItem) (more : TBranches) (outer inner : Nested) (b : Option Item) (front : nesting.Nested) → n ≡ held.Inside items more outer
     → body ≡ reverse items → inner ≡ outer → b ≡ nesting.block_of kind p h (items_of file body) (branches_of file more) → front ≡ nesting.put_block b (nested_of file inner) → front ≡ nesting.open_block kind p h (nested_of file n)
@@ -216,5 +200,5 @@ statements_on file left left2 s front front2 b e h k =
     ap (put_statements (instructions_of file left2)) h ∙ sym (statements_behind (instructions_of file left2) (instruction_of file s) front)
     ∙ ap (λ (is : List Instruction). put_statements is front) (sym (map-append (instruction_of file) left2 (s ∷ [])) ∙ ap (instructions_of file) (sym e)) ∙ k
 
-pub said_as : (file : ℕ) (kind : ItemKind) (p : Place) (n front : nesting.Nested) (comment mark : Comment) → comment ≡ mark → front ≡ nesting.nest_said kind p (said_of file mark) n → front ≡ nesting.nest_said kind p (said_of file comment) n
-said_as file kind p n front comment mark e h = h ∙ ap (λ (c : Comment). nesting.nest_said kind p (said_of file c) n) (sym e)
+pub said_same : (file : ℕ) (kind : ItemKind) (p : Place) (n : nesting.Nested) (comment mark : Comment) → comment ≡ mark → nesting.nest_said kind p (said_of file mark) n ≡ nesting.nest_said kind p (said_of file comment) n
+said_same file kind p n comment mark e = ap (λ (c : Comment). nesting.nest_said kind p (said_of file c) n) (sym e)

@@ -1,11 +1,13 @@
 -- The parts of collections and what is read of them from the end, as plain data.
-use Rattle.std.specs.Prelude.{ℕ, Bool, true, false, List, map as each, reverse}
+use Rattle.std.specs.Prelude.{◌≡◌, ℕ, Bool, true, false, List, Option, Some, None, map as each, reverse}
+use Rattle.ytt_base.specs.declared.fault.Place.{Place}
+use Rattle.code_spec.specs.CodeReading.{Header}
 use Rattle.ytt_base.specs.Outcomes.{place_at}
 use Rattle.code_spec.specs.Program.{ItemKind, Instruction, statement}
 use Rattle.notes_read.specs.View.{said_of}
 use Rattle.template_spec.specs.Nesting as nesting
 use Rattle.template_spec.specs.Nesting.{broken, at_top, inside, a_node, a_mark, nest_said, put}
-use Rattle.template_spec.specs.Template.{Items, Branches, no_branch}
+use Rattle.template_spec.specs.Template.{Items, Branches, an_item, no_branch, no_items}
 use Rattle.template_tree.specs.declared.nest.Nested.{Nested, fold-Nested}
 use Rattle.template_tree.specs.declared.nest.Nested.TheOpen.{Nested-F}
 use Rattle.template_tree.specs.declared.nest.Part.{Part}
@@ -32,6 +34,12 @@ nested_step file (Nested-F.Inside is more outer) = inside (front_of file is) (br
 
 abbrev pub nested_of : (file : ℕ) → Nested → nesting.Nested
 nested_of file = fold-Nested nesting.Nested (nested_step file)
+
+-- The first of the items that were read is taken, and the others stay; or there is none.
+abbrev pub Pops : (file : ℕ) → (old new : Nested) → Option TItem → Type 0
+Pops file old new None = (kind : ItemKind) (p : Place) (h : Header) → nesting.around_one kind p h (nested_of file old) ≡ broken
+Pops file old new (Some i) = (kind : ItemKind) (p : Place) (h : Header) →
+    nesting.around_one kind p h (nested_of file old) ≡ nesting.put_block (nesting.block_of kind p h (an_item (item_of file i) no_items) no_branch) (nested_of file new)
 
 -- one part in front
 abbrev pub nest_step : (file : ℕ) → ItemKind → nesting.Part → nesting.Nested → nesting.Nested

@@ -1,12 +1,13 @@
 // The items of a collection, with the statements and blocks between them.
-ghost use Rattle.std.specs.Prelude.{◌≡◌, ℕ, List, [], ◌∷◌, IfOk, option_map, reverse};
+ghost use Rattle.std.specs.Prelude.{◌≡◌, ℕ, List, [], ◌∷◌, IfOk, OnOk, option_map, reverse};
 ghost use Rattle.notes_read.specs.View.{said_of};
 ghost use Rattle.star_tree.specs.View.{item_kind_of};
 ghost use Rattle.star_tree.specs.Whole.{expr_of, header_of, instruction_of, instructions_of};
 ghost use Rattle.template_spec.specs.Nesting as nesting;
 ghost use Rattle.template_spec.specs.Template.{an_item, no_branch, no_items};
-ghost use Rattle.template_tree.specs.Nests.{is_no_branch, is_statement, nest_step, nested_of, parts_of, part_of};
+ghost use Rattle.template_tree.specs.Nests.{Pops, is_no_branch, is_statement, nest_step, nested_of, parts_of, part_of};
 ghost use Rattle.template_tree.specs.View.{branches_of, item_of, items_of};
+ghost use Rattle.template_tree.specs.declared.nest.Nested as Nested;
 ghost use Rattle.ytt_base.specs.Outcomes.{place_at};
 
 use crate::tree::{TBranches, TItem, TItems};
@@ -63,27 +64,27 @@ fn turned_parts(alloc: Global, parts: Parts) -> Result<Parts, Memory>
 
 // ---- items
 
-fn with_item(items: TItems, item: TItem) -> Result<TItems, Memory>
-    ensures { IfOk result (λ is. reverse is ≡ item ∷ reverse items) }
+/// The blocks aren't closed in order, so nothing is what was read.
+fn break_off(nested: &mut Nested)
+    ensures { nested.new ≡ Nested.Broken }
 {
-    let mut front = items;
-    front.push(item)?;
-    Ok(front)
+    drop(std::mem::replace(nested, Nested::Broken));
 }
 
 /// An item in front of what was read.
 #[tactic(auto, using(crate::proofs::Nesting::nests))]
-fn put_item(item: TItem, nested: Nested) -> Result<Nested, Memory>
-    ensures { (file : ℕ) → IfOk result (λ n. nested_of file n ≡ nesting.put (item_of file item) (nested_of file nested)) }
+fn put_item(item: TItem, nested: &mut Nested) -> Result<(), Memory>
+    ensures { (file : ℕ) → OnOk result (nested_of file nested.new ≡ nesting.put (item_of file item) (nested_of file nested.old)) }
 {
     match nested {
-        Nested::Broken => {
-            drop(item);
-            Ok(Nested::Broken)
+        Nested::Broken => Ok(()),
+        Nested::AtTop(items) => {
+            items.push(item)?;
+            Ok(())
         }
-        Nested::AtTop(items) => Ok(Nested::AtTop(with_item(items, item)?)),
-        Nested::Inside(items, more, outer) => {
-            Ok(Nested::Inside(with_item(items, item)?, more, outer))
+        Nested::Inside(items, _, _) => {
+            items.push(item)?;
+            Ok(())
         }
     }
 }
@@ -112,25 +113,24 @@ fn is_statement(stmt: &Stmt) -> bool
 }
 
 #[tactic(auto, using(crate::proofs::Nesting::nests))]
-fn put_statement(stmt: Stmt, nested: Nested) -> Result<Nested, Memory>
-    ensures { (file : ℕ) → IfOk result (λ n. nested_of file n ≡ nesting.put_statements (instruction_of file stmt ∷ []) (nested_of file nested)) }
+fn put_statement(stmt: Stmt, nested: &mut Nested) -> Result<(), Memory>
+    ensures { (file : ℕ) → OnOk result (nested_of file nested.new ≡ nesting.put_statements (instruction_of file stmt ∷ []) (nested_of file nested.old)) }
 {
     if is_statement(&stmt) {
         return put_item(TItem::Code(stmt), nested);
     }
-    Ok(nested)
+    Ok(())
 }
 
 #[tactic(auto, using(crate::proofs::Nesting::nests))]
-fn put_statements(stmts: Items<Stmt>, nested: Nested) -> Result<Nested, Memory>
-    ensures { (file : ℕ) → IfOk result (λ n. nested_of file n ≡ nesting.put_statements (instructions_of file stmts) (nested_of file nested)) }
+fn put_statements(stmts: Items<Stmt>, nested: &mut Nested) -> Result<(), Memory>
+    ensures { (file : ℕ) → OnOk result (nested_of file nested.new ≡ nesting.put_statements (instructions_of file stmts) (nested_of file nested.old)) }
 {
     let mut left = stmts;
-    let mut front = nested;
     while let Some(stmt) = left.pop() {
-        front = put_statement(stmt, front)?;
+        put_statement(stmt, nested)?;
     }
-    Ok(front)
+    Ok(())
 }
 
 // ---- blocks
@@ -175,11 +175,14 @@ fn block_of(
 }
 
 #[tactic(auto, using(crate::proofs::Nesting::nests))]
-fn put_block(block: Option<TItem>, nested: Nested) -> Result<Nested, Memory>
-    ensures { (file : ℕ) → IfOk result (λ n. nested_of file n ≡ nesting.put_block (option_map (item_of file) block) (nested_of file nested)) }
+fn put_block(block: Option<TItem>, nested: &mut Nested) -> Result<(), Memory>
+    ensures { (file : ℕ) → OnOk result (nested_of file nested.new ≡ nesting.put_block (option_map (item_of file) block) (nested_of file nested.old)) }
 {
     match block {
-        None => Ok(Nested::Broken),
+        None => {
+            break_off(nested);
+            Ok(())
+        }
         Some(item) => put_item(item, nested),
     }
 }
@@ -190,18 +193,17 @@ fn open_block(
     kind: ItemKind,
     place: Place,
     header: Header,
-    nested: Nested,
-) -> Result<Nested, Memory>
-    ensures { (file : ℕ) → IfOk result (λ n. nested_of file n ≡ nesting.open_block (item_kind_of kind) (place_at file place.line) (header_of file header) (nested_of file nested)) }
+    nested: &mut Nested,
+) -> Result<(), Memory>
+    ensures { (file : ℕ) → OnOk result (nested_of file nested.new ≡ nesting.open_block (item_kind_of kind) (place_at file place.line) (header_of file header) (nested_of file nested.old)) }
 {
-    match nested {
+    match std::mem::replace(nested, Nested::Broken) {
         Nested::Inside(items, more, outer) => {
+            drop(std::mem::replace(nested, outer.into_inner()));
             let body = turned_items(alloc, items)?;
-            let block = block_of(kind, place, header, body, more);
-            let front = put_block(block, outer.into_inner())?;
-            Ok(front)
+            put_block(block_of(kind, place, header, body, more), nested)
         }
-        Nested::Broken | Nested::AtTop(_) => Ok(Nested::Broken),
+        Nested::Broken | Nested::AtTop(_) => Ok(()),
     }
 }
 
@@ -221,67 +223,36 @@ fn block_around(
     Ok(block_of(kind, place, header, items, TBranches::Nothing))
 }
 
-/// A block for one item, where no block around it is closed further on.
-fn around_top(
-    alloc: Global,
-    kind: ItemKind,
-    place: Place,
-    header: Header,
-    items: TItems,
-) -> Result<Nested, Memory>
-    ensures { (file : ℕ) → IfOk result (λ n. nested_of file n ≡ nesting.around_one (item_kind_of kind) (place_at file place.line) (header_of file header) (nesting.at_top (items_of file (reverse items)))) }
+/// Takes the first of the items that were read.
+fn pop_item(nested: &mut Nested) -> Option<TItem>
+    ensures { (file : ℕ) → Pops file nested.old nested.new result }
 {
-    let mut rest = items;
-    match rest.pop() {
-        None => Ok(Nested::Broken),
-        Some(item) => {
-            let block = block_around(alloc, kind, place, header, item)?;
-            let front = put_block(block, Nested::AtTop(rest))?;
-            Ok(front)
-        }
-    }
-}
-
-/// The same in a block that is closed further on.
-fn around_inside(
-    alloc: Global,
-    kind: ItemKind,
-    place: Place,
-    header: Header,
-    items: TItems,
-    more: TBranches,
-    outer: Boxed<Nested>,
-) -> Result<Nested, Memory>
-    ensures { (file : ℕ) → IfOk result (λ n. nested_of file n ≡ nesting.around_one (item_kind_of kind) (place_at file place.line) (header_of file header) (nesting.inside (items_of file (reverse items)) (branches_of file more) (nested_of file outer))) }
-{
-    let mut rest = items;
-    match rest.pop() {
-        None => Ok(Nested::Broken),
-        Some(item) => {
-            let block = block_around(alloc, kind, place, header, item)?;
-            let front = put_block(block, Nested::Inside(rest, more, outer))?;
-            Ok(front)
-        }
+    match nested {
+        Nested::AtTop(items) => items.pop(),
+        Nested::Inside(items, _, _) => items.pop(),
+        Nested::Broken => None,
     }
 }
 
 /// A block for one item.
-#[tactic(auto, using(crate::proofs::Nesting::nests))]
 fn around_one(
     alloc: Global,
     kind: ItemKind,
     place: Place,
     header: Header,
-    nested: Nested,
-) -> Result<Nested, Memory>
-    ensures { (file : ℕ) → IfOk result (λ n. nested_of file n ≡ nesting.around_one (item_kind_of kind) (place_at file place.line) (header_of file header) (nested_of file nested)) }
+    nested: &mut Nested,
+) -> Result<(), Memory>
+    ensures { (file : ℕ) → OnOk result (nested_of file nested.new ≡ nesting.around_one (item_kind_of kind) (place_at file place.line) (header_of file header) (nested_of file nested.old)) }
 {
-    match nested {
-        Nested::AtTop(items) => Ok(around_top(alloc, kind, place, header, items)?),
-        Nested::Inside(items, more, outer) => Ok(around_inside(
-            alloc, kind, place, header, items, more, outer,
-        )?),
-        Nested::Broken => Ok(Nested::Broken),
+    match pop_item(nested) {
+        None => {
+            break_off(nested);
+            Ok(())
+        }
+        Some(item) => {
+            let block = block_around(alloc, kind, place, header, item)?;
+            put_block(block, nested)
+        }
     }
 }
 
@@ -290,75 +261,81 @@ fn next_branch(
     alloc: Global,
     place: Place,
     test: Boxed<Expr>,
-    nested: Nested,
-) -> Result<Nested, Memory>
-    ensures { (file : ℕ) → IfOk result (λ n. nested_of file n ≡ nesting.next_branch (place_at file place.line) (expr_of file test) (nested_of file nested)) }
+    nested: &mut Nested,
+) -> Result<(), Memory>
+    ensures { (file : ℕ) → OnOk result (nested_of file nested.new ≡ nesting.next_branch (place_at file place.line) (expr_of file test) (nested_of file nested.old)) }
 {
     match nested {
-        Nested::Inside(items, more, outer) => {
-            let body = turned_items(alloc, items)?;
-            let more = Boxed::new(alloc, more)?;
-            Ok(Nested::Inside(
-                Items::new(alloc),
-                TBranches::Elif(place, test, body, more),
-                outer,
-            ))
+        Nested::Inside(items, more, _) => {
+            let body = turned_items(alloc, std::mem::replace(items, Items::new(alloc)))?;
+            let rest = Boxed::new(alloc, std::mem::replace(more, TBranches::Nothing))?;
+            drop(std::mem::replace(more, TBranches::Elif(place, test, body, rest)));
+            Ok(())
         }
-        Nested::Broken | Nested::AtTop(_) => Ok(Nested::Broken),
+        Nested::Broken | Nested::AtTop(_) => {
+            break_off(nested);
+            Ok(())
+        }
     }
 }
 
 #[tactic(auto, using(crate::proofs::Nesting::nests))]
-fn last_branch(alloc: Global, place: Place, nested: Nested) -> Result<Nested, Memory>
-    ensures { (file : ℕ) → IfOk result (λ n. nested_of file n ≡ nesting.last_branch (place_at file place.line) (nested_of file nested)) }
+fn last_branch(alloc: Global, place: Place, nested: &mut Nested) -> Result<(), Memory>
+    ensures { (file : ℕ) → OnOk result (nested_of file nested.new ≡ nesting.last_branch (place_at file place.line) (nested_of file nested.old)) }
 {
     match nested {
-        Nested::Inside(items, more, outer) => {
-            if is_nothing(&more) {
-                let body = turned_items(alloc, items)?;
-                return Ok(Nested::Inside(Items::new(alloc), TBranches::Else(place, body), outer));
+        Nested::Inside(items, more, _) => {
+            if is_nothing(more) {
+                let body = turned_items(alloc, std::mem::replace(items, Items::new(alloc)))?;
+                drop(std::mem::replace(more, TBranches::Else(place, body)));
+                return Ok(());
             }
-            Ok(Nested::Broken)
+            break_off(nested);
+            Ok(())
         }
-        Nested::Broken | Nested::AtTop(_) => Ok(Nested::Broken),
+        Nested::Broken | Nested::AtTop(_) => {
+            break_off(nested);
+            Ok(())
+        }
     }
 }
 
 #[tactic(auto, using(crate::proofs::Nesting::nests))]
-fn close_block(alloc: Global, nested: Nested) -> Result<Nested, Memory>
-    ensures { (file : ℕ) → IfOk result (λ n. nested_of file n ≡ nesting.inside no_items no_branch (nested_of file nested)) }
+fn close_block(alloc: Global, nested: &mut Nested) -> Result<(), Memory>
+    ensures { (file : ℕ) → OnOk result (nested_of file nested.new ≡ nesting.inside no_items no_branch (nested_of file nested.old)) }
 {
-    let outer = Boxed::new(alloc, nested)?;
-    Ok(Nested::Inside(Items::new(alloc), TBranches::Nothing, outer))
+    let outer = Boxed::new(alloc, std::mem::replace(nested, Nested::Broken))?;
+    drop(std::mem::replace(
+        nested,
+        Nested::Inside(Items::new(alloc), TBranches::Nothing, outer),
+    ));
+    Ok(())
 }
 
 // ---- all parts
 
-#[tactic(auto, using(crate::proofs::Nesting::nests))]
+/// What is said in front of what was read.
 fn nest_said(
     alloc: Global,
     kind: ItemKind,
     place: Place,
     comment: Comment,
-    nested: Nested,
-) -> Result<Nested, Memory>
-    ensures { (file : ℕ) → IfOk result (λ n. nested_of file n ≡ nesting.nest_said (item_kind_of kind) (place_at file place.line) (said_of file comment) (nested_of file nested)) }
+    nested: &mut Nested,
+) -> Result<(), Memory>
+    ensures { (file : ℕ) → OnOk result (nested_of file nested.new ≡ nesting.nest_said (item_kind_of kind) (place_at file place.line) (said_of file comment) (nested_of file nested.old)) }
 {
     match comment {
-        Comment::Code(stmts) => Ok(put_statements(stmts, nested)?),
+        Comment::Code(stmts) => put_statements(stmts, nested),
         Comment::Open(header, for_one) => {
             if for_one {
-                return Ok(around_one(alloc, kind, place, header, nested)?);
+                return around_one(alloc, kind, place, header, nested);
             }
-            Ok(open_block(alloc, kind, place, header, nested)?)
+            open_block(alloc, kind, place, header, nested)
         }
-        Comment::Elif(test) => Ok(next_branch(alloc, place, test, nested)?),
-        Comment::Else => Ok(last_branch(alloc, place, nested)?),
-        Comment::End => Ok(close_block(alloc, nested)?),
-        Comment::Value(_) | Comment::Note(_, _) | Comment::Ignored => {
-            drop(comment);
-            Ok(nested)
-        }
+        Comment::Elif(test) => next_branch(alloc, place, test, nested),
+        Comment::Else => last_branch(alloc, place, nested),
+        Comment::End => close_block(alloc, nested),
+        Comment::Value(_) | Comment::Note(_, _) | Comment::Ignored => Ok(()),
     }
 }
 
@@ -367,16 +344,13 @@ fn nest_part(
     file: u32,
     kind: ItemKind,
     part: Part,
-    nested: Nested,
-) -> Result<Nested, Memory>
-    ensures { IfOk result (λ n. nested_of file n ≡ nest_step file (item_kind_of kind) (part_of file part) (nested_of file nested)) }
+    nested: &mut Nested,
+) -> Result<(), Memory>
+    ensures { OnOk result (nested_of file nested.new ≡ nest_step file (item_kind_of kind) (part_of file part) (nested_of file nested.old)) }
 {
     match part {
-        Part::Node(item) => Ok(put_item(item, nested)?),
-        Part::Mark(line, comment) => {
-            let place = Place { file, line };
-            Ok(nest_said(alloc, kind, place, comment, nested)?)
-        }
+        Part::Node(item) => put_item(item, nested),
+        Part::Mark(line, comment) => nest_said(alloc, kind, Place { file, line }, comment, nested),
     }
 }
 
@@ -387,7 +361,7 @@ fn nest(alloc: Global, file: u32, kind: ItemKind, parts: Parts) -> Result<Nested
     let mut left = turned_parts(alloc, parts)?;
     let mut nested = Nested::AtTop(Items::new(alloc));
     while let Some(part) = left.pop() {
-        nested = nest_part(alloc, file, kind, part, nested)?;
+        nest_part(alloc, file, kind, part, &mut nested)?;
     }
     Ok(nested)
 }

@@ -6,7 +6,7 @@ pub loop-part-init : goal.loop-part-init
 loop-part-init c = nesting_starts c.args.file (item_kind_of c.args.kind) c.args.parts _ _ c.in_ok-left.ensures c.new.ensures
 
 pub loop-part-preserved : goal.loop-part-preserved
-loop-part-preserved c = nesting_goes_on c.args.file (item_kind_of c.args.kind) c.args.parts _ _ _ _ _ c.loop-part.invariant c.in-Some.ensures c.in_ok-nested.ensures
+loop-part-preserved c = nesting_goes_on c.args.file (item_kind_of c.args.kind) c.args.parts _ _ _ _ _ c.loop-part.invariant c.in-Some.ensures c.in_ok-nest_part.ensures
 
 pub returns : goal.returns
 returns c = nesting_ends c.args.file (item_kind_of c.args.kind) c.args.parts _ _ c.loop-part.invariant c.in_default.ensures.0

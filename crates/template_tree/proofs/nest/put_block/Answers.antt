@@ -4,8 +4,8 @@ use Rattle.template_spec.specs.Nesting.{put_block}
 use Rattle.template_tree.specs.declared.tree.TItem.{TItem}
 use Rattle.template_tree.specs.Nests.{nested_of}
 use Rattle.template_tree.specs.View.{item_of}
-use Rattle.template_tree.proofs.Nesting.{ok_same}
+use Rattle.template_tree.proofs.Nesting.{done_same}
 use Rattle.template_tree.proofs.nest.put_block.Goals as goal
 
 pub returns-in-Some : goal.returns-in-Some
-returns-in-Some c = λ file. ok_same file _ _ _ (c.put_item.ensures file) (ap (λ (b : Option TItem). put_block (option_map (item_of file) b) (nested_of file c.args.nested)) (sym c.in-Some.is))
+returns-in-Some c = λ file. done_same _ _ _ _ (c.put_item.ensures file) (ap (λ (b : Option TItem). put_block (option_map (item_of file) b) (nested_of file c.args.nested.now)) (sym c.in-Some.is))
