@@ -176,8 +176,8 @@ else_given file p n is body new more outer e b t f =
     ∙ ap (λ (m : Branches). nesting.last_branch (place_at file p.line) (inside (items_of file (reverse is)) m (nested_of file outer))) (sym (branch_is (branches_of file more) b))
     ∙ ap (nesting.last_branch (place_at file p.line)) (sym (nested_of-Inside file is more outer) ∙ ap (nested_of file) (sym e))
 
-pub inside_as : (file : ℕ) (is : List TItem) (more same : TBranches) (outer : Nested) → more ≡ same → nested_of file (held.Inside is more outer) ≡ nested_of file (held.Inside is same outer)
-inside_as file is more same outer e = ap (λ (m : TBranches). nested_of file (held.Inside is m outer)) e
+pub inside_as : (file : ℕ) (is : List TItem) (more same : TBranches) (outer other : Nested) → more ≡ same → outer ≡ other → nested_of file (held.Inside is more outer) ≡ nested_of file (held.Inside is same other)
+inside_as file is more same outer other e h = λ i. nested_of file (held.Inside is (e i) (h i))
 
 pub else_not_given : (file : ℕ) (p : Place) (n : Nested) (is : List TItem) (more : TBranches) (outer : Nested) → n ≡ held.Inside is more outer → false ≡ is_no_branch (branches_of file more)
     → nested_of file held.Broken ≡ nesting.last_branch (place_at file p.line) (nested_of file n)

@@ -284,7 +284,7 @@ fn last_branch(alloc: Global, place: Place, nested: &mut Nested) -> Result<(), M
     ensures { (file : ℕ) → OnOk result (nested_of file nested.new ≡ nesting.last_branch (place_at file place.line) (nested_of file nested.old)) }
 {
     match nested {
-        Nested::Inside(items, more, _) => {
+        Nested::Inside(items, more, _outer) => {
             if is_nothing(more) {
                 let body = turned_items(alloc, std::mem::replace(items, Items::new(alloc)))?;
                 drop(std::mem::replace(more, TBranches::Else(place, body)));
