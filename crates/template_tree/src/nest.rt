@@ -1,5 +1,5 @@
 // The items of a collection, with the statements and blocks between them.
-ghost use Rattle.std.specs.Prelude.{◌≡◌, ℕ, List, [], ◌∷◌, IfOk, OnOk, option_map, reverse};
+ghost use Rattle.std.specs.Prelude.{◌≡◌, ◌++◌, ℕ, List, [], ◌∷◌, IfOk, OnOk, option_map, reverse};
 ghost use Rattle.notes_read.specs.View.{said_of};
 ghost use Rattle.star_tree.specs.View.{item_kind_of};
 ghost use Rattle.star_tree.specs.Whole.{expr_of, header_of, instruction_of, instructions_of};
@@ -71,21 +71,25 @@ fn break_off(nested: &mut Nested)
     drop(std::mem::replace(nested, Nested::Broken));
 }
 
+fn push_item(items: &mut TItems, item: TItem) -> Result<(), Memory>
+    ensures { OnOk result (items.new ≡ items.old ++ item ∷ []) }
+{
+    items.push(item)?;
+    Ok(())
+}
+
 /// An item in front of what was read.
 #[tactic(auto, using(crate::proofs::Nesting::nests))]
 fn put_item(item: TItem, nested: &mut Nested) -> Result<(), Memory>
     ensures { (file : ℕ) → OnOk result (nested_of file nested.new ≡ nesting.put (item_of file item) (nested_of file nested.old)) }
 {
     match nested {
-        Nested::Broken => Ok(()),
-        Nested::AtTop(items) => {
-            items.push(item)?;
+        Nested::Broken => {
+            drop(item);
             Ok(())
         }
-        Nested::Inside(items, _, _) => {
-            items.push(item)?;
-            Ok(())
-        }
+        Nested::AtTop(items) => push_item(items, item),
+        Nested::Inside(items, _, _) => push_item(items, item),
     }
 }
 
@@ -119,6 +123,7 @@ fn put_statement(stmt: Stmt, nested: &mut Nested) -> Result<(), Memory>
     if is_statement(&stmt) {
         return put_item(TItem::Code(stmt), nested);
     }
+    drop(stmt);
     Ok(())
 }
 
@@ -145,6 +150,15 @@ fn is_nothing(more: &TBranches) -> bool
     }
 }
 
+/// The same of branches that are let fall.
+fn is_no_more(more: TBranches) -> bool
+    ensures { (file : ℕ) → result ≡ is_no_branch (branches_of file more) }
+{
+    let nothing = is_nothing(&more);
+    drop(more);
+    nothing
+}
+
 /// The block of a head; `kind` is that of the items of its collection.
 #[tactic(auto, using(crate::proofs::Nesting::nests))]
 fn block_of(
@@ -159,18 +173,24 @@ fn block_of(
     match header {
         Header::If(test) => Some(TItem::If(place, test, items, more)),
         Header::For(target, members) => {
-            if is_nothing(&more) {
+            if is_no_more(more) {
                 return Some(TItem::For(place, target, members, items));
             }
+            drop(items);
             None
         }
         Header::Def(name, params) => {
-            if is_nothing(&more) {
+            if is_no_more(more) {
                 return Some(TItem::Def(place, name, params, kind, items));
             }
+            drop(items);
             None
         }
-        Header::Elif(_) | Header::Else | Header::End => None,
+        Header::Elif(_) | Header::Else | Header::End => {
+            drop(items);
+            drop(more);
+            None
+        }
     }
 }
 
@@ -200,10 +220,19 @@ fn open_block(
     match std::mem::replace(nested, Nested::Broken) {
         Nested::Inside(items, more, outer) => {
             drop(std::mem::replace(nested, outer.into_inner()));
-            let body = turned_items(alloc, items)?;
-            put_block(block_of(kind, place, header, body, more), nested)
+            match turned_items(alloc, items) {
+                Ok(body) => put_block(block_of(kind, place, header, body, more), nested),
+                Err(memory) => {
+                    drop(header);
+                    drop(more);
+                    Err(memory)
+                }
+            }
         }
-        Nested::Broken | Nested::AtTop(_) => Ok(()),
+        Nested::Broken | Nested::AtTop(_) => {
+            drop(header);
+            Ok(())
+        }
     }
 }
 
@@ -246,6 +275,7 @@ fn around_one(
 {
     match pop_item(nested) {
         None => {
+            drop(header);
             break_off(nested);
             Ok(())
         }
@@ -335,7 +365,10 @@ fn nest_said(
         Comment::Elif(test) => next_branch(alloc, place, test, nested),
         Comment::Else => last_branch(alloc, place, nested),
         Comment::End => close_block(alloc, nested),
-        Comment::Value(_) | Comment::Note(_, _) | Comment::Ignored => Ok(()),
+        Comment::Value(_) | Comment::Note(_, _) | Comment::Ignored => {
+            drop(comment);
+            Ok(())
+        }
     }
 }
 

@@ -12,8 +12,8 @@ returns-in-Code c = λ file. done_same _ _ _ _ (c.put_statements.ensures file) (
 pub returns-then-for_one : goal.returns-then-for_one
 returns-then-for_one c = λ file. done_same _ _ _ _ (c.around_one.ensures file) (said_same file (item_kind_of c.args.kind) (place_at file c.args.place.line) (nested_of file c.args.nested.now) c.args.comment _ (c.in-Open.is ∙ ap (comment.Open c.in-Open.header) c.if-for_one.true))
 
-pub returns-in-Open : goal.returns-in-Open
-returns-in-Open c = λ file. done_same _ _ _ _ (c.open_block.ensures file) (said_same file (item_kind_of c.args.kind) (place_at file c.args.place.line) (nested_of file c.args.nested.now) c.args.comment _ (c.in-Open.is ∙ ap (comment.Open c.in-Open.header) c.if-for_one.false))
+pub returns-else-for_one : goal.returns-else-for_one
+returns-else-for_one c = λ file. done_same _ _ _ _ (c.open_block.ensures file) (said_same file (item_kind_of c.args.kind) (place_at file c.args.place.line) (nested_of file c.args.nested.now) c.args.comment _ (c.in-Open.is ∙ ap (comment.Open c.in-Open.header) c.if-for_one.false))
 
 pub returns-in-Elif : goal.returns-in-Elif
 returns-in-Elif c = λ file. done_same _ _ _ _ (c.next_branch.ensures file) (said_same file (item_kind_of c.args.kind) (place_at file c.args.place.line) (nested_of file c.args.nested.now) c.args.comment _ c.in-Elif.is)
