@@ -1,5 +1,5 @@
 -- What a run tells, of what was found out and what was written for it.
-use Rattle.std.proofs.Common.{◌≡◌, ◌≢◌, ◌⊎◌, ℕ, List, [], ◌++◌, Option, Some, None, IfSome, ap, inl, inr, refl, sym, ◌∙◌}
+use Rattle.std.proofs.Common.{◌≡◌, ◌≢◌, ℕ, List, [], Option, Some, None, IfSome, ap, inl, inr, refl, sym, ◌∙◌}
 use Rattle.std.proofs.lemmas.List.{append-nil}
 use Rattle.ytt_base.specs.View.{trees_of}
 use Rattle.yaml_back.proofs.ReadsBack.{reads_alone}
@@ -9,9 +9,9 @@ use Rattle.ytt_outside.specs.Standing.{Standing}
 use Rattle.ytt_spec.proofs.PrintedMeans.{printed_means}
 use Rattle.ytt_spec.specs.Due.{Due, IsDue, done, fault, usage}
 use Rattle.ytt_main.specs.Answers.{Answers}
-use Rattle.ytt_main.specs.Endings.{Ends, HasFailed, HasLine, HasWritten, IsDueLine, IsUntouched}
+use Rattle.ytt_main.specs.Endings.{Ends, HasWritten, IsDueLine, IsUntouched}
 use Rattle.ytt_main.specs.Found.{Found}
-use Rattle.ytt_main.specs.Headline.{GivesDue, IsWhole, Meets, NothingFailed, due_err}
+use Rattle.ytt_main.specs.Headline.{GivesDue, IsWhole, Meets, NothingFailed}
 use Rattle.ytt_main.specs.Seen.{Files, Sink}
 use Rattle.ytt_main.specs.Written.{Written, WrittenLine}
 use Rattle.ytt_main.specs.declared.answer.Answer.{Answer}

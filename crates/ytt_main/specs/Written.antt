@@ -11,13 +11,13 @@ use Rattle.ytt_main.specs.declared.answer.Answer.TheVariants as answer
 use Rattle.ytt_main.specs.declared.run.Status.{Status}
 use Rattle.ytt_main.specs.declared.run.Status.TheVariants as status
 
--- the text of the documents is written to `out`, or a front of it, and then a line is tried on `err`
+-- the text of the documents is written to `out`, with Done; or a front of it, with WriteFault, and then a line is tried on `err`
 abbrev pub WrittenDocuments : Trees → Status → (out err : Sink) → Type 0
 WrittenDocuments documents status.Done out err = HasWritten out (Text documents) × IsUntouched err
 WrittenDocuments documents status.WriteFault out err = HasFailed out (Text documents) × HasTried err write_failed_line
 WrittenDocuments documents _ out err = ⊥
 
--- the line is written to `err`, and the status is this one, or a front of it
+-- the line is written to `err`, with this status; or a front of it, with WriteFault
 abbrev pub WrittenLine : List ℕ → (whole : Status) → Status → (err : Sink) → Type 0
 WrittenLine line whole s err = ((s ≡ whole) × HasWritten err line) ⊎ ((s ≡ status.WriteFault) × HasFailed err line)
 

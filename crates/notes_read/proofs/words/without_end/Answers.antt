@@ -1,4 +1,4 @@
-use Rattle.std.proofs.Common.{◌≡◌, ℕ, Bool, true, false, List, Option, Some, None, if◌then◌else◌, refl, sym, ◌∙◌}
+use Rattle.std.proofs.Common.{◌≡◌, ℕ, Bool, true, false, List, Some, None, if◌then◌else◌, refl, sym, ◌∙◌}
 use Rattle.notes_read.proofs.words.without_end.Goals as goal
 
 passed : (b : Bool) (x t : List ℕ) → None ≡ (if b then Some x else None) → (if b then x else t) ≡ t

@@ -1,5 +1,4 @@
-use Rattle.std.proofs.Common.{◌≡◌, ◌∷◌, Err, ap, rules, string_bytes}
-use Rattle.star_shown.specs.Pushes.{behind}
+use Rattle.std.proofs.Common.{◌≡◌, Err, ap, rules, string_bytes}
 use Rattle.star_steps.proofs.Names.{seen, state_in, value_of, values_of}
 use Rattle.star_text.specs.Filling.{conversion_in}
 use Rattle.star_text.proofs.Converting.{next_shown, next_stopped}
