@@ -5,6 +5,14 @@ use crate::run::{Ran, run_row, run_text};
 use crate::stop::Stop;
 use std::alloc::{AllocError, Global};
 
+/// What is due of a run.
+#[derive(Clone, Copy)]
+struct Due<'a> {
+    status: u8,
+    out: &'a [u8],
+    err: &'a [u8],
+}
+
 /// How many bytes of a text are shown before and behind the first that differs.
 const BEFORE: usize = 60;
 
@@ -94,18 +102,21 @@ fn push_status(alloc: Global, lines: &mut String, is: u8, due: u8) -> Result<(),
 }
 
 /// A line for each difference of what a run left from what is due, or nothing.
-fn compared(
-    alloc: Global,
-    ran: &Ran,
-    status: u8,
-    out: &[u8],
-    err: &[u8],
-) -> Result<String, AllocError> {
+fn compared(alloc: Global, ran: &Ran, due: Due<'_>) -> Result<String, AllocError> {
     let mut lines = String::new(alloc);
-    push_status(alloc, &mut lines, ran.status, status)?;
-    push_stream(alloc, &mut lines, "out", ran.out.bytes(), out)?;
-    push_stream(alloc, &mut lines, "err", ran.err.bytes(), err)?;
+    push_differing(alloc, &mut lines, ran, due)?;
     Ok(lines)
+}
+
+fn push_differing(
+    alloc: Global,
+    lines: &mut String,
+    ran: &Ran,
+    due: Due<'_>,
+) -> Result<(), AllocError> {
+    push_status(alloc, lines, ran.status, due.status)?;
+    push_stream(alloc, lines, "out", ran.out.bytes(), due.out)?;
+    push_stream(alloc, lines, "err", ran.err.bytes(), due.err)
 }
 
 /// Puts each of the lines behind the text, behind a few words.
@@ -117,34 +128,65 @@ fn push_lines(text: &mut String, about: &str, lines: &str) -> Result<(), AllocEr
     Ok(())
 }
 
+/// Puts a line for each difference behind the text, behind a few words.
+fn push_compared(
+    alloc: Global,
+    text: &mut String,
+    about: &str,
+    ran: &Ran,
+    due: Due<'_>,
+) -> Result<(), AllocError> {
+    let lines = compared(alloc, ran, due)?;
+    push_lines(text, about, lines.as_str())
+}
+
+/// Runs the row with so many steps, if there are any, and puts a line for each difference behind the text.
+fn push_run(
+    alloc: Global,
+    text: &mut String,
+    about: &str,
+    row: &Row,
+    steps: Option<u64>,
+    due: Due<'_>,
+) -> Result<(), Stop> {
+    let ran = run_row(alloc, row, steps)?;
+    push_compared(alloc, text, about, &ran, due)?;
+    Ok(())
+}
+
 /// Runs the row with one step less than just suffices, which is to be short where the row says.
 fn short(alloc: Global, row: &Row, steps: &Steps, text: &mut String) -> Result<(), Stop> {
-    let ran = run_row(alloc, row, Some(steps.enough.saturating_sub(1)))?;
+    let less = steps.enough.saturating_sub(1);
     let err = format!(in alloc; "error: Steps at {}\n", steps.place.as_str())?;
-    let lines = compared(alloc, &ran, 1, b"", err.as_bytes())?;
-    push_lines(text, "with one step less ", lines.as_str())?;
-    Ok(())
+    let due = Due {
+        status: 1,
+        out: b"",
+        err: err.as_bytes(),
+    };
+    push_run(alloc, text, "with one step less ", row, Some(less), due)
 }
 
 /// Renders what the row prints, which is to give itself.
 fn again(alloc: Global, out: &[u8], text: &mut String) -> Result<(), Stop> {
     let ran = run_text(alloc, out)?;
-    let lines = compared(alloc, &ran, 0, out, b"")?;
-    push_lines(text, "printed again ", lines.as_str())?;
+    let due = Due {
+        status: 0,
+        out,
+        err: b"",
+    };
+    push_compared(alloc, text, "printed again ", &ran, due)?;
     Ok(())
 }
 
-/// A line for each difference of what the row gives from what is due.
-fn run_once(alloc: Global, row: &Row) -> Result<String, Stop> {
+/// Runs the row as it stands.
+fn run_once(alloc: Global, row: &Row, text: &mut String) -> Result<(), Stop> {
     let enough = row.steps.as_ref().map(|steps| steps.enough);
-    let ran = run_row(alloc, row, enough)?;
-    Ok(compared(
-        alloc,
-        &ran,
-        row.status,
-        row.out.as_slice(),
-        row.err.as_slice(),
-    )?)
+    let due = Due {
+        status: row.status,
+        out: row.out.as_slice(),
+        err: row.err.as_slice(),
+    };
+    push_run(alloc, text, "", row, enough, due)
 }
 
 /// Runs the row with fewer steps, and what it prints once more, where that is due.
@@ -158,9 +200,14 @@ fn run_further(alloc: Global, row: &Row, text: &mut String) -> Result<(), Stop> 
     Ok(())
 }
 
+fn run_whole(alloc: Global, row: &Row, text: &mut String) -> Result<(), Stop> {
+    run_once(alloc, row, text)?;
+    run_further(alloc, row, text)
+}
+
 /// What the row gives in place of what is due, a line for each difference.
 pub fn differences(alloc: Global, row: &Row) -> Result<String, Stop> {
-    let mut text = run_once(alloc, row)?;
-    run_further(alloc, row, &mut text)?;
+    let mut text = String::new(alloc);
+    run_whole(alloc, row, &mut text)?;
     Ok(text)
 }

@@ -19,53 +19,76 @@ fn push_indented(all: &mut Vec<u8>, count: u64, text: &[u8]) -> Result<(), Alloc
     Ok(())
 }
 
-/// The text with the number in the place of each `{}`.
-fn push_numbered(
-    alloc: Global,
-    all: &mut Vec<u8>,
-    number: u64,
-    text: &str,
-) -> Result<(), AllocError> {
-    let number = format!(in alloc; "{number}")?;
+/// The text with this one in the place of each `{}`.
+fn push_filled(all: &mut Vec<u8>, filling: &str, text: &str) -> Result<(), AllocError> {
     for (at, part) in text.split("{}").enumerate() {
         if at > 0 {
-            all.extend_from_slice(number.as_bytes())?;
+            all.extend_from_slice(filling.as_bytes())?;
         }
         all.extend_from_slice(part.as_bytes())?;
     }
     Ok(())
 }
 
+/// The text with each number in turn in the place of each `{}`.
+fn push_numbered(
+    alloc: Global,
+    all: &mut Vec<u8>,
+    count: u64,
+    text: &str,
+) -> Result<(), AllocError> {
+    for number in 0..count {
+        let number = format!(in alloc; "{number}")?;
+        push_filled(all, number.as_str(), text)?;
+    }
+    Ok(())
+}
+
+fn push_repeated(all: &mut Vec<u8>, count: u64, text: &[u8]) -> Result<(), AllocError> {
+    for _ in 0..count {
+        all.extend_from_slice(text)?;
+    }
+    Ok(())
+}
+
+/// Puts what a rule of this name gives for a count and a text. It says whether it is a rule.
+fn push_counted(
+    alloc: Global,
+    all: &mut Vec<u8>,
+    name: &[u8],
+    count: u64,
+    text: &[u8],
+) -> Result<bool, AllocError> {
+    if name == b"repeat".as_slice() {
+        push_repeated(all, count, text)?;
+        return Ok(true);
+    }
+    if name == b"indented".as_slice() {
+        push_indented(all, count, text)?;
+        return Ok(true);
+    }
+    match str::from_utf8(text) {
+        Ok(text) if name == b"numbered".as_slice() => {
+            push_numbered(alloc, all, count, text)?;
+            Ok(true)
+        }
+        _ => Ok(false),
+    }
+}
+
 /// Puts what a rule gives behind the text. It says whether it is a rule.
 fn push_ruled(alloc: Global, all: &mut Vec<u8>, words: &[Vec<u8>]) -> Result<bool, AllocError> {
-    let (name, count, text) = match words {
-        [name, text] => (name.as_slice(), Some(1), text.as_slice()),
-        [name, count, text] => (
-            name.as_slice(),
-            number_of(count.as_slice()),
-            text.as_slice(),
-        ),
-        _ => return Ok(false),
-    };
-    match (name, count, words.len()) {
-        (b"text", _, 2) => all.extend_from_slice(text)?,
-        (b"repeat", Some(count), 3) => {
-            for _ in 0..count {
-                all.extend_from_slice(text)?;
-            }
+    match words {
+        [name, text] if name.as_slice() == b"text".as_slice() => {
+            all.extend_from_slice(text.as_slice())?;
+            Ok(true)
         }
-        (b"indented", Some(count), 3) => push_indented(all, count, text)?,
-        (b"numbered", Some(count), 3) => {
-            let Ok(text) = str::from_utf8(text) else {
-                return Ok(false);
-            };
-            for number in 0..count {
-                push_numbered(alloc, all, number, text)?;
-            }
-        }
-        _ => return Ok(false),
+        [name, count, text] => match number_of(count.as_slice()) {
+            Some(count) => push_counted(alloc, all, name.as_slice(), count, text.as_slice()),
+            None => Ok(false),
+        },
+        _ => Ok(false),
     }
-    Ok(true)
 }
 
 /// The text that the rules give, one on each line, of which the first has this number.
