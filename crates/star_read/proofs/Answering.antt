@@ -19,10 +19,10 @@ use Rattle.star_grammar.specs.Tokens.{ends}
 use Rattle.star_grammar.proofs.Checked.{looks, consistent, ended}
 use Rattle.star_grammar.proofs.Ending.{is_all}
 use Rattle.star_grammar.proofs.Fills.{risen, completes}
-use Rattle.star_read.specs.declared.pending.Item.{Item}
+use Rattle.star_machine.specs.declared.pending.Item.{Item}
 use Rattle.star_read.specs.Answers.{refusal_at}
-use Rattle.star_read.specs.Pending.{begun, item_of, items_of}
-use Rattle.star_read.specs.Turns.{next}
+use Rattle.star_machine.specs.Pending.{begun, item_of, items_of}
+use Rattle.star_machine.specs.Turns.{next}
 use Rattle.star_read.proofs.Anchored.{Anchored, AnchoredAt, steps, is_unfinished}
 
 abbrev pub read : List Token → List Item → Value → Verdict Token Value

@@ -5,16 +5,10 @@
 //! are read or refused (`each_is_read`), for one reason (`one_refusal`), and never both (`never_both`).
 #![tactic(auto)]
 
-mod blocks;
-mod guards;
-mod kinds;
 mod laws;
-mod machine;
-mod pending;
 mod reader;
 mod standing;
 mod trees;
-mod weight;
 
 pub use laws::{each_is_read, never_both, one_refusal, one_tree};
 pub use reader::{read_args, read_expr, read_file, read_header, read_simple};

@@ -3,11 +3,12 @@ ghost use Rattle.std.specs.Prelude.{◌≡◌, IfOk, drop, true, if◌then◌els
 ghost use Rattle.std.specs.List.{prefix_len};
 ghost use Rattle.star_grammar.specs.Pieces as spec;
 
-use crate::marks::{behind, byte, operator_piece};
+use crate::marks::operator_piece;
 use crate::numbers::{begins_number, number_piece};
 use crate::texts::text_piece;
 use crate::words::{begins_word, word_piece};
 use star_grammar::{Origin, Piece};
+use star_letters::{behind, byte};
 use std::alloc::Global;
 use ytt_base::fault::FaultKind;
 use ytt_base::text::Memory;

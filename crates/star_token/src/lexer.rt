@@ -6,9 +6,9 @@ ghost use Rattle.star_token.specs.Outcome.{HasCut, HasTokens};
 
 use crate::found::Tokens;
 use crate::front::front;
-use crate::marks::behind;
 use sqlite_items::Items;
 use star_grammar::{Cursor, Mark, Origin, Piece, Token, TokenKind};
+use star_letters::behind;
 use std::alloc::Global;
 use ytt_base::fault::{Fault, FaultKind, Place, Stop};
 use ytt_base::text::{Memory, Text};

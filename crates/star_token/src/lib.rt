@@ -7,7 +7,6 @@
 
 mod found;
 mod front;
-mod letters;
 mod lexer;
 mod marks;
 mod numbers;

@@ -1,39 +1,10 @@
 // Operators and punctuation.
-ghost use Rattle.std.specs.Prelude.{◌≡◌, slice_index, drop, take};
+ghost use Rattle.std.specs.Prelude.{◌≡◌};
 ghost use Rattle.star_grammar.specs.Pieces as spec;
 
 use star_grammar::{Mark, Piece, TokenKind};
+use star_letters::byte;
 use ytt_base::fault::FaultKind;
-
-/// The byte at a place of a text, 0 behind its end.
-pub fn byte(text: &[u8], at: usize) -> u8
-    ensures { result ≡ slice_index text.now at }
-{
-    match text.get(at) {
-        Some(byte) => *byte,
-        None => 0,
-    }
-}
-
-/// The text behind so many bytes.
-pub fn behind(text: &[u8], size: usize) -> &[u8]
-    ensures { result.now ≡ drop size text.now }
-{
-    match text.get(size..) {
-        Some(rest) => rest,
-        None => &[],
-    }
-}
-
-/// So many bytes of the front, or all.
-pub fn before(text: &[u8], size: usize) -> &[u8]
-    ensures { result.now ≡ take size text.now }
-{
-    match text.get(..size) {
-        Some(front) => front,
-        None => text,
-    }
-}
 
 /// `+ - * % ~ & | ^ < > =`
 fn operator_mark(byte: u8) -> Option<Mark>

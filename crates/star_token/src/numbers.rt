@@ -5,8 +5,8 @@ ghost use Rattle.std.specs.List.{prefix_len};
 ghost use Rattle.std.specs.Str.Parse.{AllDigits, digits_value};
 ghost use Rattle.star_grammar.specs.Pieces as spec;
 
-use crate::marks::{before, behind, byte};
 use star_grammar::{Piece, TokenKind};
+use star_letters::{before, behind, byte};
 use std::str;
 use ytt_base::fault::FaultKind;
 

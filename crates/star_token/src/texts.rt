@@ -4,9 +4,8 @@ ghost use Rattle.std.specs.Option.{option_map};
 ghost use Rattle.star_grammar.specs.Pieces as spec;
 ghost use Rattle.star_token.specs.View.{span_of};
 
-use crate::letters::{letter_at, push_said};
-use crate::marks::{behind, byte};
 use star_grammar::{Form, Origin, Piece, TokenKind};
+use star_letters::{behind, byte, letter_at, push_said};
 use std::alloc::Global;
 use std::str;
 use ytt_base::fault::FaultKind;

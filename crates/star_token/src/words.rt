@@ -4,8 +4,9 @@ ghost use Rattle.std.specs.List.{prefix_len};
 ghost use Rattle.star_grammar.specs.Pieces as spec;
 ghost use Rattle.star_token.specs.View.{mark_among, words_of};
 
-use crate::marks::{before, mark_piece};
+use crate::marks::mark_piece;
 use star_grammar::{Mark, Piece, TokenKind};
+use star_letters::before;
 use std::alloc::Global;
 use std::str;
 use ytt_base::fault::FaultKind;

@@ -5,7 +5,7 @@ use Rattle.star_grammar.specs.declared.start.Start.{Start}
 use Rattle.star_grammar.specs.Reading.{max_height, IsRead, Refusal, code_form, too_deep, Refuses}
 use Rattle.star_token.specs.declared.found.Tokens.{Tokens}
 use Rattle.star_read.specs.Answers.{HasRead, the_part, told}
-use Rattle.star_read.specs.Turns.{weigh, value_of}
+use Rattle.star_machine.specs.Turns.{weigh, value_of}
 use Rattle.star_read.proofs.Answering.{turn, refused_form, refused_deep, stands_on, still_anchored, whole, all_read}
 use Rattle.star_read.proofs.OnePart.{one_read}
 use Rattle.star_read.proofs.reader.read_part.Goals as goal

@@ -1,8 +1,8 @@
 use Rattle.std.proofs.Common.{◌≡◌, drop, take}
 use Rattle.star_grammar.specs.Language.{language}
 use Rattle.star_grammar.specs.Standing.{stands, at_first}
-use Rattle.star_read.specs.Pending.{items_of}
-use Rattle.star_read.specs.Turns.{value_of}
+use Rattle.star_machine.specs.Pending.{items_of}
+use Rattle.star_machine.specs.Turns.{value_of}
 use Rattle.star_read.proofs.Anchored.{Anchored}
 use Rattle.star_read.proofs.Answering.{read, read_all}
 use Rattle.star_read.proofs.reader.read_part.Given as goal
