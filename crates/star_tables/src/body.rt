@@ -1,6 +1,8 @@
 // What stands in the alternatives, and what their ends make.
-ghost use Rattle.std.specs.Prelude.{◌≡◌};
+ghost use Rattle.std.specs.Prelude.{◌≡◌, ◌≤◌, ◌<◌};
 ghost use Rattle.star_grammar.specs.Table as spec;
+ghost use Rattle.star_grammar.specs.declared.table.Choice.TheVariants as at;
+ghost use Rattle.star_tables.specs.Places.{place};
 
 use star_grammar::Symbol::{Rule as The, Token};
 use star_grammar::Terminal::{Enter, Kept, Leaf, Leave, Param, Passed, Word};
@@ -10,17 +12,35 @@ use star_grammar::{Action, Added, Choice, Kind, Made, Opened, Rule, Stated, Symb
 pub fn symbols_of(choice: Choice) -> &'static [Symbol]
     ensures { result.now ≡ spec.body choice }
 {
+    let place = choice as u8;
+    if place < Choice::LoadsOpen as u8 {
+        statement_symbols(choice)
+    } else if place < Choice::Test as u8 {
+        row_symbols(choice)
+    } else if place < Choice::Primary as u8 {
+        operator_symbols(choice)
+    } else if place < Choice::List as u8 {
+        operand_symbols(choice)
+    } else if place < Choice::Targets as u8 {
+        member_symbols(choice)
+    } else {
+        target_symbols(choice)
+    }
+}
+
+// Blocks, lines and statements.
+fn statement_symbols(choice: Choice) -> &'static [Symbol]
+    requires until { place choice < place at.LoadsOpen }
+    ensures { result.now ≡ spec.body choice }
+{
     match choice {
         Choice::Top => &[The(Rule::Stmt), The(Rule::TopEnd)],
-        Choice::TopEmpty => &[],
         Choice::TopNext => &[Token(Passed(Kind::LineEnd)), The(Rule::Top)],
-        Choice::TopStop => &[],
         Choice::File => &[
             The(Rule::Stmt),
             Token(Passed(Kind::LineEnd)),
             The(Rule::File),
         ],
-        Choice::FileEnd => &[],
         Choice::DefStmt => &[
             The(Rule::DefHead),
             Token(Passed(Kind::LineEnd)),
@@ -52,7 +72,6 @@ pub fn symbols_of(choice: Choice) -> &'static [Symbol]
             Token(Passed(Kind::LineEnd)),
             The(Rule::File),
         ],
-        Choice::ElifsEnd => &[],
         Choice::DefHead => &[
             Token(Enter(Kind::Def)),
             Token(Word),
@@ -89,12 +108,9 @@ pub fn symbols_of(choice: Choice) -> &'static [Symbol]
         Choice::HeaderEnd => &[The(Rule::EndHead), The(Rule::LastEnd)],
         Choice::Line => &[The(Rule::Simple), The(Rule::LastEnd)],
         Choice::LastEnd => &[Token(Passed(Kind::LineEnd))],
-        Choice::NoLastEnd => &[],
         Choice::Simple => &[The(Rule::Small), The(Rule::SimpleMore)],
         Choice::Semicolon => &[Token(Passed(Kind::Semicolon)), The(Rule::SimpleTail)],
-        Choice::SimpleEnd => &[],
         Choice::SimpleNext => &[The(Rule::Small), The(Rule::SimpleMore)],
-        Choice::SimpleStop => &[],
         Choice::Return => &[Token(Kept(Kind::Return)), The(Rule::Result)],
         Choice::Break => &[Token(Kept(Kind::Break))],
         Choice::Continue => &[Token(Kept(Kind::Continue))],
@@ -109,46 +125,55 @@ pub fn symbols_of(choice: Choice) -> &'static [Symbol]
         ],
         Choice::Statement => &[The(Rule::Expr), The(Rule::SmallMore)],
         Choice::Result => &[The(Rule::Expr)],
-        Choice::NoResult => &[],
         Choice::Assign => &[Token(Passed(Kind::Assign)), The(Rule::Expr)],
         Choice::Augment => &[Token(Kept(Kind::Augment)), The(Rule::Expr)],
-        Choice::SmallEnd => &[],
-        Choice::LoadsOpen => &[],
+        _ => &[],
+    }
+}
+
+// Loads, parameters and rows of expressions.
+fn row_symbols(choice: Choice) -> &'static [Symbol]
+    requires from { place at.LoadsOpen ≤ place choice }
+    requires until { place choice < place at.Test }
+    ensures { result.now ≡ spec.body choice }
+{
+    match choice {
         Choice::LoadComma => &[Token(Passed(Kind::Comma)), The(Rule::LoadNext)],
-        Choice::LoadsEnd => &[],
         Choice::LoadText => &[The(Rule::LoadOne), The(Rule::Loads)],
         Choice::LoadNamed => &[The(Rule::LoadAs), The(Rule::Loads)],
-        Choice::LoadStop => &[],
         Choice::LoadOne => &[Token(Leaf(Kind::Text))],
         Choice::LoadAs => &[
             Token(Word),
             Token(Passed(Kind::Assign)),
             Token(Leaf(Kind::Text)),
         ],
-        Choice::ParamsOpen => &[],
         Choice::Params => &[The(Rule::Param), The(Rule::ParamsMore)],
-        Choice::ParamsEnd => &[],
         Choice::ParamsComma => &[Token(Passed(Kind::Comma)), The(Rule::Params)],
-        Choice::ParamsStop => &[],
         Choice::Param => &[The(Rule::ParamName), The(Rule::Default)],
         Choice::StarParam => &[Token(Passed(Kind::Star)), The(Rule::StarName)],
         Choice::StarsParam => &[Token(Passed(Kind::Stars)), The(Rule::StarsName)],
         Choice::ParamName => &[Token(Param)],
         Choice::Default => &[Token(Passed(Kind::Assign)), The(Rule::Test)],
-        Choice::NoDefault => &[],
         Choice::StarName => &[Token(Param)],
-        Choice::BareStar => &[],
         Choice::StarsName => &[Token(Param)],
         Choice::Expr => &[The(Rule::Test), The(Rule::ExprMore)],
         Choice::ExprComma => &[The(Rule::TupleRest)],
-        Choice::ExprEnd => &[],
         Choice::TupleRest => &[The(Rule::TupleOpen), The(Rule::ExprTail)],
         Choice::TupleOpen => &[Token(Passed(Kind::Comma))],
         Choice::ExprNext => &[The(Rule::Item), The(Rule::ExprAfter)],
-        Choice::ExprStop => &[],
         Choice::ExprAfter => &[Token(Passed(Kind::Comma)), The(Rule::ExprTail)],
-        Choice::ExprLast => &[],
         Choice::Item => &[The(Rule::Test)],
+        _ => &[],
+    }
+}
+
+// Tests and operators.
+fn operator_symbols(choice: Choice) -> &'static [Symbol]
+    requires from { place at.Test ≤ place choice }
+    requires until { place choice < place at.Primary }
+    ensures { result.now ≡ spec.body choice }
+{
+    match choice {
         Choice::Test => &[The(Rule::Or), The(Rule::TestMore)],
         Choice::Lambda => &[
             Token(Kept(Kind::Lambda)),
@@ -163,14 +188,11 @@ pub fn symbols_of(choice: Choice) -> &'static [Symbol]
             Token(Passed(Kind::Else)),
             The(Rule::Test),
         ],
-        Choice::TestEnd => &[],
         Choice::Or => &[The(Rule::And), The(Rule::OrMore)],
         Choice::OrMore => &[The(Rule::OrStep), The(Rule::OrMore)],
-        Choice::OrEnd => &[],
         Choice::OrStep => &[Token(Kept(Kind::Or)), The(Rule::And)],
         Choice::And => &[The(Rule::Not), The(Rule::AndMore)],
         Choice::AndMore => &[The(Rule::AndStep), The(Rule::AndMore)],
-        Choice::AndEnd => &[],
         Choice::AndStep => &[Token(Kept(Kind::And)), The(Rule::Not)],
         Choice::Not => &[Token(Kept(Kind::Not)), The(Rule::Not)],
         Choice::Comparison => &[The(Rule::Bar), The(Rule::CompareMore)],
@@ -181,37 +203,40 @@ pub fn symbols_of(choice: Choice) -> &'static [Symbol]
             Token(Passed(Kind::In)),
             The(Rule::Bar),
         ],
-        Choice::CompareEnd => &[],
         Choice::Bar => &[The(Rule::Caret), The(Rule::BarMore)],
         Choice::BarMore => &[The(Rule::BarStep), The(Rule::BarMore)],
-        Choice::BarEnd => &[],
         Choice::BarStep => &[Token(Kept(Kind::Bar)), The(Rule::Caret)],
         Choice::Caret => &[The(Rule::Ampersand), The(Rule::CaretMore)],
         Choice::CaretMore => &[The(Rule::CaretStep), The(Rule::CaretMore)],
-        Choice::CaretEnd => &[],
         Choice::CaretStep => &[Token(Kept(Kind::Caret)), The(Rule::Ampersand)],
         Choice::Ampersand => &[The(Rule::Shift), The(Rule::AmpersandMore)],
         Choice::AmpersandMore => &[The(Rule::AmpersandStep), The(Rule::AmpersandMore)],
-        Choice::AmpersandEnd => &[],
         Choice::AmpersandStep => &[Token(Kept(Kind::Ampersand)), The(Rule::Shift)],
         Choice::Shift => &[The(Rule::Sum), The(Rule::ShiftMore)],
         Choice::ShiftMore => &[The(Rule::ShiftStep), The(Rule::ShiftMore)],
-        Choice::ShiftEnd => &[],
         Choice::ShiftStep => &[Token(Kept(Kind::Shift)), The(Rule::Sum)],
         Choice::Sum => &[The(Rule::Product), The(Rule::SumMore)],
         Choice::SumMore => &[The(Rule::SumStep), The(Rule::SumMore)],
-        Choice::SumEnd => &[],
         Choice::SignStep => &[Token(Kept(Kind::Sign)), The(Rule::Product)],
         Choice::Product => &[The(Rule::Unary), The(Rule::ProductMore)],
         Choice::ProductMore => &[The(Rule::ProductStep), The(Rule::ProductMore)],
-        Choice::ProductEnd => &[],
         Choice::StarStep => &[Token(Kept(Kind::Star)), The(Rule::Unary)],
         Choice::TimesStep => &[Token(Kept(Kind::Times)), The(Rule::Unary)],
         Choice::Signed => &[Token(Kept(Kind::Sign)), The(Rule::Unary)],
         Choice::Inverted => &[Token(Kept(Kind::Tilde)), The(Rule::Unary)],
+        _ => &[],
+    }
+}
+
+// Operands and what follows them.
+fn operand_symbols(choice: Choice) -> &'static [Symbol]
+    requires from { place at.Primary ≤ place choice }
+    requires until { place choice < place at.List }
+    ensures { result.now ≡ spec.body choice }
+{
+    match choice {
         Choice::Primary => &[The(Rule::Operand), The(Rule::PrimaryMore)],
         Choice::SuffixMore => &[The(Rule::Suffix), The(Rule::PrimaryMore)],
-        Choice::SuffixEnd => &[],
         Choice::SuffixDot => &[The(Rule::Dot)],
         Choice::SuffixCall => &[The(Rule::Call)],
         Choice::SuffixIndex => &[Token(Kept(Kind::OpenBracket)), The(Rule::Subscript)],
@@ -238,11 +263,8 @@ pub fn symbols_of(choice: Choice) -> &'static [Symbol]
             The(Rule::Slice),
         ],
         Choice::Given => &[The(Rule::Test)],
-        Choice::NotGiven => &[],
         Choice::SliceStep => &[Token(Passed(Kind::Colon)), The(Rule::OptionalTest)],
-        Choice::NoStep => &[],
         Choice::Slice => &[Token(Passed(Kind::CloseBracket))],
-        Choice::NoPart => &[],
         Choice::Name => &[Token(Leaf(Kind::Name))],
         Choice::Constant => &[Token(Leaf(Kind::Constant))],
         Choice::Int => &[Token(Leaf(Kind::Int))],
@@ -256,8 +278,17 @@ pub fn symbols_of(choice: Choice) -> &'static [Symbol]
             Token(Passed(Kind::Close)),
         ],
         Choice::Inside => &[The(Rule::Expr)],
-        Choice::Empty => &[],
-        Choice::ExprsOpen => &[],
+        _ => &[],
+    }
+}
+
+// Displays, clauses and arguments.
+fn member_symbols(choice: Choice) -> &'static [Symbol]
+    requires from { place at.List ≤ place choice }
+    requires until { place choice < place at.Targets }
+    ensures { result.now ≡ spec.body choice }
+{
+    match choice {
         Choice::List => &[
             Token(Kept(Kind::OpenBracket)),
             The(Rule::ExprsOpen),
@@ -265,7 +296,6 @@ pub fn symbols_of(choice: Choice) -> &'static [Symbol]
             Token(Passed(Kind::CloseBracket)),
         ],
         Choice::Members => &[The(Rule::Test), The(Rule::MembersMore)],
-        Choice::NoMembers => &[],
         Choice::ListFor => &[
             The(Rule::ClausesOpen),
             The(Rule::ForClause),
@@ -276,13 +306,8 @@ pub fn symbols_of(choice: Choice) -> &'static [Symbol]
             Token(Passed(Kind::Comma)),
             The(Rule::Elements),
         ],
-        Choice::MembersEnd => &[],
-        Choice::Joined => &[],
         Choice::Elements => &[The(Rule::Item), The(Rule::ElementsMore)],
-        Choice::ElementsEnd => &[],
         Choice::ElementsComma => &[Token(Passed(Kind::Comma)), The(Rule::Elements)],
-        Choice::ElementsStop => &[],
-        Choice::EntriesOpen => &[],
         Choice::Dict => &[
             Token(Kept(Kind::OpenBrace)),
             The(Rule::EntriesOpen),
@@ -295,7 +320,6 @@ pub fn symbols_of(choice: Choice) -> &'static [Symbol]
             The(Rule::Test),
             The(Rule::EntriesMore),
         ],
-        Choice::NoEntries => &[],
         Choice::DictFor => &[
             The(Rule::ClausesOpen),
             The(Rule::ForClause),
@@ -306,17 +330,11 @@ pub fn symbols_of(choice: Choice) -> &'static [Symbol]
             Token(Passed(Kind::Comma)),
             The(Rule::Pairs),
         ],
-        Choice::EntriesEnd => &[],
-        Choice::EntryJoined => &[],
         Choice::Pairs => &[The(Rule::Pair), The(Rule::PairsMore)],
-        Choice::PairsEnd => &[],
         Choice::PairsComma => &[Token(Passed(Kind::Comma)), The(Rule::Pairs)],
-        Choice::PairsStop => &[],
         Choice::Pair => &[The(Rule::Test), Token(Passed(Kind::Colon)), The(Rule::Test)],
-        Choice::ClausesOpen => &[],
         Choice::ClauseFor => &[The(Rule::ForClause), The(Rule::Clauses)],
         Choice::ClauseIf => &[The(Rule::IfClause), The(Rule::Clauses)],
-        Choice::ClausesEnd => &[],
         Choice::ForClause => &[
             Token(Passed(Kind::For)),
             The(Rule::Targets),
@@ -325,23 +343,27 @@ pub fn symbols_of(choice: Choice) -> &'static [Symbol]
         ],
         Choice::IfClause => &[Token(Passed(Kind::If)), The(Rule::Or)],
         Choice::Args => &[The(Rule::Argument), The(Rule::ArgsMore)],
-        Choice::ArgsEnd => &[],
         Choice::ArgsComma => &[Token(Passed(Kind::Comma)), The(Rule::Args)],
-        Choice::ArgsStop => &[],
         Choice::Argument => &[The(Rule::Arg)],
         Choice::StarArg => &[Token(Kept(Kind::Star)), The(Rule::Test)],
         Choice::StarsArg => &[Token(Kept(Kind::Stars)), The(Rule::Test)],
         Choice::Plain => &[The(Rule::Test), The(Rule::ArgMore)],
         Choice::Named => &[Token(Passed(Kind::Assign)), The(Rule::Test)],
-        Choice::ArgEnd => &[],
+        _ => &[],
+    }
+}
+
+// Targets.
+fn target_symbols(choice: Choice) -> &'static [Symbol]
+    requires from { place at.Targets ≤ place choice }
+    ensures { result.now ≡ spec.body choice }
+{
+    match choice {
         Choice::Targets => &[The(Rule::Target), The(Rule::TargetsMore)],
         Choice::TargetsComma => &[The(Rule::TargetsRest)],
-        Choice::TargetsEnd => &[],
         Choice::TargetsRest => &[The(Rule::TupleOpen), The(Rule::TargetsTail)],
         Choice::TargetsNext => &[The(Rule::TargetItem), The(Rule::TargetsAfter)],
-        Choice::TargetsStop => &[],
         Choice::TargetsAfter => &[Token(Passed(Kind::Comma)), The(Rule::TargetsTail)],
-        Choice::TargetsLast => &[],
         Choice::TargetItem => &[The(Rule::Target)],
         Choice::TargetName => &[Token(Leaf(Kind::Name)), The(Rule::TargetMore)],
         Choice::TargetConstant => &[Token(Leaf(Kind::Constant)), The(Rule::MustIndex)],
@@ -353,7 +375,6 @@ pub fn symbols_of(choice: Choice) -> &'static [Symbol]
         Choice::TargetIndex => &[Token(Kept(Kind::OpenBracket)), The(Rule::TargetSubscript)],
         Choice::TargetDot => &[The(Rule::Dot), The(Rule::MustIndex)],
         Choice::TargetCall => &[The(Rule::Call), The(Rule::MustIndex)],
-        Choice::TargetEnd => &[],
         Choice::MustIndex => &[Token(Kept(Kind::OpenBracket)), The(Rule::TargetSubscript)],
         Choice::MustDot => &[The(Rule::Dot), The(Rule::MustIndex)],
         Choice::MustCall => &[The(Rule::Call), The(Rule::MustIndex)],
@@ -378,7 +399,6 @@ pub fn symbols_of(choice: Choice) -> &'static [Symbol]
         Choice::GroupIndex => &[Token(Kept(Kind::OpenBracket)), The(Rule::GroupSubscript)],
         Choice::GroupDot => &[The(Rule::Dot), The(Rule::MustIndex)],
         Choice::GroupCall => &[The(Rule::Call), The(Rule::MustIndex)],
-        Choice::GroupEnd => &[],
         Choice::GroupFrom => &[
             The(Rule::NoPart),
             Token(Passed(Kind::Colon)),
@@ -398,6 +418,7 @@ pub fn symbols_of(choice: Choice) -> &'static [Symbol]
         ],
         Choice::GroupStop => &[The(Rule::GroupClose), The(Rule::TargetMore)],
         Choice::GroupClose => &[Token(Passed(Kind::CloseBracket))],
+        _ => &[],
     }
 }
 
