@@ -2,13 +2,13 @@
 ghost use Rattle.std.specs.Prelude.{◌≡◌, ◌≤◌, ◌<◌};
 ghost use Rattle.star_grammar.specs.Table as spec;
 ghost use Rattle.star_grammar.specs.declared.table.Choice.TheVariants as at;
-ghost use Rattle.star_tables.specs.Places.{place};
+ghost use Rattle.star_tables.specs.Places.{choice_place};
 
 use star_grammar::Symbol::{Rule as The, Token};
 use star_grammar::Terminal::{Enter, Kept, Leaf, Leave, Param, Passed, Word};
 use star_grammar::{Action, Added, Choice, Kind, Made, Opened, Rule, Stated, Symbol};
 
-/// The symbols of an alternative.
+/// The symbols of an alternative. The tables go by the order of the grammar; what they do not name is empty.
 pub fn symbols_of(choice: Choice) -> &'static [Symbol]
     ensures { result.now ≡ spec.body choice }
 {
@@ -30,7 +30,7 @@ pub fn symbols_of(choice: Choice) -> &'static [Symbol]
 
 // Blocks, lines and statements.
 fn statement_symbols(choice: Choice) -> &'static [Symbol]
-    requires until { place choice < place at.LoadsOpen }
+    requires until { choice_place choice < choice_place at.LoadsOpen }
     ensures { result.now ≡ spec.body choice }
 {
     match choice {
@@ -108,9 +108,8 @@ fn statement_symbols(choice: Choice) -> &'static [Symbol]
         Choice::HeaderEnd => &[The(Rule::EndHead), The(Rule::LastEnd)],
         Choice::Line => &[The(Rule::Simple), The(Rule::LastEnd)],
         Choice::LastEnd => &[Token(Passed(Kind::LineEnd))],
-        Choice::Simple => &[The(Rule::Small), The(Rule::SimpleMore)],
+        Choice::Simple | Choice::SimpleNext => &[The(Rule::Small), The(Rule::SimpleMore)],
         Choice::Semicolon => &[Token(Passed(Kind::Semicolon)), The(Rule::SimpleTail)],
-        Choice::SimpleNext => &[The(Rule::Small), The(Rule::SimpleMore)],
         Choice::Return => &[Token(Kept(Kind::Return)), The(Rule::Result)],
         Choice::Break => &[Token(Kept(Kind::Break))],
         Choice::Continue => &[Token(Kept(Kind::Continue))],
@@ -133,8 +132,8 @@ fn statement_symbols(choice: Choice) -> &'static [Symbol]
 
 // Loads, parameters and rows of expressions.
 fn row_symbols(choice: Choice) -> &'static [Symbol]
-    requires from { place at.LoadsOpen ≤ place choice }
-    requires until { place choice < place at.Test }
+    requires from { choice_place at.LoadsOpen ≤ choice_place choice }
+    requires until { choice_place choice < choice_place at.Test }
     ensures { result.now ≡ spec.body choice }
 {
     match choice {
@@ -152,10 +151,8 @@ fn row_symbols(choice: Choice) -> &'static [Symbol]
         Choice::Param => &[The(Rule::ParamName), The(Rule::Default)],
         Choice::StarParam => &[Token(Passed(Kind::Star)), The(Rule::StarName)],
         Choice::StarsParam => &[Token(Passed(Kind::Stars)), The(Rule::StarsName)],
-        Choice::ParamName => &[Token(Param)],
+        Choice::ParamName | Choice::StarName | Choice::StarsName => &[Token(Param)],
         Choice::Default => &[Token(Passed(Kind::Assign)), The(Rule::Test)],
-        Choice::StarName => &[Token(Param)],
-        Choice::StarsName => &[Token(Param)],
         Choice::Expr => &[The(Rule::Test), The(Rule::ExprMore)],
         Choice::ExprComma => &[The(Rule::TupleRest)],
         Choice::TupleRest => &[The(Rule::TupleOpen), The(Rule::ExprTail)],
@@ -169,8 +166,8 @@ fn row_symbols(choice: Choice) -> &'static [Symbol]
 
 // Tests and operators.
 fn operator_symbols(choice: Choice) -> &'static [Symbol]
-    requires from { place at.Test ≤ place choice }
-    requires until { place choice < place at.Primary }
+    requires from { choice_place at.Test ≤ choice_place choice }
+    requires until { choice_place choice < choice_place at.Primary }
     ensures { result.now ≡ spec.body choice }
 {
     match choice {
@@ -230,8 +227,8 @@ fn operator_symbols(choice: Choice) -> &'static [Symbol]
 
 // Operands and what follows them.
 fn operand_symbols(choice: Choice) -> &'static [Symbol]
-    requires from { place at.Primary ≤ place choice }
-    requires until { place choice < place at.List }
+    requires from { choice_place at.Primary ≤ choice_place choice }
+    requires until { choice_place choice < choice_place at.List }
     ensures { result.now ≡ spec.body choice }
 {
     match choice {
@@ -256,7 +253,7 @@ fn operand_symbols(choice: Choice) -> &'static [Symbol]
         Choice::IndexComma => &[The(Rule::TupleRest), The(Rule::Index)],
         Choice::IndexSlice => &[Token(Passed(Kind::Colon)), The(Rule::SliceRest)],
         Choice::IndexEnd => &[The(Rule::Index)],
-        Choice::Index => &[Token(Passed(Kind::CloseBracket))],
+        Choice::Index | Choice::Slice => &[Token(Passed(Kind::CloseBracket))],
         Choice::SliceRest => &[
             The(Rule::OptionalTest),
             The(Rule::SliceStep),
@@ -264,7 +261,6 @@ fn operand_symbols(choice: Choice) -> &'static [Symbol]
         ],
         Choice::Given => &[The(Rule::Test)],
         Choice::SliceStep => &[Token(Passed(Kind::Colon)), The(Rule::OptionalTest)],
-        Choice::Slice => &[Token(Passed(Kind::CloseBracket))],
         Choice::Name => &[Token(Leaf(Kind::Name))],
         Choice::Constant => &[Token(Leaf(Kind::Constant))],
         Choice::Int => &[Token(Leaf(Kind::Int))],
@@ -284,8 +280,8 @@ fn operand_symbols(choice: Choice) -> &'static [Symbol]
 
 // Displays, clauses and arguments.
 fn member_symbols(choice: Choice) -> &'static [Symbol]
-    requires from { place at.List ≤ place choice }
-    requires until { place choice < place at.Targets }
+    requires from { choice_place at.List ≤ choice_place choice }
+    requires until { choice_place choice < choice_place at.Targets }
     ensures { result.now ≡ spec.body choice }
 {
     match choice {
@@ -296,7 +292,7 @@ fn member_symbols(choice: Choice) -> &'static [Symbol]
             Token(Passed(Kind::CloseBracket)),
         ],
         Choice::Members => &[The(Rule::Test), The(Rule::MembersMore)],
-        Choice::ListFor => &[
+        Choice::ListFor | Choice::DictFor => &[
             The(Rule::ClausesOpen),
             The(Rule::ForClause),
             The(Rule::Clauses),
@@ -319,11 +315,6 @@ fn member_symbols(choice: Choice) -> &'static [Symbol]
             Token(Passed(Kind::Colon)),
             The(Rule::Test),
             The(Rule::EntriesMore),
-        ],
-        Choice::DictFor => &[
-            The(Rule::ClausesOpen),
-            The(Rule::ForClause),
-            The(Rule::Clauses),
         ],
         Choice::EntriesComma => &[
             The(Rule::EntryJoined),
@@ -355,7 +346,7 @@ fn member_symbols(choice: Choice) -> &'static [Symbol]
 
 // Targets.
 fn target_symbols(choice: Choice) -> &'static [Symbol]
-    requires from { place at.Targets ≤ place choice }
+    requires from { choice_place at.Targets ≤ choice_place choice }
     ensures { result.now ≡ spec.body choice }
 {
     match choice {
@@ -372,13 +363,19 @@ fn target_symbols(choice: Choice) -> &'static [Symbol]
         Choice::TargetGroup => &[The(Rule::Group), The(Rule::GroupMore)],
         Choice::TargetList => &[The(Rule::List), The(Rule::GroupMore)],
         Choice::TargetDict => &[The(Rule::Dict), The(Rule::MustIndex)],
-        Choice::TargetIndex => &[Token(Kept(Kind::OpenBracket)), The(Rule::TargetSubscript)],
-        Choice::TargetDot => &[The(Rule::Dot), The(Rule::MustIndex)],
-        Choice::TargetCall => &[The(Rule::Call), The(Rule::MustIndex)],
-        Choice::MustIndex => &[Token(Kept(Kind::OpenBracket)), The(Rule::TargetSubscript)],
-        Choice::MustDot => &[The(Rule::Dot), The(Rule::MustIndex)],
-        Choice::MustCall => &[The(Rule::Call), The(Rule::MustIndex)],
-        Choice::TargetFrom => &[
+        Choice::TargetIndex | Choice::MustIndex => &[
+            Token(Kept(Kind::OpenBracket)),
+            The(Rule::TargetSubscript),
+        ],
+        Choice::TargetDot | Choice::MustDot | Choice::GroupDot => &[
+            The(Rule::Dot),
+            The(Rule::MustIndex),
+        ],
+        Choice::TargetCall | Choice::MustCall | Choice::GroupCall => &[
+            The(Rule::Call),
+            The(Rule::MustIndex),
+        ],
+        Choice::TargetFrom | Choice::GroupFrom => &[
             The(Rule::NoPart),
             Token(Passed(Kind::Colon)),
             The(Rule::SliceRest),
@@ -390,31 +387,18 @@ fn target_symbols(choice: Choice) -> &'static [Symbol]
             The(Rule::Index),
             The(Rule::TargetMore),
         ],
-        Choice::TargetSlice => &[
+        Choice::TargetSlice | Choice::GroupSlice => &[
             Token(Passed(Kind::Colon)),
             The(Rule::SliceRest),
             The(Rule::MustIndex),
         ],
         Choice::TargetStop => &[The(Rule::Index), The(Rule::TargetMore)],
         Choice::GroupIndex => &[Token(Kept(Kind::OpenBracket)), The(Rule::GroupSubscript)],
-        Choice::GroupDot => &[The(Rule::Dot), The(Rule::MustIndex)],
-        Choice::GroupCall => &[The(Rule::Call), The(Rule::MustIndex)],
-        Choice::GroupFrom => &[
-            The(Rule::NoPart),
-            Token(Passed(Kind::Colon)),
-            The(Rule::SliceRest),
-            The(Rule::MustIndex),
-        ],
         Choice::GroupAt => &[The(Rule::Test), The(Rule::GroupAfter)],
         Choice::GroupComma => &[
             The(Rule::TupleRest),
             The(Rule::GroupClose),
             The(Rule::TargetMore),
-        ],
-        Choice::GroupSlice => &[
-            Token(Passed(Kind::Colon)),
-            The(Rule::SliceRest),
-            The(Rule::MustIndex),
         ],
         Choice::GroupStop => &[The(Rule::GroupClose), The(Rule::TargetMore)],
         Choice::GroupClose => &[Token(Passed(Kind::CloseBracket))],
@@ -427,83 +411,69 @@ pub fn action_of(choice: Choice) -> Action
     ensures { result ≡ spec.action_of choice }
 {
     match choice {
+        Choice::NoDefault | Choice::GroupEnd => Action::Floor,
         Choice::DefHead => Action::State(Stated::Def),
-        Choice::IfHead => Action::State(Stated::WordExpr),
-        Choice::ElifHead => Action::State(Stated::WordExpr),
-        Choice::ElseHead => Action::State(Stated::Word),
+        Choice::IfHead | Choice::ElifHead | Choice::Return => Action::State(Stated::WordExpr),
+        Choice::ElseHead | Choice::EndHead | Choice::Break | Choice::Continue | Choice::Pass =>
+            Action::State(Stated::Word),
         Choice::ForHead => Action::State(Stated::For),
-        Choice::EndHead => Action::State(Stated::Word),
-        Choice::Return => Action::State(Stated::WordExpr),
-        Choice::Break => Action::State(Stated::Word),
-        Choice::Continue => Action::State(Stated::Word),
-        Choice::Pass => Action::State(Stated::Word),
         Choice::Load => Action::State(Stated::Load),
-        Choice::NoResult => Action::Open(Opened::NoResult),
         Choice::Assign => Action::State(Stated::Assign),
         Choice::Augment => Action::State(Stated::Augment),
         Choice::SmallEnd => Action::State(Stated::Evaluate),
+        Choice::NoResult => Action::Open(Opened::NoResult),
         Choice::LoadsOpen => Action::Open(Opened::Loads),
+        Choice::ParamsOpen => Action::Open(Opened::Params),
+        Choice::NotGiven | Choice::NoStep | Choice::NoPart => Action::Open(Opened::Missing),
+        Choice::Empty => Action::Open(Opened::EmptyTuple),
+        Choice::ExprsOpen => Action::Open(Opened::Exprs),
+        Choice::EntriesOpen => Action::Open(Opened::Entries),
+        Choice::ClausesOpen => Action::Open(Opened::Clauses),
         Choice::LoadOne => Action::Add(Added::Load),
         Choice::LoadAs => Action::Add(Added::LoadAs),
-        Choice::ParamsOpen => Action::Open(Opened::Params),
         Choice::ParamName => Action::Add(Added::Required),
         Choice::Default => Action::Add(Added::Default),
-        Choice::NoDefault => Action::Floor,
         Choice::StarName => Action::Add(Added::Star),
         Choice::BareStar => Action::Add(Added::BareStar),
         Choice::StarsName => Action::Add(Added::Stars),
-        Choice::TupleRest => Action::Make(Made::Tuple),
         Choice::TupleOpen => Action::Add(Added::First),
-        Choice::Item => Action::Add(Added::Item),
+        Choice::Item
+        | Choice::MembersEnd
+        | Choice::Joined
+        | Choice::Argument
+        | Choice::TargetItem => Action::Add(Added::Item),
+        Choice::NoMembers => Action::Add(Added::EmptyList),
+        Choice::ListFor => Action::Add(Added::ListFor),
+        Choice::DictFor => Action::Add(Added::DictFor),
+        Choice::EntriesEnd | Choice::EntryJoined | Choice::Pair => Action::Add(Added::Entry),
+        Choice::ForClause => Action::Add(Added::ForClause),
+        Choice::IfClause => Action::Add(Added::IfClause),
+        Choice::GroupClose => Action::Add(Added::GroupIndex),
+        Choice::TupleRest | Choice::TargetsRest => Action::Make(Made::Tuple),
         Choice::Lambda => Action::Make(Made::Lambda),
         Choice::IfElse => Action::Make(Made::Conditional),
-        Choice::OrStep => Action::Make(Made::Binary),
-        Choice::AndStep => Action::Make(Made::Binary),
-        Choice::Not => Action::Make(Made::Unary),
-        Choice::Compare => Action::Make(Made::Binary),
-        Choice::CompareIn => Action::Make(Made::Binary),
-        Choice::CompareNotIn => Action::Make(Made::Binary),
-        Choice::BarStep => Action::Make(Made::Binary),
-        Choice::CaretStep => Action::Make(Made::Binary),
-        Choice::AmpersandStep => Action::Make(Made::Binary),
-        Choice::ShiftStep => Action::Make(Made::Binary),
-        Choice::SignStep => Action::Make(Made::Binary),
-        Choice::StarStep => Action::Make(Made::Binary),
-        Choice::TimesStep => Action::Make(Made::Binary),
-        Choice::Signed => Action::Make(Made::Unary),
-        Choice::Inverted => Action::Make(Made::Unary),
+        Choice::OrStep
+        | Choice::AndStep
+        | Choice::Compare
+        | Choice::CompareIn
+        | Choice::CompareNotIn
+        | Choice::BarStep
+        | Choice::CaretStep
+        | Choice::AmpersandStep
+        | Choice::ShiftStep
+        | Choice::SignStep
+        | Choice::StarStep
+        | Choice::TimesStep => Action::Make(Made::Binary),
+        Choice::Not | Choice::Signed | Choice::Inverted => Action::Make(Made::Unary),
         Choice::Dot => Action::Make(Made::Dot),
         Choice::Call => Action::Make(Made::Call),
         Choice::Index => Action::Make(Made::Index),
-        Choice::NotGiven => Action::Open(Opened::Missing),
-        Choice::NoStep => Action::Open(Opened::Missing),
         Choice::Slice => Action::Make(Made::Slice),
-        Choice::NoPart => Action::Open(Opened::Missing),
         Choice::Group => Action::Make(Made::Group),
-        Choice::Empty => Action::Open(Opened::EmptyTuple),
-        Choice::ExprsOpen => Action::Open(Opened::Exprs),
         Choice::List => Action::Make(Made::List),
-        Choice::NoMembers => Action::Add(Added::EmptyList),
-        Choice::ListFor => Action::Add(Added::ListFor),
-        Choice::MembersEnd => Action::Add(Added::Item),
-        Choice::Joined => Action::Add(Added::Item),
-        Choice::EntriesOpen => Action::Open(Opened::Entries),
         Choice::Dict => Action::Make(Made::Dict),
-        Choice::DictFor => Action::Add(Added::DictFor),
-        Choice::EntriesEnd => Action::Add(Added::Entry),
-        Choice::EntryJoined => Action::Add(Added::Entry),
-        Choice::Pair => Action::Add(Added::Entry),
-        Choice::ClausesOpen => Action::Open(Opened::Clauses),
-        Choice::ForClause => Action::Add(Added::ForClause),
-        Choice::IfClause => Action::Add(Added::IfClause),
-        Choice::Argument => Action::Add(Added::Item),
-        Choice::StarArg => Action::Make(Made::Starred),
-        Choice::StarsArg => Action::Make(Made::Starred),
+        Choice::StarArg | Choice::StarsArg => Action::Make(Made::Starred),
         Choice::Named => Action::Make(Made::Named),
-        Choice::TargetsRest => Action::Make(Made::Tuple),
-        Choice::TargetItem => Action::Add(Added::Item),
-        Choice::GroupEnd => Action::Floor,
-        Choice::GroupClose => Action::Add(Added::GroupIndex),
         _ => Action::Keep,
     }
 }
