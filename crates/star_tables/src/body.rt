@@ -17,7 +17,7 @@ pub fn symbols_of(choice: Choice) -> &'static [Symbol]
         statement_symbols(choice)
     } else if place < Choice::Test as u8 {
         row_symbols(choice)
-    } else if place < Choice::Primary as u8 {
+    } else if place < Choice::SuffixMore as u8 {
         operator_symbols(choice)
     } else if place < Choice::List as u8 {
         operand_symbols(choice)
@@ -167,7 +167,7 @@ fn row_symbols(choice: Choice) -> &'static [Symbol]
 // Tests and operators.
 fn operator_symbols(choice: Choice) -> &'static [Symbol]
     requires from { choice_place at.Test ≤ choice_place choice }
-    requires until { choice_place choice < choice_place at.Primary }
+    requires until { choice_place choice < choice_place at.SuffixMore }
     ensures { result.now ≡ spec.body choice }
 {
     match choice {
@@ -221,18 +221,18 @@ fn operator_symbols(choice: Choice) -> &'static [Symbol]
         Choice::TimesStep => &[Token(Kept(Kind::Times)), The(Rule::Unary)],
         Choice::Signed => &[Token(Kept(Kind::Sign)), The(Rule::Unary)],
         Choice::Inverted => &[Token(Kept(Kind::Tilde)), The(Rule::Unary)],
+        Choice::Primary => &[The(Rule::Operand), The(Rule::PrimaryMore)],
         _ => &[],
     }
 }
 
 // Operands and what follows them.
 fn operand_symbols(choice: Choice) -> &'static [Symbol]
-    requires from { choice_place at.Primary ≤ choice_place choice }
+    requires from { choice_place at.SuffixMore ≤ choice_place choice }
     requires until { choice_place choice < choice_place at.List }
     ensures { result.now ≡ spec.body choice }
 {
     match choice {
-        Choice::Primary => &[The(Rule::Operand), The(Rule::PrimaryMore)],
         Choice::SuffixMore => &[The(Rule::Suffix), The(Rule::PrimaryMore)],
         Choice::SuffixDot => &[The(Rule::Dot)],
         Choice::SuffixCall => &[The(Rule::Call)],

@@ -118,52 +118,7 @@ fn kind_of(terminal: Terminal) -> Kind
 fn place(kind: Kind) -> u32
     ensures { result ≡ spec.place kind }
 {
-    match kind {
-        Kind::Name => 0,
-        Kind::Constant => 1,
-        Kind::Int => 2,
-        Kind::Text => 3,
-        Kind::Comma => 4,
-        Kind::Colon => 5,
-        Kind::Semicolon => 6,
-        Kind::Dot => 7,
-        Kind::Open => 8,
-        Kind::Close => 9,
-        Kind::OpenBracket => 10,
-        Kind::CloseBracket => 11,
-        Kind::OpenBrace => 12,
-        Kind::CloseBrace => 13,
-        Kind::Assign => 14,
-        Kind::Augment => 15,
-        Kind::Compare => 16,
-        Kind::Bar => 17,
-        Kind::Caret => 18,
-        Kind::Ampersand => 19,
-        Kind::Shift => 20,
-        Kind::Sign => 21,
-        Kind::Star => 22,
-        Kind::Stars => 23,
-        Kind::Times => 24,
-        Kind::Tilde => 25,
-        Kind::And => 26,
-        Kind::Break => 27,
-        Kind::Continue => 28,
-        Kind::Def => 29,
-        Kind::Elif => 30,
-        Kind::Else => 31,
-        Kind::EndWord => 32,
-        Kind::For => 33,
-        Kind::If => 34,
-        Kind::In => 35,
-        Kind::Lambda => 36,
-        Kind::Load => 37,
-        Kind::Not => 38,
-        Kind::Or => 39,
-        Kind::Pass => 40,
-        Kind::Return => 41,
-        Kind::LineEnd => 42,
-        Kind::TextEnd => 43,
-    }
+    kind as u32
 }
 
 fn is_any_name(terminal: Terminal) -> bool

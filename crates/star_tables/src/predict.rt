@@ -12,20 +12,24 @@ pub fn choice_at(rule: Rule, kind: Kind) -> Choice
     ensures { result ≡ spec.predict rule kind }
 {
     let place = rule as u8;
-    if place < Rule::Expr as u8 {
+    if place < Rule::LoadsOpen as u8 {
         statement_choice(rule, kind)
+    } else if place < Rule::Test as u8 {
+        row_choice(rule, kind)
     } else if place < Rule::PrimaryMore as u8 {
-        expression_choice(rule, kind)
-    } else if place < Rule::ClausesOpen as u8 {
+        operator_choice(rule, kind)
+    } else if place < Rule::List as u8 {
         operand_choice(rule, kind)
+    } else if place < Rule::Targets as u8 {
+        member_choice(rule, kind)
     } else {
         target_choice(rule, kind)
     }
 }
 
-// Blocks, lines, statements, loads and parameters.
+// Blocks, lines and statements.
 fn statement_choice(rule: Rule, kind: Kind) -> Choice
-    requires { rule_place rule < rule_place at.Expr }
+    requires { rule_place rule < rule_place at.LoadsOpen }
     ensures { result ≡ spec.predict rule kind }
 {
     match rule {
@@ -97,6 +101,17 @@ fn statement_choice(rule: Rule, kind: Kind) -> Choice
             Kind::Augment => Choice::Augment,
             _ => Choice::SmallEnd,
         },
+        _ => unreachable!(),
+    }
+}
+
+// Loads, parameters and rows of expressions.
+fn row_choice(rule: Rule, kind: Kind) -> Choice
+    requires from { rule_place at.LoadsOpen ≤ rule_place rule }
+    requires until { rule_place rule < rule_place at.Test }
+    ensures { result ≡ spec.predict rule kind }
+{
+    match rule {
         Rule::LoadsOpen => Choice::LoadsOpen,
         Rule::Loads => match kind {
             Kind::Comma => Choice::LoadComma,
@@ -133,17 +148,6 @@ fn statement_choice(rule: Rule, kind: Kind) -> Choice
             _ => Choice::BareStar,
         },
         Rule::StarsName => Choice::StarsName,
-        _ => unreachable!(),
-    }
-}
-
-// Rows of expressions, tests and operators.
-fn expression_choice(rule: Rule, kind: Kind) -> Choice
-    requires from { rule_place at.Expr ≤ rule_place rule }
-    requires until { rule_place rule < rule_place at.PrimaryMore }
-    ensures { result ≡ spec.predict rule kind }
-{
-    match rule {
         Rule::Expr => Choice::Expr,
         Rule::ExprMore => match kind {
             Kind::Comma => Choice::ExprComma,
@@ -167,6 +171,17 @@ fn expression_choice(rule: Rule, kind: Kind) -> Choice
             _ => Choice::ExprLast,
         },
         Rule::Item => Choice::Item,
+        _ => unreachable!(),
+    }
+}
+
+// Tests and operators.
+fn operator_choice(rule: Rule, kind: Kind) -> Choice
+    requires from { rule_place at.Test ≤ rule_place rule }
+    requires until { rule_place rule < rule_place at.PrimaryMore }
+    ensures { result ≡ spec.predict rule kind }
+{
+    match rule {
         Rule::Test => match kind {
             Kind::Lambda => Choice::Lambda,
             _ => Choice::Test,
@@ -245,10 +260,10 @@ fn expression_choice(rule: Rule, kind: Kind) -> Choice
     }
 }
 
-// Operands, what follows them, and displays.
+// Operands and what follows them.
 fn operand_choice(rule: Rule, kind: Kind) -> Choice
     requires from { rule_place at.PrimaryMore ≤ rule_place rule }
-    requires until { rule_place rule < rule_place at.ClausesOpen }
+    requires until { rule_place rule < rule_place at.List }
     ensures { result ≡ spec.predict rule kind }
 {
     match rule {
@@ -299,6 +314,17 @@ fn operand_choice(rule: Rule, kind: Kind) -> Choice
             _ => Choice::Inside,
         },
         Rule::ExprsOpen => Choice::ExprsOpen,
+        _ => unreachable!(),
+    }
+}
+
+// Displays, clauses and arguments.
+fn member_choice(rule: Rule, kind: Kind) -> Choice
+    requires from { rule_place at.List ≤ rule_place rule }
+    requires until { rule_place rule < rule_place at.Targets }
+    ensures { result ≡ spec.predict rule kind }
+{
+    match rule {
         Rule::List => Choice::List,
         Rule::Members => match kind {
             Kind::CloseBracket => Choice::NoMembers,
@@ -339,16 +365,6 @@ fn operand_choice(rule: Rule, kind: Kind) -> Choice
             _ => Choice::PairsStop,
         },
         Rule::Pair => Choice::Pair,
-        _ => unreachable!(),
-    }
-}
-
-// Clauses, arguments and targets.
-fn target_choice(rule: Rule, kind: Kind) -> Choice
-    requires { rule_place at.ClausesOpen ≤ rule_place rule }
-    ensures { result ≡ spec.predict rule kind }
-{
-    match rule {
         Rule::ClausesOpen => Choice::ClausesOpen,
         Rule::Clauses => match kind {
             Kind::For => Choice::ClauseFor,
@@ -375,6 +391,16 @@ fn target_choice(rule: Rule, kind: Kind) -> Choice
             Kind::Assign => Choice::Named,
             _ => Choice::ArgEnd,
         },
+        _ => unreachable!(),
+    }
+}
+
+// Targets.
+fn target_choice(rule: Rule, kind: Kind) -> Choice
+    requires { rule_place at.Targets ≤ rule_place rule }
+    ensures { result ≡ spec.predict rule kind }
+{
+    match rule {
         Rule::Targets => Choice::Targets,
         Rule::TargetsMore => match kind {
             Kind::Comma => Choice::TargetsComma,
