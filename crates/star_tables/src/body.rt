@@ -411,7 +411,6 @@ pub fn action_of(choice: Choice) -> Action
     ensures { result ≡ spec.action_of choice }
 {
     match choice {
-        Choice::NoDefault | Choice::GroupEnd => Action::Floor,
         Choice::DefHead => Action::State(Stated::Def),
         Choice::IfHead | Choice::ElifHead | Choice::Return => Action::State(Stated::WordExpr),
         Choice::ElseHead | Choice::EndHead | Choice::Break | Choice::Continue | Choice::Pass =>
@@ -474,6 +473,7 @@ pub fn action_of(choice: Choice) -> Action
         Choice::Dict => Action::Make(Made::Dict),
         Choice::StarArg | Choice::StarsArg => Action::Make(Made::Starred),
         Choice::Named => Action::Make(Made::Named),
+        Choice::NoDefault | Choice::GroupEnd => Action::Floor,
         _ => Action::Keep,
     }
 }

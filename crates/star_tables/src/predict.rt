@@ -7,7 +7,7 @@ ghost use Rattle.star_tables.specs.Places.{rule_place};
 use star_grammar::{Choice, Kind, Rule};
 
 /// The alternative of a rule that begins with a token of this kind, or that is empty before it; where there is none, one
-/// that refuses the token.
+/// that refuses the token. The tables go by the order of the grammar.
 pub fn choice_at(rule: Rule, kind: Kind) -> Choice
     ensures { result ≡ spec.predict rule kind }
 {
@@ -29,7 +29,7 @@ pub fn choice_at(rule: Rule, kind: Kind) -> Choice
 
 // Blocks, lines and statements.
 fn statement_choice(rule: Rule, kind: Kind) -> Choice
-    requires { rule_place rule < rule_place at.LoadsOpen }
+    requires until { rule_place rule < rule_place at.LoadsOpen }
     ensures { result ≡ spec.predict rule kind }
 {
     match rule {
@@ -397,7 +397,7 @@ fn member_choice(rule: Rule, kind: Kind) -> Choice
 
 // Targets.
 fn target_choice(rule: Rule, kind: Kind) -> Choice
-    requires { rule_place at.Targets ≤ rule_place rule }
+    requires from { rule_place at.Targets ≤ rule_place rule }
     ensures { result ≡ spec.predict rule kind }
 {
     match rule {
