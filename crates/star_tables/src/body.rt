@@ -28,7 +28,7 @@ pub fn symbols_of(choice: Choice) -> &'static [Symbol]
     }
 }
 
-// Blocks, lines and statements.
+/// Blocks, lines and statements.
 fn statement_symbols(choice: Choice) -> &'static [Symbol]
     requires until { choice_place choice < choice_place at.LoadsOpen }
     ensures { result.now ≡ spec.body choice }
@@ -130,7 +130,7 @@ fn statement_symbols(choice: Choice) -> &'static [Symbol]
     }
 }
 
-// Loads, parameters and rows of expressions.
+/// Loads, parameters and rows of expressions.
 fn row_symbols(choice: Choice) -> &'static [Symbol]
     requires from { choice_place at.LoadsOpen ≤ choice_place choice }
     requires until { choice_place choice < choice_place at.Test }
@@ -164,7 +164,7 @@ fn row_symbols(choice: Choice) -> &'static [Symbol]
     }
 }
 
-// Tests and operators.
+/// Tests and operators.
 fn operator_symbols(choice: Choice) -> &'static [Symbol]
     requires from { choice_place at.Test ≤ choice_place choice }
     requires until { choice_place choice < choice_place at.SuffixMore }
@@ -226,7 +226,7 @@ fn operator_symbols(choice: Choice) -> &'static [Symbol]
     }
 }
 
-// Operands and what follows them.
+/// Operands and what follows them.
 fn operand_symbols(choice: Choice) -> &'static [Symbol]
     requires from { choice_place at.SuffixMore ≤ choice_place choice }
     requires until { choice_place choice < choice_place at.List }
@@ -278,7 +278,7 @@ fn operand_symbols(choice: Choice) -> &'static [Symbol]
     }
 }
 
-// Displays, clauses and arguments.
+/// Displays, clauses and arguments.
 fn member_symbols(choice: Choice) -> &'static [Symbol]
     requires from { choice_place at.List ≤ choice_place choice }
     requires until { choice_place choice < choice_place at.Targets }
@@ -344,7 +344,7 @@ fn member_symbols(choice: Choice) -> &'static [Symbol]
     }
 }
 
-// Targets.
+/// Targets.
 fn target_symbols(choice: Choice) -> &'static [Symbol]
     requires from { choice_place at.Targets ≤ choice_place choice }
     ensures { result.now ≡ spec.body choice }

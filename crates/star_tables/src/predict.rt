@@ -27,7 +27,7 @@ pub fn choice_at(rule: Rule, kind: Kind) -> Choice
     }
 }
 
-// Blocks, lines and statements.
+/// Blocks, lines and statements.
 fn statement_choice(rule: Rule, kind: Kind) -> Choice
     requires until { rule_place rule < rule_place at.LoadsOpen }
     ensures { result ≡ spec.predict rule kind }
@@ -105,7 +105,7 @@ fn statement_choice(rule: Rule, kind: Kind) -> Choice
     }
 }
 
-// Loads, parameters and rows of expressions.
+/// Loads, parameters and rows of expressions.
 fn row_choice(rule: Rule, kind: Kind) -> Choice
     requires from { rule_place at.LoadsOpen ≤ rule_place rule }
     requires until { rule_place rule < rule_place at.Test }
@@ -175,7 +175,7 @@ fn row_choice(rule: Rule, kind: Kind) -> Choice
     }
 }
 
-// Tests and operators.
+/// Tests and operators.
 fn operator_choice(rule: Rule, kind: Kind) -> Choice
     requires from { rule_place at.Test ≤ rule_place rule }
     requires until { rule_place rule < rule_place at.PrimaryMore }
@@ -260,7 +260,7 @@ fn operator_choice(rule: Rule, kind: Kind) -> Choice
     }
 }
 
-// Operands and what follows them.
+/// Operands and what follows them.
 fn operand_choice(rule: Rule, kind: Kind) -> Choice
     requires from { rule_place at.PrimaryMore ≤ rule_place rule }
     requires until { rule_place rule < rule_place at.List }
@@ -318,7 +318,7 @@ fn operand_choice(rule: Rule, kind: Kind) -> Choice
     }
 }
 
-// Displays, clauses and arguments.
+/// Displays, clauses and arguments.
 fn member_choice(rule: Rule, kind: Kind) -> Choice
     requires from { rule_place at.List ≤ rule_place rule }
     requires until { rule_place rule < rule_place at.Targets }
@@ -395,7 +395,7 @@ fn member_choice(rule: Rule, kind: Kind) -> Choice
     }
 }
 
-// Targets.
+/// Targets.
 fn target_choice(rule: Rule, kind: Kind) -> Choice
     requires from { rule_place at.Targets ≤ rule_place rule }
     ensures { result ≡ spec.predict rule kind }
