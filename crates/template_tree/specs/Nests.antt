@@ -35,7 +35,7 @@ nested_step file (Nested-F.Inside is more outer) = inside (front_of file is) (br
 abbrev pub nested_of : (file : ℕ) → Nested → nesting.Nested
 nested_of file = fold-Nested nesting.Nested (nested_step file)
 
--- The first of the items that were read is taken, and the others stay; or there is none.
+-- What a block around one item becomes: one with this item, before what is left; or there is no item for it.
 abbrev pub Pops : (file : ℕ) → (old new : Nested) → Option TItem → Type 0
 Pops file old new None = (kind : ItemKind) (p : Place) (h : Header) → nesting.around_one kind p h (nested_of file old) ≡ broken
 Pops file old new (Some i) = (kind : ItemKind) (p : Place) (h : Header) →
