@@ -3,12 +3,10 @@ ghost use Rattle.std.specs.Prelude.{◌≡◌};
 ghost use Rattle.star_grammar.specs.Language as spec;
 ghost use Rattle.star_grammar.specs.Language.{value};
 
-use crate::blocks::Blocks;
-use crate::kinds::{kind_of, name_in};
 use ll::Shapes;
-use star_build::Parts;
+use star_build::{Blocks, Parts};
 use star_grammar::{Choice, Terminal, Token};
-use star_tables::takes;
+use star_tables::{kind_of, name_in, takes};
 
 /// Whether an alternative may begin after what was read.
 pub fn allows(choice: Choice, parts: &Parts, shapes: &Shapes, blocks: &Blocks) -> bool

@@ -1,18 +1,14 @@
 //! The machine of the grammar of code: what is still to be read, what was read, and what a token makes of both.
 //!
 //! `step` takes one token, or says that it may not stand here, and `is_low` says whether a text that goes on so may be no higher
-//! than an expression may be. `allows` is what the table alone does not say: targets, parameters, and the blocks around.
+//! than an expression may be. Its guards are what the table alone does not say: targets, parameters, and the blocks around.
 #![tactic(auto)]
 
-mod blocks;
 mod guards;
-mod kinds;
 mod machine;
 mod pending;
 mod weight;
 
-pub use blocks::Blocks;
-pub use kinds::kind_of;
 pub use machine::{Machine, step};
 pub use pending::{Item, Pending};
 pub use weight::is_low;

@@ -1,6 +1,7 @@
 -- The reader's loop, a token at a time.
-use Rattle.std.proofs.Common.{◌≡◌, ℕ, ◌+◌, ◌<◌, ◌≤◌, List, [], ◌∷◌, ◌++◌, length, get_or, drop, take, Some, None, refl, sym, ap, ◌∙◌, subst, inl, inr, arith, add-one, drop-cons}
-use Rattle.std.specs.Prelude.{suc, Bool, true, false, if◌then◌else◌}
+use Rattle.std.proofs.Common.{◌≡◌, ℕ, ◌+◌, ◌<◌, ◌≤◌, List, [], ◌∷◌, ◌++◌, length, get_or, drop, take, Some, None, refl, sym, ap, ◌∙◌, subst, inl, inr, arith, leb, add-one, drop-cons}
+use Rattle.std.specs.Prelude.{suc, Bool, true, false, if◌then◌else◌, IsTrue}
+use Rattle.std.proofs.lemmas.Bool.{leb-true, leb-false}
 use Rattle.std.proofs.lemmas.List.{drop_all, take_more, take-append-drop, append_cancel_right}
 use Rattle.ll.specs.Grammar.{Parses, Front}
 use Rattle.ll.specs.Machine as ll
@@ -41,6 +42,17 @@ judge s ts = judged language tables looks consistent risen completes (entry_of s
 
 pub reads : (s : Start) (ts : List Token) (w : Value) → Parses language (entry_of s) max_height ts w → read_all s ts ≡ Whole w
 reads s ts w p = reads_text language tables looks consistent risen completes (entry_of s) (ended s) max_height ts w p
+
+-- what isn't low is high
+pub not_low : (b : Bool) (n m : ℕ) → b ≡ false → (n ≤ m → IsTrue b) → m < n
+not_low b n m e h = on (leb n m) refl
+  where
+    never : false ≡ true → m < n
+    never f = cc
+
+    on : (l : Bool) → leb n m ≡ l → m < n
+    on true f = never (sym e ∙ h (leb-true n m f))
+    on false f = leb-false n m f
 
 -- ---- where a reader stands
 

@@ -3,4 +3,3 @@ pub mod Answering
 pub mod Deciding
 pub mod OnePart
 pub mod Refusing
-pub mod Views

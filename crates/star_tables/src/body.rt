@@ -2,11 +2,12 @@
 ghost use Rattle.std.specs.Prelude.{◌≡◌, ◌≤◌, ◌<◌};
 ghost use Rattle.star_grammar.specs.Table as spec;
 ghost use Rattle.star_grammar.specs.declared.table.Choice.TheVariants as at;
-ghost use Rattle.star_tables.specs.Places.{choice_place};
+ghost use Rattle.star_levels.specs.Places.{choice_place};
 
 use star_grammar::Symbol::{Rule as The, Token};
 use star_grammar::Terminal::{Enter, Kept, Leaf, Leave, Param, Passed, Word};
 use star_grammar::{Action, Added, Choice, Kind, Made, Opened, Rule, Stated, Symbol};
+use star_levels::level_symbols;
 
 /// The symbols of an alternative. The tables go by the order of the grammar; what they do not name is empty.
 pub fn symbols_of(choice: Choice) -> &'static [Symbol]
@@ -18,7 +19,7 @@ pub fn symbols_of(choice: Choice) -> &'static [Symbol]
     } else if place < Choice::Test as u8 {
         row_symbols(choice)
     } else if place < Choice::SuffixMore as u8 {
-        operator_symbols(choice)
+        level_symbols(choice)
     } else if place < Choice::List as u8 {
         operand_symbols(choice)
     } else if place < Choice::Targets as u8 {
@@ -160,68 +161,6 @@ fn row_symbols(choice: Choice) -> &'static [Symbol]
         Choice::ExprNext => &[The(Rule::Item), The(Rule::ExprAfter)],
         Choice::ExprAfter => &[Token(Passed(Kind::Comma)), The(Rule::ExprTail)],
         Choice::Item => &[The(Rule::Test)],
-        _ => &[],
-    }
-}
-
-/// Tests and operators.
-fn operator_symbols(choice: Choice) -> &'static [Symbol]
-    requires from { choice_place at.Test ≤ choice_place choice }
-    requires until { choice_place choice < choice_place at.SuffixMore }
-    ensures { result.now ≡ spec.body choice }
-{
-    match choice {
-        Choice::Test => &[The(Rule::Or), The(Rule::TestMore)],
-        Choice::Lambda => &[
-            Token(Kept(Kind::Lambda)),
-            The(Rule::ParamsOpen),
-            The(Rule::Params),
-            Token(Passed(Kind::Colon)),
-            The(Rule::Test),
-        ],
-        Choice::IfElse => &[
-            Token(Kept(Kind::If)),
-            The(Rule::Or),
-            Token(Passed(Kind::Else)),
-            The(Rule::Test),
-        ],
-        Choice::Or => &[The(Rule::And), The(Rule::OrMore)],
-        Choice::OrMore => &[The(Rule::OrStep), The(Rule::OrMore)],
-        Choice::OrStep => &[Token(Kept(Kind::Or)), The(Rule::And)],
-        Choice::And => &[The(Rule::Not), The(Rule::AndMore)],
-        Choice::AndMore => &[The(Rule::AndStep), The(Rule::AndMore)],
-        Choice::AndStep => &[Token(Kept(Kind::And)), The(Rule::Not)],
-        Choice::Not => &[Token(Kept(Kind::Not)), The(Rule::Not)],
-        Choice::Comparison => &[The(Rule::Bar), The(Rule::CompareMore)],
-        Choice::Compare => &[Token(Kept(Kind::Compare)), The(Rule::Bar)],
-        Choice::CompareIn => &[Token(Kept(Kind::In)), The(Rule::Bar)],
-        Choice::CompareNotIn => &[
-            Token(Kept(Kind::Not)),
-            Token(Passed(Kind::In)),
-            The(Rule::Bar),
-        ],
-        Choice::Bar => &[The(Rule::Caret), The(Rule::BarMore)],
-        Choice::BarMore => &[The(Rule::BarStep), The(Rule::BarMore)],
-        Choice::BarStep => &[Token(Kept(Kind::Bar)), The(Rule::Caret)],
-        Choice::Caret => &[The(Rule::Ampersand), The(Rule::CaretMore)],
-        Choice::CaretMore => &[The(Rule::CaretStep), The(Rule::CaretMore)],
-        Choice::CaretStep => &[Token(Kept(Kind::Caret)), The(Rule::Ampersand)],
-        Choice::Ampersand => &[The(Rule::Shift), The(Rule::AmpersandMore)],
-        Choice::AmpersandMore => &[The(Rule::AmpersandStep), The(Rule::AmpersandMore)],
-        Choice::AmpersandStep => &[Token(Kept(Kind::Ampersand)), The(Rule::Shift)],
-        Choice::Shift => &[The(Rule::Sum), The(Rule::ShiftMore)],
-        Choice::ShiftMore => &[The(Rule::ShiftStep), The(Rule::ShiftMore)],
-        Choice::ShiftStep => &[Token(Kept(Kind::Shift)), The(Rule::Sum)],
-        Choice::Sum => &[The(Rule::Product), The(Rule::SumMore)],
-        Choice::SumMore => &[The(Rule::SumStep), The(Rule::SumMore)],
-        Choice::SignStep => &[Token(Kept(Kind::Sign)), The(Rule::Product)],
-        Choice::Product => &[The(Rule::Unary), The(Rule::ProductMore)],
-        Choice::ProductMore => &[The(Rule::ProductStep), The(Rule::ProductMore)],
-        Choice::StarStep => &[Token(Kept(Kind::Star)), The(Rule::Unary)],
-        Choice::TimesStep => &[Token(Kept(Kind::Times)), The(Rule::Unary)],
-        Choice::Signed => &[Token(Kept(Kind::Sign)), The(Rule::Unary)],
-        Choice::Inverted => &[Token(Kept(Kind::Tilde)), The(Rule::Unary)],
-        Choice::Primary => &[The(Rule::Operand), The(Rule::PrimaryMore)],
         _ => &[],
     }
 }

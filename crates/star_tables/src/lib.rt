@@ -3,8 +3,10 @@
 
 mod body;
 mod effect;
+mod kinds;
 mod predict;
 
 pub use body::{action_of, symbols_of};
 pub use effect::{effect_of, given, least, takes};
+pub use kinds::{kind_of, name_in};
 pub use predict::choice_at;

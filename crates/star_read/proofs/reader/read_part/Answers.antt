@@ -1,12 +1,11 @@
-use Rattle.std.proofs.Common.{◌≡◌, ◌<◌, ◌≤◌, Err, refl, arith}
-use Rattle.std.proofs.lemmas.Grind.{common_steps}
+use Rattle.std.proofs.Common.{◌≡◌, Err, refl, arith}
 use Rattle.ytt_base.specs.declared.fault.Stop.{Stop}
 use Rattle.star_grammar.specs.declared.start.Start.{Start}
-use Rattle.star_grammar.specs.Reading.{max_height, IsRead, Refusal, code_form, too_deep, Refuses}
+use Rattle.star_grammar.specs.Reading.{IsRead, Refusal, code_form, too_deep, Refuses}
 use Rattle.star_token.specs.declared.found.Tokens.{Tokens}
 use Rattle.star_read.specs.Answers.{HasRead, the_part, told}
-use Rattle.star_machine.specs.Turns.{weigh, value_of}
-use Rattle.star_read.proofs.Answering.{turn, refused_form, refused_deep, stands_on, still_anchored, whole, all_read}
+use Rattle.star_machine.specs.Turns.{value_of}
+use Rattle.star_read.proofs.Answering.{turn, not_low, refused_form, refused_deep, stands_on, still_anchored, whole, all_read}
 use Rattle.star_read.proofs.OnePart.{one_read}
 use Rattle.star_read.proofs.reader.read_part.Goals as goal
 
@@ -26,7 +25,7 @@ pub returns-then-not-branch-2 : goal.returns-then-not-branch-2
 returns-then-not-branch-2 c =
     let at = c.loop-token in
     let k = c.token-item.result in
-    let high : max_height < weigh c.step.new.machine.pending c.step.new.machine.shapes = grind (arith, common_steps) in
+    let high = not_low _ _ _ c.if-not-branch-2.true c.in_ok-is_low.ensures.1 in
     let h = refused_deep c.args.start c.as_slice-found.result.now at.token-index k at.machine.pending (value_of at.machine) c.loop-token-test.true c.token-item.is at.invariant.same at.stand
     c.step.new.machine.pending (value_of c.step.new.machine) at.invariant.stand_is (rw c.if-not-branch.false at c.in_ok-step.ensures) high in
     told_part c.args.start c.args.tokens.now (too_deep c.stand_after-next.result.line) c.fault.result c.fault.ensures (rw (c.stand_after-next.ensures, c.kind_of.ensures) (rw c.as_slice-found.ensures at h))
@@ -35,7 +34,7 @@ pub loop-token-preserved : goal.loop-token-preserved
 loop-token-preserved c =
     let at = c.loop-token in
     let k = c.token-item.result in
-    let low : weigh c.step.new.machine.pending c.step.new.machine.shapes ≤ max_height = grind (arith, common_steps) in
+    let low = c.in_ok-is_low.ensures.0 c.if-not-branch-2.false in
     let went = rw c.if-not-branch.false at c.in_ok-step.ensures in
     record {
       same = turn c.args.start c.as_slice-found.result.now at.token-index k at.machine.pending (value_of at.machine) c.loop-token-test.true c.token-item.is at.invariant.same

@@ -1,5 +1,5 @@
 use Rattle.std.proofs.Common.{refl}
-use Rattle.star_tables.proofs.body.operator_symbols.Goals as goal
+use Rattle.star_levels.proofs.levels.level_symbols.Goals as goal
 
 -- answered, so that other rows than these are refused at once
 pub returns-in-OrStep : goal.returns-in-OrStep

@@ -71,6 +71,7 @@ fn kind_of_name(name: &Text) -> Kind
     }
 }
 
+/// What a token is, as far as the grammar looks at it.
 pub fn kind_of(token: &TokenKind) -> Kind
     ensures { result ≡ spec.kind_of_token token.now }
 {
