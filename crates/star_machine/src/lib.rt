@@ -4,7 +4,6 @@
 //! than an expression may be. Its guards are what the table alone does not say: targets, parameters, and the blocks around.
 #![tactic(auto)]
 
-mod guards;
 mod machine;
 mod pending;
 mod weight;

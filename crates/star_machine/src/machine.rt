@@ -3,11 +3,11 @@ ghost use Rattle.std.specs.Prelude.{◌≡◌, OnOk};
 ghost use Rattle.star_machine.specs.Pending.{wants_token, wants_rule};
 ghost use Rattle.star_machine.specs.Turns.{Steps, Turned, finished, taken};
 
-use crate::guards::{allows, may_stand};
 use crate::pending::{Item, Pending};
 use ll::Shapes;
 use star_build::{Blocks, Parts, build, put_token};
 use star_grammar::{Choice, Rule, Symbol, Terminal, Token};
+use star_guards::{allows, may_stand};
 use star_tables::{action_of, choice_at, effect_of, given, kind_of};
 use std::alloc::Global;
 use ytt_base::text::Memory;

@@ -7,12 +7,10 @@ ghost use Rattle.star_machine.specs.Turns.{along, passed, weigh};
 use crate::pending::{Item, Pending};
 use ll::{Effect, Shapes};
 use star_grammar::Symbol;
+use star_guards::fits;
 use star_tables::{action_of, effect_of, given, least};
 use std::alloc::Global;
 use ytt_base::text::Memory;
-
-/// How high an expression may be.
-const MAX_HEIGHT: u32 = 100;
 
 /// What some effects make of the shapes, from the first on.
 fn run(effects: &[Effect], shapes: &mut Shapes) -> Result<(), Memory>
@@ -56,5 +54,5 @@ pub fn is_low(alloc: Global, pending: &Pending, shapes: &Shapes) -> Result<bool,
 {
     let mut made = shapes.copy(alloc)?;
     pass_all(pending.as_slice(), &mut made)?;
-    Ok(made.top().high <= MAX_HEIGHT)
+    Ok(fits(made.top().high))
 }

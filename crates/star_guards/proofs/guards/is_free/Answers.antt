@@ -1,5 +1,5 @@
 use Rattle.std.proofs.Common.{refl}
-use Rattle.star_machine.proofs.guards.is_free.Goals as goal
+use Rattle.star_guards.proofs.guards.is_free.Goals as goal
 
 -- answered, so that a name that isn't asked for is refused at once
 pub returns-in-Param : goal.returns-in-Param

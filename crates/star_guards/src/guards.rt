@@ -1,5 +1,6 @@
 // Where an alternative may begin, and where a token may stand.
 ghost use Rattle.std.specs.Prelude.{◌≡◌};
+ghost use Rattle.ll.specs.Shapes as shape;
 ghost use Rattle.star_grammar.specs.Language as spec;
 ghost use Rattle.star_grammar.specs.Language.{value};
 
@@ -8,13 +9,20 @@ use star_build::{Blocks, Parts};
 use star_grammar::{Choice, Terminal, Token};
 use star_tables::{kind_of, name_in, takes};
 
+/// Whether the innermost tree is a target.
+fn is_target(shapes: &Shapes) -> bool
+    ensures { result ≡ (shape.top shapes.now).target }
+{
+    shapes.top().target
+}
+
 /// Whether an alternative may begin after what was read.
 pub fn allows(choice: Choice, parts: &Parts, shapes: &Shapes, blocks: &Blocks) -> bool
     ensures { result ≡ spec.allowed choice (value parts.now shapes.now blocks.now) }
 {
     match choice {
-        Choice::Assign | Choice::GroupEnd => shapes.top().target,
-        Choice::Augment => parts.is_place() && shapes.top().target,
+        Choice::Assign | Choice::GroupEnd => is_target(shapes),
+        Choice::Augment => parts.is_place() && is_target(shapes),
         Choice::Named => parts.is_name() && shapes.top().high == 1,
         Choice::Params => !parts.has_stars(),
         Choice::StarParam => !parts.has_star(),
