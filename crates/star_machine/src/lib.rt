@@ -1,7 +1,7 @@
 //! The machine of the grammar of code: what is still to be read, what was read, and what a token makes of both.
 //!
 //! `step` takes one token, or says that it may not stand here, and `is_low` says whether a text that goes on so may be no higher
-//! than an expression may be. Its guards are what the table alone does not say: targets, parameters, and the blocks around.
+//! than an expression may be. Its guards, which say what the table alone does not, stand in `star_guards`.
 #![tactic(auto)]
 
 mod machine;
