@@ -3,7 +3,7 @@
 use std::alloc::{AllocError, AllocFailed};
 use ytt_base::text::Memory;
 
-#[derive(Clone, Copy, Debug)]
+#[derive(Clone, Copy)]
 pub enum Stop {
     Memory,
     /// What is wrong in the archive, and the line, from 1.

@@ -7,14 +7,14 @@ use std::marker::Model;
 use ytt_base::text::Memory;
 
 /// How high a tree is, and whether it is a target.
-#[derive(Clone, Copy, Debug, PartialEq, Eq)]
+#[derive(Clone, Copy, PartialEq, Eq)]
 pub struct Shape {
     pub high: u32,
     pub target: bool,
 }
 
 /// Whether a new tree is a target.
-#[derive(Clone, Copy, Debug, PartialEq, Eq)]
+#[derive(Clone, Copy, PartialEq, Eq)]
 pub enum Flag {
     Never,
     Always,
@@ -23,7 +23,7 @@ pub enum Flag {
 }
 
 /// What the end of an alternative, or a token, makes of the trees on the stack.
-#[derive(Clone, Copy, Debug, PartialEq, Eq)]
+#[derive(Clone, Copy, PartialEq, Eq)]
 pub enum Effect {
     Keep,
     /// A tree of this height.
@@ -55,7 +55,7 @@ fn flagged(high: u32, flag: Flag, parts: bool) -> Shape
 }
 
 /// Shapes, seen as their list, the innermost first.
-#[derive(Debug, Drop)]
+#[derive(Drop)]
 pub struct Shapes {
     shapes: Vec<Shape>,
 }

@@ -11,7 +11,7 @@ use ytt_base::text::{Memory, Text};
 /// The variable that a name is. The numbers of a scope count the names that it binds, each once, in the
 /// order in which it first binds them in its text, a function's parameters first; those of the language
 /// in the order of its list.
-#[derive(Clone, Copy, Debug, PartialEq, Eq)]
+#[derive(Clone, Copy, PartialEq, Eq)]
 pub enum Variable {
     /// Of a function or a comprehension: how many of these stand between it and the name, and the number.
     Local(usize, usize),

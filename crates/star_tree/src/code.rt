@@ -8,7 +8,7 @@ use ytt_base::text::Text;
 use ytt_base::tree::Key;
 
 /// An operator before its operand.
-#[derive(Clone, Copy, Debug, PartialEq, Eq)]
+#[derive(Clone, Copy, PartialEq, Eq)]
 pub enum UnOp {
     /// `-a`
     Minus,
@@ -21,7 +21,7 @@ pub enum UnOp {
 }
 
 /// An operator between its operands; `and` and `or` are expressions of their own.
-#[derive(Clone, Copy, Debug, PartialEq, Eq)]
+#[derive(Clone, Copy, PartialEq, Eq)]
 pub enum BinOp {
     Add,
     Subtract,

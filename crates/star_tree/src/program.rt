@@ -1,7 +1,7 @@
 // Items and nodes.
 
 /// What an item is.
-#[derive(Clone, Copy, Debug, PartialEq, Eq)]
+#[derive(Clone, Copy, PartialEq, Eq)]
 pub enum ItemKind {
     Document,
     Pair,
@@ -10,7 +10,7 @@ pub enum ItemKind {
 
 /// What a node holds: one value, the pairs of a map, the elements of a list, or nothing, where all
 /// items that are written in it stand in `def` blocks.
-#[derive(Clone, Copy, Debug, PartialEq, Eq)]
+#[derive(Clone, Copy, PartialEq, Eq)]
 pub enum Holds {
     One,
     Map,

@@ -110,27 +110,84 @@ fn make(arena: &mut Arena, made: &mut Values, name: &str, args: &[Value]) -> Res
     Ok(Said::Done)
 }
 
+/// What a call does on what stands at a reference.
+#[derive(Clone, Copy)]
+enum Act {
+    Push,
+    Extend,
+    MayChange,
+    Set,
+    Get,
+    Insert,
+    Remove,
+    Clear,
+    Length,
+    Put,
+    Look,
+    Cut,
+    Pair,
+    Walk,
+    Leave,
+    Owns,
+    Other,
+}
+
+/// What a call of this name among these does.
+fn act_among(name: &str, acts: &[(&str, Act)]) -> Option<Act> {
+    for act in acts {
+        if name == act.0 {
+            return Some(act.1);
+        }
+    }
+    None
+}
+
+/// What a call of this name does.
+fn act_named(name: &str) -> Option<Act> {
+    act_among(
+        name,
+        &[
+            ("push", Act::Push),
+            ("extend", Act::Extend),
+            ("may-change", Act::MayChange),
+            ("set", Act::Set),
+            ("get", Act::Get),
+            ("insert", Act::Insert),
+            ("remove", Act::Remove),
+            ("clear", Act::Clear),
+            ("length", Act::Length),
+            ("put", Act::Put),
+            ("look", Act::Look),
+            ("cut", Act::Cut),
+            ("pair", Act::Pair),
+            ("walk", Act::Walk),
+            ("leave", Act::Leave),
+            ("owns", Act::Owns),
+            ("other", Act::Other),
+        ],
+    )
+}
+
 /// A call on what stands at a reference, with the arguments behind it.
-fn call_on(alloc: Global, arena: &mut Arena, name: &str, r: Ref, args: &[Value]) -> Said {
-    match name {
-        "push" => push(arena, r, value(args, 0)),
-        "extend" => extend(arena, r, args),
-        "may-change" => may_change(arena, r),
-        "set" => set(arena, r, place(args, 0), value(args, 1)),
-        "get" => get(arena, r, place(args, 0)),
-        "insert" => insert(arena, r, place(args, 0), value(args, 1)),
-        "remove" => remove(arena, r, place(args, 0)),
-        "clear" => clear(arena, r),
-        "length" => length(arena, r),
-        "put" => put(arena, r, value(args, 0), value(args, 1)),
-        "look" => look(arena, r, value(args, 0)),
-        "cut" => cut(arena, r, value(args, 0)),
-        "pair" => pair(arena, r, place(args, 0)),
-        "walk" => walk(arena, r),
-        "leave" => leave(arena, r),
-        "owns" => Said::Truth(arena.owns(r)),
-        "other" => Said::Truth(Arena::new(alloc).owns(r)),
-        _ => Said::Unfit,
+fn call_on(alloc: Global, arena: &mut Arena, act: Act, r: Ref, args: &[Value]) -> Said {
+    match act {
+        Act::Push => push(arena, r, value(args, 0)),
+        Act::Extend => extend(arena, r, args),
+        Act::MayChange => may_change(arena, r),
+        Act::Set => set(arena, r, place(args, 0), value(args, 1)),
+        Act::Get => get(arena, r, place(args, 0)),
+        Act::Insert => insert(arena, r, place(args, 0), value(args, 1)),
+        Act::Remove => remove(arena, r, place(args, 0)),
+        Act::Clear => clear(arena, r),
+        Act::Length => length(arena, r),
+        Act::Put => put(arena, r, value(args, 0), value(args, 1)),
+        Act::Look => look(arena, r, value(args, 0)),
+        Act::Cut => cut(arena, r, value(args, 0)),
+        Act::Pair => pair(arena, r, place(args, 0)),
+        Act::Walk => walk(arena, r),
+        Act::Leave => leave(arena, r),
+        Act::Owns => Said::Truth(arena.owns(r)),
+        Act::Other => Said::Truth(Arena::new(alloc).owns(r)),
     }
 }
 
@@ -157,9 +214,12 @@ fn call(
         "show" => return Ok(Said::Value(value(args, 0))),
         _ => (),
     }
+    let Some(act) = act_named(name) else {
+        return Ok(Said::Unfit);
+    };
     Ok(match args {
         [Value::List(r) | Value::Dict(r) | Value::Tuple(r), rest @ ..] => {
-            call_on(alloc, arena, name, *r, rest)
+            call_on(alloc, arena, act, *r, rest)
         }
         _ => Said::Unfit,
     })

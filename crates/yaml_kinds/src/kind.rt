@@ -7,7 +7,7 @@ use crate::form::{Form, form_of};
 use ytt_base::text::Text;
 
 /// What a plain scalar is by its form.
-#[derive(Clone, Copy, Debug, PartialEq, Eq)]
+#[derive(Clone, Copy, PartialEq, Eq)]
 pub enum ScalarKind {
     Null,
     Bool,

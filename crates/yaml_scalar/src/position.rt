@@ -11,7 +11,7 @@ use ytt_base::line::Line;
 use ytt_base::text::Text;
 
 /// A string that was read, and the position behind it.
-#[derive(Debug, Drop)]
+#[derive(Drop)]
 pub struct Quoted {
     /// The string itself.
     pub text: Text,

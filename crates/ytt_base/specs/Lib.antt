@@ -1,4 +1,5 @@
 pub mod FaultText
 pub mod Outcomes
+pub mod Places
 pub mod Trees
 pub mod View

@@ -1,16 +1,21 @@
 // Faults: what is wrong, where, and what its kind tells beside.
 
+ghost use Rattle.std.specs.Prelude.{◌≡◌, ◌≤◌, ◌<◌};
+ghost use Rattle.ytt_base.specs.FaultText.{kind_name};
+ghost use Rattle.ytt_base.specs.Places.{kind_place};
+ghost use Rattle.ytt_base.specs.declared.fault.FaultKind.TheVariants as at;
+
 use crate::text::{Memory, Text};
 
 /// Where something stands: a file by its number from 1, and a line of it by its number from 1.
-#[derive(Clone, Copy, Debug, PartialEq, Eq)]
+#[derive(Clone, Copy, PartialEq, Eq)]
 pub struct Place {
     pub file: u32,
     pub line: u32,
 }
 
 /// What a fault says is wrong. A detail that isn't named here is empty.
-#[derive(Clone, Copy, Debug, PartialEq, Eq)]
+#[derive(Clone, Copy, PartialEq, Eq)]
 pub enum FaultKind {
     /// A path that a word names is not there. The detail is the path.
     FileMissing,
@@ -128,73 +133,110 @@ impl FaultKind {
     ghost use Rattle.std.specs.Prelude.{◌≡◌};
     ghost use Rattle.ytt_base.specs.FaultText.{kind_name};
 
-    /// The name of the kind, as a fault's line shows it.
+    /// The name of the kind, as a fault's line shows it. The tables go by the order of the kinds.
     pub fn name(self) -> &'static str
         ensures { result.now ≡ kind_name self }
     {
-        match self {
-            FaultKind::FileMissing => "FileMissing",
-            FaultKind::FileTooLarge => "FileTooLarge",
-            FaultKind::TooManyFiles => "TooManyFiles",
-            FaultKind::NotUtf8 => "NotUtf8",
-            FaultKind::BadChar => "BadChar",
-            FaultKind::YamlForm => "YamlForm",
-            FaultKind::YamlTab => "YamlTab",
-            FaultKind::YamlDepth => "YamlDepth",
-            FaultKind::KeyTwice => "KeyTwice",
-            FaultKind::FloatScalar => "FloatScalar",
-            FaultKind::IntWide => "IntWide",
-            FaultKind::YamlOut => "YamlOut",
-            FaultKind::PlainComment => "PlainComment",
-            FaultKind::NoteForm => "NoteForm",
-            FaultKind::NoteUnknown => "NoteUnknown",
-            FaultKind::BlockOpen => "BlockOpen",
-            FaultKind::BlockCrossed => "BlockCrossed",
-            FaultKind::BlockStray => "BlockStray",
-            FaultKind::CodeForm => "CodeForm",
-            FaultKind::NameUnknown => "NameUnknown",
-            FaultKind::NameUnset => "NameUnset",
-            FaultKind::ValueKind => "ValueKind",
-            FaultKind::IndexRange => "IndexRange",
-            FaultKind::KeyMissing => "KeyMissing",
-            FaultKind::IntOverflow => "IntOverflow",
-            FaultKind::DivideZero => "DivideZero",
-            FaultKind::FloatRefused => "FloatRefused",
-            FaultKind::Frozen => "Frozen",
-            FaultKind::Iterating => "Iterating",
-            FaultKind::ArgBind => "ArgBind",
-            FaultKind::Failed => "Failed",
-            FaultKind::AssertFailed => "AssertFailed",
-            FaultKind::TooDeep => "TooDeep",
-            FaultKind::Steps => "Steps",
-            FaultKind::Depth => "Depth",
-            FaultKind::LoadMissing => "LoadMissing",
-            FaultKind::LoadCycle => "LoadCycle",
-            FaultKind::LoadPrivate => "LoadPrivate",
-            FaultKind::NotYaml => "NotYaml",
-            FaultKind::FragmentMixed => "FragmentMixed",
-            FaultKind::SchemaForm => "SchemaForm",
-            FaultKind::DataMismatch => "DataMismatch",
-            FaultKind::DataUnknownKey => "DataUnknownKey",
-            FaultKind::OverlayForm => "OverlayForm",
-            FaultKind::OverlayExpects => "OverlayExpects",
-            FaultKind::OverlayAssert => "OverlayAssert",
-            FaultKind::CutsCharacter => "CutsCharacter",
-            FaultKind::TextForm => "TextForm",
-            FaultKind::MixedFile => "MixedFile",
-            FaultKind::CodecForm => "CodecForm",
-            FaultKind::NotBuilt => "NotBuilt",
-            FaultKind::ValidationFailed => "ValidationFailed",
-            FaultKind::AliasForm => "AliasForm",
-            FaultKind::AliasWide => "AliasWide",
-            FaultKind::LibraryMissing => "LibraryMissing",
+        let place = self as u8;
+        if place < FaultKind::CodeForm as u8 {
+            text_kind_name(self)
+        } else if place < FaultKind::LoadMissing as u8 {
+            code_kind_name(self)
+        } else {
+            set_kind_name(self)
         }
+    }
+}
+
+/// The names of the kinds that a text of YAML and its comments may have.
+fn text_kind_name(kind: FaultKind) -> &'static str
+    requires until { kind_place kind < kind_place at.CodeForm }
+    ensures { result.now ≡ kind_name kind }
+{
+    match kind {
+        FaultKind::FileMissing => "FileMissing",
+        FaultKind::FileTooLarge => "FileTooLarge",
+        FaultKind::TooManyFiles => "TooManyFiles",
+        FaultKind::NotUtf8 => "NotUtf8",
+        FaultKind::BadChar => "BadChar",
+        FaultKind::YamlForm => "YamlForm",
+        FaultKind::YamlTab => "YamlTab",
+        FaultKind::YamlDepth => "YamlDepth",
+        FaultKind::KeyTwice => "KeyTwice",
+        FaultKind::FloatScalar => "FloatScalar",
+        FaultKind::IntWide => "IntWide",
+        FaultKind::YamlOut => "YamlOut",
+        FaultKind::PlainComment => "PlainComment",
+        FaultKind::NoteForm => "NoteForm",
+        FaultKind::NoteUnknown => "NoteUnknown",
+        FaultKind::BlockOpen => "BlockOpen",
+        FaultKind::BlockCrossed => "BlockCrossed",
+        FaultKind::BlockStray => "BlockStray",
+        _ => unreachable!(),
+    }
+}
+
+/// The names of the kinds that code may have.
+fn code_kind_name(kind: FaultKind) -> &'static str
+    requires from { kind_place at.CodeForm ≤ kind_place kind }
+    requires until { kind_place kind < kind_place at.LoadMissing }
+    ensures { result.now ≡ kind_name kind }
+{
+    match kind {
+        FaultKind::CodeForm => "CodeForm",
+        FaultKind::NameUnknown => "NameUnknown",
+        FaultKind::NameUnset => "NameUnset",
+        FaultKind::ValueKind => "ValueKind",
+        FaultKind::IndexRange => "IndexRange",
+        FaultKind::KeyMissing => "KeyMissing",
+        FaultKind::IntOverflow => "IntOverflow",
+        FaultKind::DivideZero => "DivideZero",
+        FaultKind::FloatRefused => "FloatRefused",
+        FaultKind::Frozen => "Frozen",
+        FaultKind::Iterating => "Iterating",
+        FaultKind::ArgBind => "ArgBind",
+        FaultKind::Failed => "Failed",
+        FaultKind::AssertFailed => "AssertFailed",
+        FaultKind::TooDeep => "TooDeep",
+        FaultKind::Steps => "Steps",
+        FaultKind::Depth => "Depth",
+        _ => unreachable!(),
+    }
+}
+
+/// The names of the kinds behind those of code.
+fn set_kind_name(kind: FaultKind) -> &'static str
+    requires from { kind_place at.LoadMissing ≤ kind_place kind }
+    ensures { result.now ≡ kind_name kind }
+{
+    match kind {
+        FaultKind::LoadMissing => "LoadMissing",
+        FaultKind::LoadCycle => "LoadCycle",
+        FaultKind::LoadPrivate => "LoadPrivate",
+        FaultKind::NotYaml => "NotYaml",
+        FaultKind::FragmentMixed => "FragmentMixed",
+        FaultKind::SchemaForm => "SchemaForm",
+        FaultKind::DataMismatch => "DataMismatch",
+        FaultKind::DataUnknownKey => "DataUnknownKey",
+        FaultKind::OverlayForm => "OverlayForm",
+        FaultKind::OverlayExpects => "OverlayExpects",
+        FaultKind::OverlayAssert => "OverlayAssert",
+        FaultKind::CutsCharacter => "CutsCharacter",
+        FaultKind::TextForm => "TextForm",
+        FaultKind::MixedFile => "MixedFile",
+        FaultKind::CodecForm => "CodecForm",
+        FaultKind::NotBuilt => "NotBuilt",
+        FaultKind::ValidationFailed => "ValidationFailed",
+        FaultKind::AliasForm => "AliasForm",
+        FaultKind::AliasWide => "AliasWide",
+        FaultKind::LibraryMissing => "LibraryMissing",
+        _ => unreachable!(),
     }
 }
 
 /// One refusal: its kind, its place and its detail. A fault of a whole path, or of a program in no
 /// proper form, has no place, and the detail is empty where the kind has none.
-#[derive(Debug, Drop)]
+#[derive(Drop)]
 pub struct Fault {
     pub kind: FaultKind,
     pub place: Option<Place>,
@@ -202,7 +244,7 @@ pub struct Fault {
 }
 
 /// Why a call gave nothing: a fault of what it was given, or want of memory.
-#[derive(Debug, Drop)]
+#[derive(Drop)]
 pub enum Stop {
     Fault(Fault),
     Memory,

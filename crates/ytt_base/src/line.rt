@@ -5,7 +5,7 @@ use crate::text::Text;
 use sqlite_items::Items;
 
 /// A line of a text, without its end.
-#[derive(Debug, Drop)]
+#[derive(Drop)]
 pub struct Line {
     /// Its file and its number, from 1.
     pub place: Place,

@@ -23,7 +23,7 @@ impl<T: Drop> From<AllocFailed<T>> for Memory {
 }
 
 /// A text in UTF-8, seen as its bytes.
-#[derive(Debug, Drop)]
+#[derive(Drop)]
 pub struct Text {
     string: String,
 }

@@ -9,7 +9,7 @@ use sqlite_items::Items;
 use std::alloc::Global;
 
 /// A key of a map.
-#[derive(Debug, Drop)]
+#[derive(Drop)]
 pub enum Key {
     Null,
     Bool(bool),
@@ -18,7 +18,7 @@ pub enum Key {
 }
 
 /// A document, or a part of one (YAML 1.2.2, 3.2.1, with the scalars of this profile).
-#[derive(Debug, Drop)]
+#[derive(Drop)]
 pub enum Tree {
     Null,
     Bool(bool),
@@ -36,7 +36,7 @@ pub type Pairs = Items<(Key, Tree)>;
 
 /// A step from a tree to a part of it: to the value under a key, or to the element at an index,
 /// counted from 0.
-#[derive(Debug, Drop)]
+#[derive(Drop)]
 pub enum Step {
     Key(Key),
     Index(u64),

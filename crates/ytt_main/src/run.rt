@@ -11,7 +11,7 @@ use ytt_outside::files::Files;
 use ytt_outside::sink::Sink;
 
 /// How a run ended.
-#[derive(Clone, Copy, Debug, PartialEq, Eq)]
+#[derive(Clone, Copy, PartialEq, Eq)]
 pub enum Status {
     /// The documents are written.
     Done,

@@ -13,7 +13,7 @@ use ytt_base::text::Names;
 pub type Bytes = Items<u8>;
 
 /// What stands at a path.
-#[derive(Clone, Copy, Debug, PartialEq, Eq)]
+#[derive(Clone, Copy, PartialEq, Eq)]
 pub enum PathKind {
     File,
     Folder,
@@ -21,7 +21,7 @@ pub enum PathKind {
 }
 
 /// What the read of a file gives.
-#[derive(Debug, Drop)]
+#[derive(Drop)]
 pub enum Got {
     /// All of its bytes.
     Bytes(Bytes),

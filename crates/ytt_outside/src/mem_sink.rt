@@ -11,7 +11,7 @@ use ytt_base::text::Memory;
 
 /// A call of a sink that is to fail, by its number from 1, and how many bytes of its piece it
 /// appends at most before it fails.
-#[derive(Clone, Copy, Debug, PartialEq, Eq)]
+#[derive(Clone, Copy, PartialEq, Eq)]
 pub struct FailPoint {
     pub call: u64,
     pub taken: u64,
