@@ -1,6 +1,6 @@
 -- Texts in quotes stand there too.
 use Rattle.std.proofs.Common.{◌≡◌, ℕ, zero, suc, ◌+◌, ◌-◌, ◌≤◌, List, [], ◌∷◌, ◌++◌, drop, Bool, true, false, not, ◌==◌, ◌&&◌, ◌||◌, Option, Some, None, refl, sym, ap, ◌∙◌, subst, length, if◌then◌else◌, arith}
-use Rattle.std.proofs.lemmas.Bool.{eqb-true}
+use Rattle.std.proofs.lemmas.Bool.{and_parts, both_ways, eqb-true}
 use Rattle.std.proofs.lemmas.List.{drop-append-le, take-append-le, length-append, length-drop}
 use Rattle.std.specs.Prelude.{count_by, slice_index, option_and_then}
 use Rattle.std.specs.Option.{option_map}
@@ -140,20 +140,13 @@ pub record IsInLine (f : Form) : Type 0 where
 closes_same : (f : Form) (b : ℕ) (bs m : List ℕ) → IsInLine f → closes f (b ∷ bs ++ 10 ∷ m) ≡ closes f (b ∷ bs)
 closes_same f b bs m i = ap (λ z. (b == f.quote) && (not f.triple || z)) (two_same (λ x. x == f.quote) (λ x. x == f.quote) bs m i.none i.end i.none i.end)
 
-after_and : (a b : Bool) → (a && b) ≡ true → (a ≡ true) × (b ≡ true)
-after_and true b e = (refl, e)
-after_and false b e = (cc, cc)
-
-not_true : (b : Bool) → b ≡ true → b ≡ false → ⊥
-not_true b e f = cc
-
 two_there : (q : ℕ) (t : List ℕ) → (0 == q) ≡ false → ((first t == q) && (slice_index t 1 == q)) ≡ true → 2 ≤ length t
-two_there q [] z e = absurd (not_true (0 == q) (after_and (0 == q) (0 == q) e).0 z)
-two_there q (x ∷ []) z e = absurd (not_true (0 == q) (after_and (x == q) (0 == q) e).1 z)
+two_there q [] z e = absurd (both_ways (0 == q) z (and_parts (0 == q) (0 == q) e).0)
+two_there q (x ∷ []) z e = absurd (both_ways (0 == q) z (and_parts (x == q) (0 == q) e).1)
 two_there q (x ∷ y ∷ ts) z e = omega arith
 
 quotes_fit : (f : Form) (b : ℕ) (bs : List ℕ) → IsInLine f → closes f (b ∷ bs) ≡ true → quotes f ≤ suc (length bs)
-quotes_fit f b bs i e = by_form f.triple (after_and (b == f.quote) (not f.triple || ((first bs == f.quote) && (slice_index bs 1 == f.quote))) e).1
+quotes_fit f b bs i e = by_form f.triple (and_parts (b == f.quote) (not f.triple || ((first bs == f.quote) && (slice_index bs 1 == f.quote))) e).1
   where
     by_form : (triple : Bool) → (not triple || ((first bs == f.quote) && (slice_index bs 1 == f.quote))) ≡ true → (if triple then 3 else 1) ≤ suc (length bs)
     by_form false h = omega arith
@@ -228,7 +221,7 @@ other_quote x q e f = by_test (x == q) refl
   where
     by_test : (z : Bool) → (x == q) ≡ z → z ≡ false
     by_test false h = refl
-    by_test true h = absurd (not_true (is_quote q) f (subst (λ y. is_quote y ≡ false) (eqb-true x q h) e))
+    by_test true h = absurd (both_ways (is_quote q) (subst (λ y. is_quote y ≡ false) (eqb-true x q h) e) f)
 
 in_line : (raw triple : Bool) (q : ℕ) → is_quote q ≡ true → IsInLine (form raw triple false q)
 in_line raw triple q e = record { lines = refl; none = other_quote 0 q refl e; end = other_quote 10 q refl e }

@@ -1,14 +1,11 @@
 -- What a text begins and ends with, as std's calls say it.
-use Rattle.std.proofs.Common.{◌≡◌, ℕ, Bool, true, false, ◌==◌, ◌&&◌, List, [], ◌∷◌, ◌++◌, ◌-◌, length, take, drop, Option, Some, None, MatchOption, reverse, refl, sym, ap, subst, ◌∙◌, eq-eqb, eqb-true, Bor}
+use Rattle.std.proofs.Common.{◌≡◌, ℕ, true, false, ◌==◌, List, [], ◌∷◌, ◌++◌, ◌-◌, length, take, drop, Option, Some, None, MatchOption, reverse, refl, sym, ap, subst, ◌∙◌, eq-eqb, eqb-true, Bor}
+use Rattle.std.proofs.lemmas.Bool.{and_parts, false_from_ne_true}
 use Rattle.std.proofs.lemmas.List.{reverse-append, reverse-reverse}
 use Rattle.std.specs.Str.Pattern.{FindsTextPrefix, FindsTextSuffix, LacksTextAt, StripsPrefix, StripsSuffix}
 use Rattle.operator_spec.specs.Operators.{begins_with}
 use Rattle.text_spec.specs.Places.{ends_with}
 use Rattle.text_pieces.specs.Texts.{IsLeft}
-
-both : (a b : Bool) → (a && b) ≡ true → (a ≡ true) × (b ≡ true)
-both true b h = (refl, h)
-both false b h = cc
 
 pub begins : (x b : List ℕ) → begins_with x (x ++ b) ≡ true
 begins [] b = refl
@@ -19,16 +16,12 @@ pub rest_of : (x t : List ℕ) → begins_with x t ≡ true → (b : List ℕ) �
 rest_of [] t h = (t, refl)
 rest_of (x ∷ xs) [] h = cc
 rest_of (x ∷ xs) (b ∷ t) h =
-    let p = both (x == b) (begins_with xs t) h in
+    let p = and_parts (x == b) (begins_with xs t) h in
     let more = rest_of xs t p.1 in
     (more.0, λ i. sym (eqb-true x b p.0) i ∷ more.1 i)
 
-refuted : (v : Bool) → (v ≡ true → ⊥) → v ≡ false
-refuted true h = absurd (h refl)
-refuted false h = refl
-
 pub lacks : (x t : List ℕ) (i : ℕ) → LacksTextAt x t i → begins_with x (drop i t) ≡ false
-lacks x t i h = refuted (begins_with x (drop i t)) (λ e. let r = rest_of x (drop i t) e in h r.0 r.1)
+lacks x t i h = false_from_ne_true (begins_with x (drop i t)) (λ e. let r = rest_of x (drop i t) e in h r.0 r.1)
 
 pub strips_prefix : (x t : List ℕ) (r : Option (Bor (List ℕ))) → MatchOption r (FindsTextPrefix x t None) (λ y. StripsPrefix (FindsTextPrefix x) t y.now) →
     IsLeft (begins_with x t) (drop (length x) t) r
@@ -47,7 +40,7 @@ front_of x t h =
 
 pub strips_suffix : (x t : List ℕ) (r : Option (Bor (List ℕ))) → MatchOption r (FindsTextSuffix x t None) (λ y. StripsSuffix (FindsTextSuffix x) t y.now) →
     IsLeft (ends_with x t) (take (length t - length x) t) r
-strips_suffix x t None h = refuted (ends_with x t) (λ e. let r = front_of x t e in h r.0 r.1)
+strips_suffix x t None h = false_from_ne_true (ends_with x t) (λ e. let r = front_of x t e in h r.0 r.1)
 strips_suffix x t (Some y) h = (subst (λ l. ends_with x l ≡ true) (sym h.1.1) (ends x (take (length t - h.0) t)), h.2 ∙ ap (λ n. take (length t - n) t) h.1.0)
 
 pub ruleset edges = (strips_prefix, strips_suffix)
