@@ -1,5 +1,5 @@
 -- Slots, one for each level.
-use Rattle.std.proofs.Common.{◌≡◌, ℕ, zero, suc, ◌+◌, ◌<◌, ◌≤◌, List, [], ◌∷◌, ◌++◌, length, take, get_or, set, Option, Some, None, refl, ap, sym, ◌∙◌, append_assoc, arith}
+use Rattle.std.proofs.Common.{◌≡◌, ℕ, zero, suc, ◌+◌, ◌<◌, ◌≤◌, List, [], ◌∷◌, ◌++◌, length, take, get_or, set, Option, Some, None, refl, ap, sym, ◌∙◌, append_assoc, append-nil, arith}
 use Rattle.std.proofs.lemmas.List.{length-map, map-append}
 use Rattle.std.specs.Prelude.{option_map, OnOk, Result, Ok, Err}
 use Rattle.ytt_base.specs.declared.tree.Key.{Key}
@@ -123,12 +123,8 @@ pub record IsBuilding (file : ℕ) (all left : List Put) (slots : List build.Slo
   pub whole : all ≡ left ++ done
   pub is_built : slots ≡ built file (puts_of file done)
 
-append_nil : (ps : List Put) → ps ++ [] ≡ ps
-append_nil [] = refl
-append_nil (p ∷ ps) = ap (λ qs. p ∷ qs) (append_nil ps)
-
 pub building_begins : (file : ℕ) (all : List Put) (slots : List Slot) → slots ≡ [] → IsBuilding file all all (slots_of file slots)
-building_begins file all slots e = record { done = []; whole = sym (append_nil all); is_built = ap (slots_of file) e }
+building_begins file all slots e = record { done = []; whole = sym (append-nil all); is_built = ap (slots_of file) e }
 
 pub building_goes_on : (file : ℕ) (all left left2 : List Put) (p : Put) (slots slots2 : List build.Slot) → IsBuilding file all left slots → left ≡ left2 ++ p ∷ [] → slots2 ≡ built_step file (put_of file p) slots
     → IsBuilding file all left2 slots2
