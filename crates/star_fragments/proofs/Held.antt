@@ -1,6 +1,5 @@
 -- The members of fragments, and what they hold.
-use Rattle.star_steps.proofs.Names.{◌≡◌, ℕ, zero, suc, ◌+◌, ◌<◌, ◌≤◌, true, false, if◌then◌else◌, drop, get_or, Ok, List, [], ◌∷◌, ◌++◌, length, Option, Some, None, refl, sym, ap, subst, ◌∙◌, rules, arith, slice_get, map, drop_of_length-le, slice_get-get_or, Scalar, max_depth, Place, body_paid, State, done, then_do, fresh_body, body_at, body_under, body_value, child_count, has_key, Each, Owns, OwnsAll, OwnsBuilt, OwnsItem, all_values, body_values, item_values, note_values, values_of_item, View, body_in, built_in, scalar_key, BuiltItem, BuiltValue, fold-BuiltValue, the_lemmas, Value, some_same, Gives, state_in, value_of}
-use Rattle.std.proofs.lemmas.List.{drop_more}
+use Rattle.star_steps.proofs.Names.{◌≡◌, ℕ, zero, suc, ◌+◌, ◌<◌, ◌≤◌, true, false, if◌then◌else◌, drop, get_or, Ok, List, [], ◌∷◌, ◌++◌, length, Option, Some, None, refl, sym, ap, subst, ◌∙◌, rules, arith, slice_get, map, drop_more, drop_of_length-le, slice_get-get_or, Scalar, max_depth, Place, body_paid, State, done, then_do, fresh_body, body_at, body_under, body_value, child_count, has_key, Each, Owns, OwnsAll, OwnsBuilt, OwnsItem, all_values, body_values, item_values, note_values, values_of_item, View, body_in, built_in, scalar_key, BuiltItem, BuiltValue, fold-BuiltValue, the_lemmas, Value, some_same, Gives, state_in, value_of}
 use Rattle.value_spec.specs.Values as plain
 use Rattle.star_values.specs.declared.value.BuiltValue as code
 use Rattle.star_fragments.specs.Fragments.{Finds}

@@ -1,6 +1,5 @@
 -- Values that are made one after another, in an arena that grows.
-use Rattle.star_steps.proofs.Names.{◌≡◌, ℕ, ◌+◌, ◌<◌, List, [], ◌∷◌, ◌++◌, length, drop, get_or, map, Result, Ok, Err, refl, sym, ap, subst, ◌∙◌, append_assoc, then_give, grows_same, map-append, Scalar, null, boolean, integer, string, Memory, Key, key_of, pairs_of as entries_of, trees_of, tree_of-List, tree_of-Map, IsKey, Computation, Ending, done, bad, asks, then_do, give, new_dict, new_list, ◌>>=◌, put_pairs, fresh_pairs, fresh_value, fresh_values, value_of_scalar, MakesObject, Each, Grows, Owns, OwnsPair, View, value_of, values_of, Value, grows_then, owns_kept, value_kept, state_in, OwnsAll}
-use Rattle.std.proofs.lemmas.List.{drop_more}
+use Rattle.star_steps.proofs.Names.{◌≡◌, ℕ, ◌+◌, ◌<◌, List, [], ◌∷◌, ◌++◌, length, drop, get_or, map, Result, Ok, Err, refl, sym, ap, subst, ◌∙◌, append_assoc, then_give, grows_same, map-append, drop_more, Scalar, null, boolean, integer, string, Memory, Key, key_of, pairs_of as entries_of, trees_of, tree_of-List, tree_of-Map, IsKey, Computation, Ending, done, bad, asks, then_do, give, new_dict, new_list, ◌>>=◌, put_pairs, fresh_pairs, fresh_value, fresh_values, value_of_scalar, MakesObject, Each, Grows, Owns, OwnsPair, View, value_of, values_of, Value, grows_then, owns_kept, value_kept, state_in, OwnsAll}
 use Rattle.ytt_base.specs.declared.tree.Tree.{Tree}
 use Rattle.ytt_base.specs.declared.tree.Tree as code
 use Rattle.value_spec.specs.Values as plain
