@@ -4,10 +4,10 @@ use Rattle.std.specs.Prelude.{IsUtf8, nat_lt}
 use lib.Utf8.{encode, encodes, scalars, scalar}
 use Rattle.std.proofs.lemmas.Bool.{and_parts, eqb-true, ne_eqb, ltb-true, ltb-false}
 use Rattle.std.proofs.lemmas.Bool.Decides.{nat_tests}
-use Rattle.std.proofs.lemmas.Str.{IsUtf8-nil, IsUtf8-append, IsUtf8-encode, length-encode, len_utf8_bounds}
+use Rattle.std.proofs.lemmas.Str.{encode_ascii, IsUtf8-nil, IsUtf8-append, IsUtf8-encode, length-encode, len_utf8_bounds}
 use Rattle.yaml_spec.specs.Bytes.{quote, apostrophe, backslash, is_white, is_hex_digit, digit_value}
 use Rattle.yaml_spec.specs.Quotes.{Scan, open_end, closed, wrong, prepend, single, Mode, normal, escape, digits, escaped, escape_digits, is_scalar_value, double, scan}
-use Rattle.yaml_back.proofs.QuotesBack.{AreHigh, high, encode_high, encode_low}
+use Rattle.yaml_back.proofs.QuotesBack.{AreHigh, high, encode_high}
 use Rattle.yaml_held.proofs.TextParts.{utf8_one}
 
 -- the strings of what a line holds are UTF-8
@@ -196,7 +196,7 @@ good_double [] s (digits n c) white w = tt
 good_double (c ∷ cs) s m white w = go (good_double cs (scalar_head c cs s).1) (nat_lt c 128) refl
   where
     go : GoodFrom (encodes cs) → (low : Bool) → nat_lt c 128 ≡ low → IsGoodScan (double m white (encode c ++ encodes cs))
-    go h true e = rw (encode_low c (ltb-true c 128 e)) (double_low c (encodes cs) (ltb-true c 128 e) (cs, ((scalar_head c cs s).1, refl)) h m white w)
+    go h true e = rw (encode_ascii c (ltb-true c 128 e)) (double_low c (encodes cs) (ltb-true c 128 e) (cs, ((scalar_head c cs s).1, refl)) h m white w)
     go h false e = double_char c (encodes cs) (ltb-false c 128 e) (scalar_head c cs s).0 h m white w
 
 -- ---- in single quotes
@@ -245,7 +245,7 @@ single_char : (c : ℕ) (x : List ℕ) → scalar c ≡ true → GoodSingle x �
 single_char c x s h q white w = go (nat_lt c 128) refl
   where
     go : (low : Bool) → nat_lt c 128 ≡ low → IsGoodScan (single white (encode c ++ x))
-    go true e = rw (encode_low c (ltb-true c 128 e)) (single_low c x (ltb-true c 128 e) h q white w)
+    go true e = rw (encode_ascii c (ltb-true c 128 e)) (single_low c x (ltb-true c 128 e) h q white w)
     go false e =
         let f = char_first c (ltb-false c 128 e) in
         rw f.is (rw (single_high f.byte f.rest x f.high f.more white) (good_prepend (white ++ f.byte ∷ f.rest) _ (IsUtf8-append white _ w (subst IsUtf8 f.is (IsUtf8-encode c s))) (h [] IsUtf8-nil)))
@@ -269,7 +269,7 @@ unfolding IsGoodScan
 after_char c x s u h white w = go (nat_lt c 128) refl
   where
     go : (low : Bool) → nat_lt c 128 ≡ low → IsGoodScan (single white (apostrophe ∷ (encode c ++ x)))
-    go true e = rw (encode_low c (ltb-true c 128 e)) (after_low c x (ltb-true c 128 e) u h white w)
+    go true e = rw (encode_ascii c (ltb-true c 128 e)) (after_low c x (ltb-true c 128 e) u h white w)
     go false e =
         let f = char_first c (ltb-false c 128 e) in
         let l = f.high in
