@@ -1,6 +1,6 @@
 -- What one row puts.
-use Rattle.std.proofs.Common.{◌≡◌, ℕ, ◌+◌, ◌<◌, ◌≤◌, List, [], ◌∷◌, ◌++◌, length, drop, get_or, reverse, refl, ap, sym, ◌∙◌, append_assoc, append-nil}
-use Rattle.std.proofs.lemmas.List.{drop_all, drop_more, reverse-append, reverse-reverse}
+use Rattle.std.proofs.Common.{◌≡◌, ℕ, ◌+◌, ◌≤◌, List, [], ◌∷◌, ◌++◌, length, drop, reverse, refl, ap, sym, ◌∙◌, append_assoc, append-nil}
+use Rattle.std.proofs.lemmas.List.{drop_all, reverse-append, reverse-reverse}
 use Rattle.notes_read.specs.declared.comment.Comment.{Comment}
 use Rattle.notes_read.specs.View.{said_of}
 use Rattle.template_events.specs.declared.event.Row.{Row}
@@ -25,9 +25,6 @@ pub put_none : (file d : ℕ) (ds : List ℕ) (left left2 : List Row) (ns : List
 put_none file d ds left left2 ns ps e f =
     ap (λ (rs : List Row). ps ++ puts_at ds ns (rows_of file (reverse rs))) f ∙ ap (λ (qs : List Put). ps ++ qs) (none_put ds ns)
     ∙ ap (λ (rs : List Row). ps ++ puts_at (d ∷ ds) ns (rows_of file (reverse rs))) (sym e)
-
-pub level_at : (levels : List ℕ) (at : ℕ) (d : ℕ) → at < length levels → drop at levels ≡ get_or levels at d ∷ drop (at + 1) levels
-level_at levels at d within = drop_more levels at d within
 
 pub puts_end : (file : ℕ) (levels : List ℕ) (at : ℕ) (ns : List Before) (left rows turned : List Row) (ps : List Put) → length levels ≤ at → turned ≡ reverse rows
     → ps ++ puts_at (drop at levels) ns (rows_of file (reverse left)) ≡ puts_at levels [] (rows_of file (reverse turned)) → ps ≡ puts_at levels [] (rows_of file rows)
