@@ -1,5 +1,5 @@
 -- What is read in quotes is UTF-8, and so is the text behind it.
-use Rattle.std.proofs.Common.{◌≡◌, ℕ, zero, suc, ◌+◌, ◌*◌, ◌<◌, ◌≤◌, Bool, true, false, ◌&&◌, ◌==◌, List, [], ◌∷◌, ◌++◌, Option, Some, None, refl, sym, ◌∙◌, ap, subst, append_assoc, arith, true≢false, length, if◌then◌else◌}
+use Rattle.std.proofs.Common.{◌≡◌, ℕ, zero, suc, ◌+◌, ◌*◌, ◌<◌, ◌≤◌, Bool, true, false, ◌&&◌, ◌==◌, List, [], ◌∷◌, ◌++◌, Option, Some, None, refl, sym, ◌∙◌, ap, subst, append_assoc, arith, length, if◌then◌else◌}
 use Rattle.std.specs.Prelude.{IsUtf8, nat_lt}
 use lib.Utf8.{encode, encodes, scalars, scalar}
 use Rattle.std.proofs.lemmas.Bool.{and_parts, eqb-true, ne_eqb, ltb-true, ltb-false}
@@ -99,11 +99,7 @@ double_low b x l u h escape white w = by_letter (escaped b) (good_escaped b)
 double_low b x l u h (digits zero c) white w = tt
 double_low b x l u h (digits (suc zero) c) white w =
     good_if (is_hex_digit b && is_scalar_value (c * 16 + digit_value b)) _ _
-    (λ e. good_prepend _ _ (IsUtf8-append white _ w (scalar_value (c * 16 + digit_value b) (second (is_hex_digit b) (is_scalar_value (c * 16 + digit_value b)) e))) (h normal [] IsUtf8-nil)) (λ e. tt)
-  where
-    second : (a b : Bool) → (a && b) ≡ true → b ≡ true
-    second true b e = e
-    second false b e = absurd (true≢false (sym e))
+    (λ e. good_prepend _ _ (IsUtf8-append white _ w (scalar_value (c * 16 + digit_value b) (and_parts (is_hex_digit b) (is_scalar_value (c * 16 + digit_value b)) e).1)) (h normal [] IsUtf8-nil)) (λ e. tt)
 double_low b x l u h (digits (suc (suc n)) c) white w = good_if (is_hex_digit b) _ _ (λ e. h (digits (suc n) (c * 16 + digit_value b)) white w) (λ e. tt)
 
 -- ---- characters past ASCII
