@@ -1,5 +1,6 @@
 -- The tree of a value, by the form of the value.
 use Rattle.std.proofs.Common.{◌≡◌, ℕ, zero, suc, List, Option, Some, None, Result, Err, refl, sym, ap, ◌∙◌, rules}
+use Rattle.std.proofs.lemmas.Option.{same_Some}
 use Rattle.ytt_base.proofs.Views.{tree_of-Str}
 use Rattle.ytt_base.specs.declared.fault.Place.{Place}
 use Rattle.ytt_base.specs.declared.fault.Stop.{Stop}
@@ -11,7 +12,6 @@ use Rattle.code_spec.specs.Program.{pair_item, element_item}
 use Rattle.star_steps.proofs.Meeting.{meets_same, meets_stop}
 use Rattle.star_steps.specs.Meets.{Meets}
 use Rattle.star_values.specs.Owns.{contents_sort, object_sort}
-use Rattle.star_values.specs.declared.value.Sort.{Sort}
 use Rattle.star_values.specs.declared.value.Sort.TheVariants as sort
 use Rattle.template_meaning.specs.Take.{object_tree, tree_of_value, trees_by, with_text_keys}
 use Rattle.value_spec.specs.Built.{children_pairs, children_trees}
@@ -48,12 +48,9 @@ module _ (p : Place) (s : State (Unit {0})) where
   in_list n (of_box b) o vs e k h = absurd (search (rules, k))
   in_list n (of_function f) o vs e k h = absurd (search (rules, k))
 
-  some_sort : (a b : Sort) → Some a ≡ Some b → a ≡ b
-  some_sort a b e = search (rules, e)
-
   at_list : (n : ℕ) (o : Option Object) (vs : List Value) → object_sort o ≡ Some sort.List → list_in o ≡ vs → object_tree (λ w. tree_of_value n p w) p o s ≡ (members_taken n p vs >>= λ ts. give (list ts)) s
   at_list n None vs k h = absurd (search (rules, k))
-  at_list n (Some o) vs k h = in_list n o.contents o vs refl (some_sort _ _ k) h
+  at_list n (Some o) vs k h = in_list n o.contents o vs refl (same_Some _ _ k) h
 
   pub list_form : (n : ℕ) (r : ℕ) (vs : List Value) → object_sort (object_at r s.store) ≡ Some sort.List → list_at r s.store ≡ vs → tree_of_value n p (list_value r) s ≡ list_taken n p vs s
   list_form zero r vs k h = refl
@@ -75,7 +72,7 @@ module _ (p : Place) (s : State (Unit {0})) where
 
   at_dict : (n : ℕ) (o : Option Object) → object_sort o ≡ Some sort.Dict → object_tree (λ w. tree_of_value n p w) p o s ≡ (pairs_taken n p (pairs_in o) >>= λ ps. give (map ps)) s
   at_dict n None k = absurd (search (rules, k))
-  at_dict n (Some o) k = in_dict n o.contents o refl (some_sort _ _ k)
+  at_dict n (Some o) k = in_dict n o.contents o refl (same_Some _ _ k)
 
   pub dict_form : (n : ℕ) (r : ℕ) → object_sort (object_at r s.store) ≡ Some sort.Dict → tree_of_value n p (dict_value r) s ≡ map_taken n p (pairs_at r s.store) s
   dict_form zero r k = refl

@@ -1,5 +1,6 @@
 -- The brackets at the end of a comment that goes on.
 use Rattle.std.proofs.Common.{◌≡◌, ℕ, ◌≤◌, List, [], ◌∷◌, ◌++◌, drop, length, codes, Bool, true, false, not, ◌==◌, ◌&&◌, Option, Some, None, Ok, Err, refl, sym, ap, ◌∙◌, if◌then◌else◌, arith, append_assoc}
+use Rattle.std.proofs.lemmas.Bool.{and_left, and_parts, not-true}
 use Rattle.std.proofs.lemmas.List.{drop-append-le}
 use Rattle.ytt_base.specs.declared.fault.Fault.{Fault}
 use Rattle.ytt_base.specs.declared.fault.Place.{Place}
@@ -49,25 +50,17 @@ in_line : List ℕ → Bool
 in_line [] = true
 in_line (x ∷ xs) = not (x == 10) && in_line xs
 
-both_true : (a b : Bool) → (a && b) ≡ true → (a ≡ true) × (b ≡ true)
-both_true true b e = (refl, e)
-both_true false b e = (cc, cc)
-
-other : (a b : Bool) → not a ≡ true → (a && b) ≡ false
-other true b e = cc
-other false b e = refl
-
 begins_same : (t m word : List ℕ) → in_line word ≡ true → begins (t ++ 10 ∷ m) word ≡ begins t word
 unfolding in_line
 begins_same [] m [] e = refl
-begins_same [] m (x ∷ xs) e = other (x == 10) (begins m xs) (both_true (not (x == 10)) (in_line xs) e).0
+begins_same [] m (x ∷ xs) e = and_left (x == 10) (begins m xs) (not-true (x == 10) (and_parts (not (x == 10)) (in_line xs) e).0)
 begins_same (b ∷ bs) m [] e = refl
-begins_same (b ∷ bs) m (x ∷ xs) e = ap (λ z. (x == b) && z) (begins_same bs m xs (both_true (not (x == 10)) (in_line xs) e).1)
+begins_same (b ∷ bs) m (x ∷ xs) e = ap (λ z. (x == b) && z) (begins_same bs m xs (and_parts (not (x == 10)) (in_line xs) e).1)
 
 begins_fits : (t word : List ℕ) → begins t word ≡ true → length word ≤ length t
 begins_fits t [] e = omega arith
 begins_fits [] (x ∷ xs) e = cc
-begins_fits (b ∷ bs) (x ∷ xs) e = let l = begins_fits bs xs (both_true (x == b) (begins bs xs) e).1 in omega arith
+begins_fits (b ∷ bs) (x ∷ xs) e = let l = begins_fits bs xs (and_parts (x == b) (begins bs xs) e).1 in omega arith
 
 first_same : (t m : List ℕ) → in_word (first (t ++ 10 ∷ m)) ≡ in_word (first t)
 first_same [] m = refl
@@ -81,7 +74,7 @@ word_same : (t m word : List ℕ) → in_line word ≡ true → begins_with_word
 word_same t m word e = ap (λ z. z && not (in_word (first (drop (length word) (t ++ 10 ∷ m))))) (begins_same t m word e) ∙ by_front (begins t word) t m word (begins_fits t word)
 
 word_fits : (t word : List ℕ) → begins_with_word t word ≡ true → length word ≤ length t
-word_fits t word e = begins_fits t word (both_true (begins t word) (not (in_word (first (drop (length word) t)))) e).0
+word_fits t word e = begins_fits t word (and_parts (begins t word) (not (in_word (first (drop (length word) t)))) e).0
 
 by_white : (z : Bool) (x x' y m : List ℕ) → x' ≡ x ++ m → elim z as (λ _. List ℕ) [ true ↦ x' | false ↦ y ++ m ] ≡ elim z as (λ _. List ℕ) [ true ↦ x | false ↦ y ] ++ m
 by_white true x x' y m e = e
@@ -105,7 +98,7 @@ without_same : (words : List (List ℕ)) (code m : List ℕ) → all_in_line wor
 unfolding all_in_line
 without_same [] code m e = refl
 without_same (w ∷ ws) code m e =
-    let h = both_true (in_line (for_one_word w)) (all_in_line ws) e in
+    let h = and_parts (in_line (for_one_word w)) (all_in_line ws) e in
     let long : List ℕ = for_one_word w in
     by_word (begins_with_word (skip_white code) long) (begins_with_word (skip_white (code ++ 10 ∷ m)) long) (w ++ drop (length long) (skip_white code)) (w ++ drop (length long) (skip_white (code ++ 10 ∷ m))) (without_end_of ws code) (without_end_of ws (code ++ 10 ∷ m)) (10 ∷ m)
     (ap (λ t. begins_with_word t long) (white_same code m) ∙ word_same (skip_white code) m long h.0)

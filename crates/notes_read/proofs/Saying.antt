@@ -1,6 +1,6 @@
 -- What a comment says, branch by branch.
 use Rattle.std.proofs.Common.{◌≡◌, ℕ, List, [], ◌∷◌, drop, length, Bool, true, false, ◌==◌, ◌&&◌, Result, Err, refl, sym, ap, ◌∙◌, subst, codes, arith}
-use Rattle.std.proofs.lemmas.Bool.{eqb-true}
+use Rattle.std.proofs.lemmas.Bool.{and_parts, eqb-true}
 use Rattle.ytt_base.specs.declared.fault.FaultKind.TheVariants as kind
 use Rattle.ytt_base.specs.declared.fault.Place.{Place}
 use Rattle.ytt_base.specs.declared.fault.Stop.{Stop}
@@ -45,16 +45,12 @@ pub marked_alone : (file : ℕ) (r : CodeReader) (p : Place) (own : Bool) (text 
 marked_alone file r p own text code res some o e g =
     if_so (said_of file) res (is_code text) _ _ some (if_so (said_of file) res own _ _ o (subst (λ t. Gave file res (code_said r p t)) e g))
 
-both_true : (a b : Bool) → (a && b) ≡ true → (a ≡ true) × (b ≡ true)
-both_true true b e = (refl, e)
-both_true false b e = (e, cc)
-
 mark_begins : (t : List ℕ) → begins t (codes "#@") ≡ true → is_note t ≡ true
 mark_begins [] e = cc
-mark_begins (a ∷ []) e = let h = both_true (35 == a) false e in cc (h.1)
+mark_begins (a ∷ []) e = let h = and_parts (35 == a) false e in cc (h.1)
 mark_begins (a ∷ b ∷ t) e =
-    let h = both_true (35 == a) ((64 == b) && true) e in
-    let k = both_true (64 == b) true h.1 in
+    let h = and_parts (35 == a) ((64 == b) && true) e in
+    let k = and_parts (64 == b) true h.1 in
     let p : a ≡ 35 = sym (eqb-true 35 a h.0) in
     let q : b ≡ 64 = sym (eqb-true 64 b k.0) in
     rw (p, q)

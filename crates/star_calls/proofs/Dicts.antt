@@ -1,5 +1,6 @@
 -- Pairs of names and values, one after another.
 use Rattle.std.proofs.Common.{◌≡◌, ◌++◌, ◌||◌, ℕ, Bool, true, false, bytes_eq, if◌then◌else◌, List, [], ◌∷◌, Option, Some, None, refl, sym, ap, ◌∙◌, subst, rules, Result, OnOk, append-nil, append_assoc}
+use Rattle.std.proofs.lemmas.Bool.{or_parts, or_right}
 use Rattle.std.proofs.lemmas.Slice.Eq.{bytes_eq-Decides}
 use Rattle.ytt_base.specs.declared.text.Memory.{Memory}
 use Rattle.code_spec.specs.Code.{Name}
@@ -8,7 +9,6 @@ use Rattle.value_spec.specs.Keys.{place_of_key, same_key}
 use Rattle.value_spec.specs.Store.{put_pair, with_pair}
 use Rattle.value_spec.specs.Values.{Value, Fields, no_fields, a_field, text_value}
 use Rattle.value_spec.specs.Binding.{has_field, has_twice, text_pairs}
-use Rattle.star_calls.proofs.Named.{neither}
 
 abbrev pub Pairs : Type 0
 Pairs = List (Value × Value)
@@ -45,19 +45,15 @@ unlike y x fs out there = by (bytes_eq y x) refl where
 alike : (t : Name) → bytes_eq t t ≡ true
 alike t = (bytes_eq-Decides t t).1 refl
 
-or_more : (a b : Bool) → b ≡ true → (a || b) ≡ true
-or_more true b e = refl
-or_more false b e = e
-
 pub put_next : (all put : Pairs) (y : Name) (v : Value) (fs : Fields) → Put all put (a_field y v fs) → Put all (put_pair (text_value y) v put) fs
 put_next all put y v fs h =
-    let n = neither (has_field y fs) (has_twice fs) h.once in
+    let n = or_parts (has_field y fs) (has_twice fs) h.once in
     let fresh : place_of_key (text_value y) put ≡ None = h.new y (ap (λ b. b || has_field y fs) (alike y)) in
     let more : put_pair (text_value y) v put ≡ put ++ (text_value y, v) ∷ [] = ap (with_pair (text_value y) v put) fresh in
     subst (λ ps. Put all ps fs) (sym more) (record {
       same = h.same ∙ sym (append_assoc put ((text_value y, v) ∷ []) (text_pairs fs));
       once = n.1;
-      new = λ x e. place_behind x y v put (h.new x (or_more (bytes_eq x y) (has_field x fs) e)) (unlike y x fs n.0 e);
+      new = λ x e. place_behind x y v put (h.new x (or_right (bytes_eq x y) (has_field x fs) e)) (unlike y x fs n.0 e);
     })
 
 pub put_more : (all put now : Pairs) (y x : Name) (v : Value) (fs more : Fields) → Put all put (a_field y v fs) → x ≡ y → now ≡ put_pair (text_value x) v put → more ≡ fs → Put all now more

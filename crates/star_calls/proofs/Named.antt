@@ -1,5 +1,6 @@
 -- Arguments by name: which there are, and what is left without one.
 use Rattle.std.proofs.Common.{◌≡◌, ℕ, suc, zero, Bool, true, false, ◌||◌, if◌then◌else◌, List, [], ◌∷◌, Some, None, bytes_eq, length, slice_get, arith, rules, refl, sym, ap, ◌∙◌}
+use Rattle.std.proofs.lemmas.Bool.{or_parts}
 use Rattle.std.specs.List.{remove}
 use Rattle.code_spec.specs.Code.{Name}
 use Rattle.value_spec.specs.Values as plain
@@ -54,14 +55,10 @@ each_removed P (x ∷ xs) (suc i) h = (h.0, each_removed P xs i h.1)
 
 -- ---- no name stands twice
 
-pub neither : (a b : Bool) → (a || b) ≡ false → (a ≡ false) × (b ≡ false)
-neither true b e = absurd (search (rules, e))
-neither false b e = (refl, e)
-
 field_behind : (x y : Name) (fs : Fields) → has_field y fs ≡ false → has_field y (without_field x fs) ≡ false
 field_behind x y no_fields h = h
 field_behind x y (a_field z v fs) h =
-    let n = neither (bytes_eq y z) (has_field y fs) h in
+    let n = or_parts (bytes_eq y z) (has_field y fs) h in
     let by : (b : Bool) → has_field y (if b then fs else a_field z v (without_field x fs)) ≡ false = λ b. elim b as (λ b. has_field y (if b then fs else a_field z v (without_field x fs)) ≡ false) [
       | true ↦ n.1
       | false ↦ ap (λ b. b || has_field y (without_field x fs)) n.0 ∙ field_behind x y fs n.1
@@ -71,7 +68,7 @@ field_behind x y (a_field z v fs) h =
 pub once_behind : (x : Name) (fs : Fields) → has_twice fs ≡ false → has_twice (without_field x fs) ≡ false
 once_behind x no_fields h = h
 once_behind x (a_field z v fs) h =
-    let n = neither (has_field z fs) (has_twice fs) h in
+    let n = or_parts (has_field z fs) (has_twice fs) h in
     let by : (b : Bool) → has_twice (if b then fs else a_field z v (without_field x fs)) ≡ false = λ b. elim b as (λ b. has_twice (if b then fs else a_field z v (without_field x fs)) ≡ false) [
       | true ↦ n.1
       | false ↦ ap (λ b. b || has_twice (without_field x fs)) (field_behind x z fs n.0) ∙ once_behind x fs n.1

@@ -1,6 +1,7 @@
 -- New boxes for names, one after another.
 use Rattle.std.proofs.Common.{◌≡◌, ℕ, zero, suc, ◌+◌, ◌≤◌, ◌<◌, List, [], ◌∷◌, ◌++◌, drop, length, reverse, Some, None, Result, Ok, Err, IfOk, slice_get, refl, ap, subst, sym, ◌∙◌, rules, arith}
-use Rattle.std.proofs.lemmas.List.{reverse-append}
+use Rattle.std.proofs.lemmas.List.{drop_all, length-append, reverse-append}
+use Rattle.std.proofs.lemmas.Option.{slice_get_within}
 use Rattle.code_spec.specs.Code.{Name}
 use Rattle.star_resolve.specs.Frames.{boxed, unset_boxes}
 use Rattle.star_values.specs.Objects.{env_in, variable_in}
@@ -31,12 +32,6 @@ split_at (y ∷ xs) (suc i) n x h e = split_at xs i (i + 1) x h refl ∙ ap (λ 
     next : (i n : ℕ) → n ≡ suc i + 1 → suc (i + 1) ≡ n
     next i n e = omega (arith, e)
 
-inside : {A : Type 0} (xs : List A) (i : ℕ) (x : A) → slice_get xs i ≡ Some x → i < length xs
-inside [] zero x h = absurd (search (rules, h))
-inside [] (suc i) x h = absurd (search (rules, h))
-inside (y ∷ xs) zero x h = omega arith
-inside (y ∷ xs) (suc i) x h = let less : i < length xs = inside xs i x h in omega (arith, less)
-
 pub none_left : {A : Type 0} (xs : List A) (i : ℕ) → slice_get xs i ≡ None → drop i xs ≡ []
 none_left [] zero h = refl
 none_left [] (suc i) h = refl
@@ -48,10 +43,6 @@ none_left (x ∷ xs) (suc i) h = none_left xs i h
 unset_length : (n : ℕ) → length (unset_boxes n) ≡ n
 unset_length zero = refl
 unset_length (suc n) = ap suc (unset_length n)
-
-joined_length : {A : Type 0} (xs ys : List A) → length (xs ++ ys) ≡ length xs + length ys
-joined_length [] ys = omega arith
-joined_length (x ∷ xs) ys = let rest : length (xs ++ ys) ≡ length xs + length ys = joined_length xs ys in omega (arith, rest)
 
 in_a_row : {A : Type 0} (xs ys zs : List A) → (xs ++ ys) ++ zs ≡ xs ++ (ys ++ zs)
 in_a_row [] ys zs = refl
@@ -88,10 +79,10 @@ pub opened_next : (names : List Name) (a b c : View) (made new : List NamedBox) 
 opened_next names a b c made new at next x n h there g variable owned store more e =
     let first = length a.store in
     let rest = env_kept b c (reverse made) g (reversed_each (OwnsVariable b) made h.owned) in
-    let position : length b.store ≡ first + at = ap length h.store ∙ joined_length a.store (unset_boxes at) ∙ ap (λ k. first + k) (unset_length at) in
+    let position : length b.store ≡ first + at = ap length h.store ∙ length-append a.store (unset_boxes at) ∙ ap (λ k. first + k) (unset_length at) in
     let env : env_in c.held (reverse new) ≡ (x, first + at) ∷ env_in b.held (reverse made) =
     ap (λ bs. env_in c.held (reverse bs)) more ∙ ap (env_in c.held) (last_first made n) ∙ (λ i. variable i ∷ rest.1 i) ∙ ap (λ k. (x, k) ∷ env_in b.held (reverse made)) position in
-    let before : at < length names = inside names at x there in
+    let before : at < length names = slice_get_within names at x there in
     record {
       env = h.env ∙ ap (λ l. boxed (first + at) l (env_in b.held (reverse made))) (split_at names at next x there e)
           ∙ (λ i. boxed (further first at next e i) (drop next names) (sym env i));
@@ -104,17 +95,11 @@ opened_next names a b c made new at next x n h there g variable owned store more
     further : (first at next : ℕ) → next ≡ at + 1 → suc (first + at) ≡ first + next
     further first at next e = omega (arith, e)
 
-all_dropped : {A : Type 0} (xs : List A) (i : ℕ) → length xs ≤ i → drop i xs ≡ []
-all_dropped [] zero h = refl
-all_dropped [] (suc i) h = refl
-all_dropped (x ∷ xs) zero h = absurd (omega (arith, h))
-all_dropped (x ∷ xs) (suc i) h = all_dropped xs i (omega (arith, h))
-
 pub all_opened : (names : List Name) (a b : View) (made scope : List NamedBox) (at : ℕ) → OpenedSoFar names a b made at → length names ≤ at → scope ≡ reverse made → Opens names a b scope
 all_opened names a b made scope at h least e =
     let first = length a.store in
     record {
-      env = ap (env_in b.held) e ∙ sym (h.env ∙ ap (λ l. boxed (first + at) l (env_in b.held (reverse made))) (all_dropped names at least));
+      env = ap (env_in b.held) e ∙ sym (h.env ∙ ap (λ l. boxed (first + at) l (env_in b.held (reverse made))) (drop_all at names least));
       owned = subst (OwnsEnv b) (sym e) (reversed_each (OwnsVariable b) made h.owned);
       store = h.store ∙ ap (λ n. a.store ++ unset_boxes n) (all at (length names) h.within least);
     }

@@ -1,11 +1,10 @@
 -- The members of fragments, and what they hold.
-use Rattle.star_steps.proofs.Names.{◌≡◌, ℕ, zero, suc, ◌+◌, ◌<◌, ◌≤◌, true, false, if◌then◌else◌, drop, get_or, Ok, List, [], ◌∷◌, ◌++◌, length, Option, Some, None, refl, sym, ap, subst, ◌∙◌, rules, arith, slice_get, map, drop_of_length-le, slice_get-get_or, Scalar, max_depth, Place, body_paid, State, done, then_do, fresh_body, body_at, body_under, body_value, child_count, has_key, Each, Owns, OwnsAll, OwnsBuilt, OwnsItem, all_values, body_values, item_values, note_values, values_of_item, View, body_in, built_in, scalar_key, BuiltItem, BuiltValue, fold-BuiltValue, the_lemmas, Value, some_same, Gives, state_in, value_of}
+use Rattle.star_steps.proofs.Names.{◌≡◌, ℕ, zero, suc, ◌+◌, ◌<◌, ◌≤◌, true, false, if◌then◌else◌, drop, get_or, Ok, List, [], ◌∷◌, ◌++◌, length, Option, Some, None, refl, sym, ap, subst, ◌∙◌, rules, arith, slice_get, map, drop_more, drop_of_length-le, slice_get-get_or, Scalar, max_depth, Place, body_paid, State, done, then_do, fresh_body, body_at, body_under, body_value, child_count, has_key, Each, Owns, OwnsAll, OwnsBuilt, OwnsItem, all_values, body_values, item_values, note_values, values_of_item, View, body_in, built_in, scalar_key, BuiltItem, BuiltValue, fold-BuiltValue, the_lemmas, Value, some_same, Gives, state_in, value_of}
 use Rattle.value_spec.specs.Values as plain
 use Rattle.star_values.specs.declared.value.BuiltValue as code
 use Rattle.star_fragments.specs.Fragments.{Finds}
 use Rattle.star_fragments.specs.Fresh.{Builds, OwnsBody}
 use Rattle.star_fragments.specs.Nodes.{spread_body}
-use Rattle.star_fragments.proofs.Making.{dropped}
 use Rattle.star_fragments.proofs.Spread.{body_paid_spread}
 use Rattle.star_fragments.proofs.Views.{child_in-item}
 
@@ -92,7 +91,7 @@ module _ (held : List plain.Value) (is : List BuiltItem) (n : ℕ) (i : BuiltIte
   -- what the rest begins with
   under_first : body_under x (built_in held (drop n is)) ≡ (if has_key x (scalar_key i.key) then Some (body_in held i.value) else body_under x (built_in held (drop (n + 1) is)))
   under_first =
-      ap (λ l. body_under x (built_in held l)) (dropped is n i lt at)
+      ap (λ l. body_under x (built_in held l)) (drop_more is n i lt ∙ ap (λ i. i ∷ drop (n + 1) is) (sym at))
       ∙ ap (λ c. body_under x (plain.a_child c (built_in held (drop (n + 1) is)))) (child_in-item held i)
 
   pub not_under : has_key x (scalar_key i.key) ≡ false → body_under x (built_in held (drop n is)) ≡ body_under x (built_in held (drop (n + 1) is))

@@ -1,5 +1,5 @@
 -- Values that are made one after another, in an arena that grows.
-use Rattle.star_steps.proofs.Names.{◌≡◌, ℕ, ◌+◌, ◌<◌, List, [], ◌∷◌, ◌++◌, length, drop, get_or, map, Result, Ok, Err, refl, sym, ap, subst, ◌∙◌, append_assoc, then_give, grows_same, add-one, map-append, drop-cons, Scalar, null, boolean, integer, string, Memory, Key, key_of, pairs_of as entries_of, trees_of, tree_of-List, tree_of-Map, IsKey, Computation, Ending, done, bad, asks, then_do, give, new_dict, new_list, ◌>>=◌, put_pairs, fresh_pairs, fresh_value, fresh_values, value_of_scalar, MakesObject, Each, Grows, Owns, OwnsPair, View, value_of, values_of, Value, grows_then, owns_kept, value_kept, state_in, OwnsAll}
+use Rattle.star_steps.proofs.Names.{◌≡◌, ℕ, ◌+◌, ◌<◌, List, [], ◌∷◌, ◌++◌, length, drop, get_or, map, Result, Ok, Err, refl, sym, ap, subst, ◌∙◌, append_assoc, then_give, grows_same, map-append, drop_more, Scalar, null, boolean, integer, string, Memory, Key, key_of, pairs_of as entries_of, trees_of, tree_of-List, tree_of-Map, IsKey, Computation, Ending, done, bad, asks, then_do, give, new_dict, new_list, ◌>>=◌, put_pairs, fresh_pairs, fresh_value, fresh_values, value_of_scalar, MakesObject, Each, Grows, Owns, OwnsPair, View, value_of, values_of, Value, grows_then, owns_kept, value_kept, state_in, OwnsAll}
 use Rattle.ytt_base.specs.declared.tree.Tree.{Tree}
 use Rattle.ytt_base.specs.declared.tree.Tree as code
 use Rattle.value_spec.specs.Values as plain
@@ -22,9 +22,6 @@ pub keeps_pair : Keeps pair_of OwnsPair
 keeps_pair a b p g o =
     let k = value_kept a b p.0 g o.0 in
     ((owns_kept a b p.0 g o.0, owns_kept a b p.1 g o.1, subst IsKey (sym k) o.2), λ i. (k i, value_kept a b p.1 g o.1 i))
-
-pub dropped : {T : Type 0} (xs : List T) (j : ℕ) (x : T) → j < length xs → x ≡ get_or xs j x → drop j xs ≡ x ∷ drop (j + 1) xs
-dropped xs j x lt e = drop-cons xs j x lt ∙ (λ i. sym e i ∷ drop (sym (add-one j) i) xs)
 
 joined : {A : Type 0} (o : Ending (Unit {0}) (List A)) (ys zs : List A) (x : A) → zs ≡ ys ++ x ∷ [] → then_do (then_do o (λ xs. give (x ∷ xs))) (λ xs. give (ys ++ xs)) ≡ then_do o (λ xs. give (zs ++ xs))
 joined (done xs s) ys zs x e = ap (λ l. done l s) (sym (ap (λ z. z ++ xs) e ∙ append_assoc ys (x ∷ []) xs))
@@ -53,7 +50,7 @@ module _ {T V A : Type 0} (one : View → V → A) (Owned : View → V → Type 
       let kept = all_kept b c vs keeps g h.owns in
       record {
         meaning = λ n. h.meaning n
-            ∙ ap (λ l. then_do (each_made f l (state_in b n)) (λ xs. give (map (one b) vs ++ xs))) (dropped all i t lt is)
+            ∙ ap (λ l. then_do (each_made f l (state_in b n)) (λ xs. give (map (one b) vs ++ xs))) (drop_more all i t lt ∙ ap (λ t. t ∷ drop (i + 1) all) (sym is))
             ∙ ap (λ e. then_do (then_do e (λ x. each_made f (drop (i + 1) all) >>= λ xs. give (x ∷ xs))) (λ xs. give (map (one b) vs ++ xs))) (m n)
             ∙ joined (each_made f (drop (i + 1) all) (state_in c n)) (map (one b) vs) (map (one c) (vs ++ v ∷ [])) (one c v) (map-append (one c) vs (v ∷ []) ∙ ap (λ l. l ++ one c v ∷ []) kept.1);
         owns = each_last c vs v kept.0 o;

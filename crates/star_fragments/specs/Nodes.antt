@@ -13,6 +13,8 @@ use Rattle.star_fragments.specs.declared.node.Part.{Part}
 use Rattle.star_fragments.specs.declared.node.Entries.{Entries}
 use Rattle.star_fragments.specs.declared.node.Entry.{Entry}
 
+-- stands where a child has its place: no line of any file, as files and lines count from 1. What is compared here is told
+-- without places, so each child has this one
 abbrev pub nowhere : Place
 nowhere = record { file = 0; line = 0 }
 

@@ -1,5 +1,6 @@
 -- The functions of each form of code, from those of its parts.
-use Rattle.std.proofs.Common.{◌≡◌, ℕ, List, [], ◌∷◌, ◌++◌, Option, Some, ◌⊎◌, inl, inr, refl, rules, sym, ap, append_assoc, ◌∙◌, map as each, Result, OnOk}
+use Rattle.std.proofs.Common.{◌≡◌, ℕ, List, [], ◌∷◌, ◌++◌, Option, Some, ◌⊎◌, inl, inr, rules, sym, ap, append_assoc, ◌∙◌, map as each, Result, OnOk}
+use Rattle.std.proofs.lemmas.List.{map_push}
 use Rattle.std.specs.Option.{option_map}
 use Rattle.code_spec.specs.Code as plain
 use Rattle.star_blocks.proofs.Forms as form
@@ -28,17 +29,13 @@ use Rattle.star_tree.specs.declared.program.ItemKind.{ItemKind}
 use Rattle.star_functions.specs.Numbered as numbered
 use Rattle.star_functions.specs.Numbered.{arms_functions, clauses_functions, entries_functions, expr_functions, exprs_functions, op_functions, ops_functions, optional_functions, parameters_functions, pieces_functions}
 use Rattle.star_functions.specs.View.{all_of, numbered_of}
-use Rattle.star_functions.proofs.Walking.{put_after, put_same, put_then}
+use Rattle.star_resolve.proofs.Putting.{put_after, put_same, put_then}
 use Rattle.ytt_base.specs.declared.text.Memory.{Memory}
 use Rattle.star_functions.specs.declared.function.Numbered.{Numbered}
 
-each_last : {T A : Type 0} (view : T → A) (made : List T) (y : T) → each view (made ++ y ∷ []) ≡ each view made ++ view y ∷ []
-each_last view [] y = refl
-each_last view (x ∷ xs) y = ap (λ l. view x ∷ l) (each_last view xs y)
-
 -- a function that is put behind others
 pub pushed : (file : ℕ) (old new : List Numbered) (f : Numbered) → new ≡ old ++ f ∷ [] → all_of file new ≡ all_of file old ++ numbered_of file f ∷ []
-pushed file old new f e = ap (all_of file) e ∙ each_last (numbered_of file) old f
+pushed file old new f e = ap (all_of file) e ∙ map_push (numbered_of file) old f
 
 -- functions behind others, and then more
 pub found_then : (file : ℕ) (r : Result (Unit {0}) Memory) (old mid new : List Numbered) (a b : List numbered.Numbered) → all_of file mid ≡ all_of file old ++ a →

@@ -1,6 +1,7 @@
 -- Heights in this language, and how what is begun may end.
 use Rattle.std.proofs.Common.{◌≡◌, ℕ, ◌+◌, ◌<◌, ◌≤◌, max, List, [], ◌∷◌, length, Option, Some, None, refl, sym, ap, ◌∙◌, subst, arith}
-use Rattle.std.specs.Prelude.{zero, suc, pos, Bool, true, false, nat_eq, not, ◌&&◌, ◌||◌, if◌then◌else◌, bytes_eq, codes}
+use Rattle.std.specs.Prelude.{zero, suc, pos, Bool, true, false, nat_eq, not, ◌||◌, if◌then◌else◌, bytes_eq, codes}
+use Rattle.std.proofs.Math.Bool.{and-false}
 use Rattle.std.proofs.lemmas.Slice.Eq.{bytes_eq-Decides}
 use Rattle.std.proofs.lemmas.Bool.{false_from_ne_true}
 use Rattle.ll.specs.declared.shapes.Shape.{Shape}
@@ -156,16 +157,12 @@ unfolding letters
 length-letters zero = refl
 length-letters (suc n) = ap suc (length-letters n)
 
-not_both : (b : Bool) → (b && false) ≡ false
-not_both true = refl
-not_both false = refl
-
 other_name : (x : List ℕ) (n : ℕ) → length x < n → bytes_eq x (letters n) ≡ false
 unfolding letters
 other_name [] zero lt = absurd (omega arith)
 other_name [] (suc n) lt = refl
 other_name (a ∷ x) zero lt = absurd (omega arith)
-other_name (a ∷ x) (suc n) lt = rw (other_name x n (omega arith)) (not_both (nat_eq a 97))
+other_name (a ∷ x) (suc n) lt = rw (other_name x n (omega arith)) (and-false (nat_eq a 97))
 
 none_has : (n : ℕ) (ps : List Param) → longest ps < n → has_name (letters n) ps ≡ false
 unfolding longest

@@ -1,5 +1,6 @@
 -- Where a text may be cut.
 use Rattle.star_steps.proofs.Names.{◌≡◌, ℕ, ◌+◌, ◌-◌, ◌<◌, ◌≤◌, min, Bool, true, false, nat_le, nat_lt, ◌&&◌, ◌||◌, not, ◌⊎◌, inl, inr, List, [], length, get_or, take, drop, ◌++◌, slice_range, append-nil, subst, refl, sym, ap, ◌∙◌, arith, IsCharBoundary, leb-true, leb-false, ltb-true, ltb-false, drop_of_length-le, drop-cons, take-length, drop-take, take-append-drop, is_empty, begins_inner, is_inner, is_whole}
+use Rattle.std.proofs.Math.Bool.{or-true}
 
 not_inner : (b : ℕ) → (128 ≤ b → 192 ≤ b) → is_inner b ≡ false
 not_inner b h = grind (arith, h)
@@ -22,10 +23,7 @@ same_place t b to e = by (nat_le b (length t)) refl where
       inr (none, ap (λ n. take n t) all ∙ take-length t ∙ sym (take-append-drop b t) ∙ ap (λ l. take b t ++ l) none ∙ append-nil (take b t))
 
 whole_by : (t : List ℕ) (a b : ℕ) → begins_inner (drop a t) ≡ false → begins_inner (drop b t) ≡ false → is_whole t a b ≡ true
-whole_by t a b e f = (λ i. is_empty (drop a (take b t)) || (not (e i) && not (f i))) ∙ or_true (is_empty (drop a (take b t))) where
-  or_true : (x : Bool) → (x || true) ≡ true
-  or_true true = refl
-  or_true false = refl
+whole_by t a b e f = (λ i. is_empty (drop a (take b t)) || (not (e i) && not (f i))) ∙ or-true (is_empty (drop a (take b t)))
 
 pub whole : (t : List ℕ) (a b to : ℕ) → to ≡ min b (length t) → a < to → IsCharBoundary t a → IsCharBoundary t to → (is_whole t a b ≡ true) × (slice_range t a to ≡ drop a (take b t))
 whole t a b to e less h k = by (same_place t b to e) where

@@ -8,7 +8,7 @@ pub use Rattle.star_index.proofs.Ends.{gives_made, gives_object, gives_refused, 
 pub use Rattle.star_index.proofs.KeyLevels.{is_key}
 pub use Rattle.star_index.proofs.Members.{absent_row, absent_scalar, element_row, entry_row, scalar_of}
 pub use Rattle.star_index.proofs.Picks.{members_taken, picked_each, picked_next}
-pub use Rattle.star_index.proofs.Quoting.{closed_more, closed_one, has_no_escape, on_ok_as, quoted_next, tuple_shown}
+pub use Rattle.star_index.proofs.Quoting.{closed_more, closed_one, has_no_escape, quoted_next, tuple_shown}
 pub use Rattle.star_index.proofs.Rows.{as_text_value, character_found, field_row, key_row, list_cut, list_row, other_field, range_row, text_cut, text_row, tuple_cut, tuple_row}
 pub use Rattle.star_integers.proofs.Progressions.{number_passed}
 pub use Rattle.star_index.specs.Cuts.{AreAmong, Refuses, character, cut_in, places_in}

@@ -1,5 +1,5 @@
 -- How characters stand between quotes.
-use Rattle.star_steps.proofs.Names.{◌≡◌, ℕ, ◌+◌, ◌/◌, ◌%◌, ◌≤◌, ◌<◌, Bool, true, false, cond, nat_lt, ◌||◌, ◌==◌, List, [], ◌∷◌, ◌++◌, length, if◌then◌else◌, codes, Result, Ok, Err, OnOk, refl, sym, ap, subst, ◌∙◌, arith, append-nil, append_assoc, encode_utf8_all, ltb-true, ltb-false, ne_eqb, encode_ascii, encodes-append, values_from, closed, hex_digit, quoted_byte, quoted_bytes, Each}
+use Rattle.star_steps.proofs.Names.{◌≡◌, ℕ, ◌+◌, ◌/◌, ◌%◌, ◌≤◌, ◌<◌, Bool, true, false, cond, nat_lt, ◌||◌, ◌==◌, List, [], ◌∷◌, ◌++◌, length, if◌then◌else◌, codes, refl, sym, ap, subst, ◌∙◌, arith, append-nil, append_assoc, encode_utf8_all, ltb-true, ltb-false, ne_eqb, encode_ascii, encodes-append, values_from, closed, hex_digit, quoted_byte, quoted_bytes, Each}
 use Rattle.std.specs.Char.{encode_utf8}
 use Rattle.value_spec.specs.Values.{Value}
 use Rattle.star_index.specs.Quoting.{quoted_character, unescaped}
@@ -86,10 +86,6 @@ pub closed_more : (vs : List Value) → (length vs ≡ 1 → ⊥) → closed (va
 closed_more [] h = refl
 closed_more (v ∷ []) h = absurd (h refl)
 closed_more (v ∷ w ∷ vs) h = refl
-
-pub on_ok_as : {A E : Type 0} (r : Result A E) (P Q : Type 0) → (P → Q) → OnOk r P → OnOk r Q
-on_ok_as (Ok x) P Q f h = f h
-on_ok_as (Err e) P Q f h = h
 
 pub tuple_shown : (old first mid new members end : List ℕ) → first ≡ old ++ 40 ∷ [] → mid ≡ first ++ members → new ≡ mid ++ end → new ≡ old ++ 40 ∷ (members ++ end)
 tuple_shown old first mid new members end f g h =

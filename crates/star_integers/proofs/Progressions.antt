@@ -1,7 +1,8 @@
 -- The numbers of ranges, which are told by arithmetic and never made as a list.
-use Rattle.std.proofs.Common.{◌≡◌, ℕ, zero, suc, ◌+◌, ◌-◌, ◌*◌, ◌/◌, ◌%◌, ◌^◌, ◌<◌, ◌≤◌, Bool, true, false, nat_eq, ◌||◌, length, Some, slice_get, ℤ, pos, negsuc, neg_ℤ, ◌+ℤ◌, ◌-ℤ◌, ◌*ℤ◌, ◌<ℤ◌, ◌≤ℤ◌, FitsSigned, to_z, of_z, refl, sym, ap, subst, ◌∙◌, add-one, arith, rules}
+use Rattle.std.proofs.Common.{◌≡◌, ℕ, zero, suc, ◌+◌, ◌-◌, ◌*◌, ◌/◌, ◌%◌, ◌^◌, ◌<◌, ◌≤◌, true, false, nat_eq, ◌||◌, length, Some, slice_get, ℤ, pos, negsuc, neg_ℤ, ◌+ℤ◌, ◌-ℤ◌, ◌*ℤ◌, ◌<ℤ◌, ◌≤ℤ◌, FitsSigned, to_z, of_z, refl, sym, ap, subst, ◌∙◌, add-one, arith, rules}
 use Rattle.std.proofs.lemmas.Int.{ints, to_z-of_z, of_z-to_z, wrapping_add-bits, wrapping_mul_onto, int_wrap_fits, int_wrap-add_right, int_wrap-mul_left}
 use Rattle.std.proofs.lemmas.Nat.{le-div, div-add-mod'}
+use Rattle.std.proofs.Math.Bool.{or-true}
 use Rattle.std.proofs.Math.Nat.{add-div_left, div-mul-le_self, mod-eq_of_lt, mul-le-mul_right, mul-mod_left, suc-mul}
 use Rattle.std.specs.Int.{w128, int_wrap}
 use Rattle.std.specs.Int.RustNames.{unsigned_abs}
@@ -53,16 +54,12 @@ other_integers (pos m) (negsuc n) h = refl
 other_integers (negsuc m) (pos n) h = refl
 other_integers (negsuc m) (negsuc n) h = other_numbers m n (λ e. h (ap negsuc e))
 
-or_true : (b : Bool) → (b || true) ≡ true
-or_true true = refl
-or_true false = refl
-
 found : (n : ℕ) (start step number : ℤ) (i : ℕ) → i < n → number ≡ start +ℤ (pos i *ℤ step) → is_one_of number (progression n start step) ≡ true
 found zero start step number i h e = absurd (omega arith)
 found (suc n) start step number zero h e = ap (λ b. b || is_one_of number (progression n (start +ℤ step) step)) (same_integers number start (e ∙ sym (first_number start step)))
 found (suc n) start step number (suc i) h e =
     let further : is_one_of number (progression n (start +ℤ step) step) ≡ true = found n (start +ℤ step) step number i (omega arith) (e ∙ sym (from_next start step i)) in
-    ap (λ b. same_integer number start || b) further ∙ or_true (same_integer number start)
+    ap (λ b. same_integer number start || b) further ∙ or-true (same_integer number start)
 
 missed : (n : ℕ) (start step number : ℤ) → ((i : ℕ) → i < n → number ≡ start +ℤ (pos i *ℤ step) → ⊥) → is_one_of number (progression n start step) ≡ false
 missed zero start step number h = refl

@@ -1,5 +1,6 @@
 -- The brackets behind a text are those before the text below.
 use Rattle.std.proofs.Common.{◌≡◌, ℕ, zero, suc, ◌-◌, ◌≤◌, List, [], ◌∷◌, ◌++◌, Bool, true, false, ◌==◌, ◌&&◌, ◌||◌, Option, Some, refl, ap, ◌∙◌, length, arith}
+use Rattle.std.proofs.lemmas.Bool.{and_parts}
 use Rattle.std.specs.Char.{is_ascii_digit}
 use Rattle.star_grammar.specs.declared.token.Origin.TheVariants as origin
 use Rattle.star_grammar.specs.declared.token.Piece.{Piece}
@@ -24,11 +25,7 @@ raw_stays b [] m e = absurd (not_raw (b == 114) e)
     not_raw : (z : Bool) → (z && false) ≡ true → ⊥
     not_raw true h = cc
     not_raw false h = cc
-raw_stays b (q ∷ qs) m e = texts_stay true 1 (suc (suc (length qs))) q qs m (quote_too (b == 114) (is_quote q) e) (omega arith)
-  where
-    quote_too : (y z : Bool) → (y && z) ≡ true → z ≡ true
-    quote_too true z h = h
-    quote_too false z h = cc
+raw_stays b (q ∷ qs) m e = texts_stay true 1 (suc (suc (length qs))) q qs m (and_parts (b == 114) (is_quote q) e).1 (omega arith)
 
 front_stays : (b : ℕ) (bs m : List ℕ) → Stays (suc (length bs)) (front origin.Comment (b ∷ bs)) (front origin.Comment (b ∷ bs ++ 10 ∷ m))
 front_stays b bs m =

@@ -1,5 +1,6 @@
 -- Numbers stand there too.
 use Rattle.std.proofs.Common.{◌≡◌, ℕ, suc, ◌+◌, ◌≤◌, List, [], ◌∷◌, ◌++◌, drop, Bool, true, false, ◌==◌, ◌&&◌, ◌||◌, refl, sym, ap, ◌∙◌, subst, length, if◌then◌else◌, arith}
+use Rattle.std.proofs.lemmas.Bool.{both_ways}
 use Rattle.std.proofs.lemmas.List.{drop-append-le}
 use Rattle.std.specs.Prelude.{nat_le, pos, slice_index}
 use Rattle.std.specs.Char.{is_ascii_digit, is_ascii_hexdigit}
@@ -47,9 +48,6 @@ not_both : (x y : Bool) → ((x && false) && y) ≡ false
 not_both true y = refl
 not_both false y = refl
 
-not_true : (b : Bool) → b ≡ true → b ≡ false → ⊥
-not_true b e f = cc
-
 -- a prefix whose letter is neither at the end nor a line end
 module _ (letter base : ℕ) (p : ℕ → Bool) (z : (0 == letter) ≡ false) (l : (10 == letter) ≡ false) (pz : p 0 ≡ false) (pl : p 10 ≡ false) where
   alone_not : (b x : ℕ) (y : Bool) → (x == letter) ≡ false → ((b == 48 && x == letter) && y) ≡ false
@@ -63,7 +61,7 @@ module _ (letter base : ℕ) (p : ℕ → Bool) (z : (0 == letter) ≡ false) (l
   prefixed t = integer_piece base (run_at p (drop 2 t)) (2 + length (run_at p (drop 2 t)))
 
   prefixed_stay : (b : ℕ) (bs m : List ℕ) → is_prefixed letter p (b ∷ bs) ≡ true → Stays (suc (length bs)) (prefixed (b ∷ bs)) (prefixed (b ∷ bs ++ 10 ∷ m))
-  prefixed_stay b [] m e = absurd (not_true (is_prefixed letter p (b ∷ [])) e (alone_not b 0 (p 0) z))
+  prefixed_stay b [] m e = absurd (both_ways (is_prefixed letter p (b ∷ [])) (alone_not b 0 (p 0) z) e)
   prefixed_stay b (c ∷ cs) m e = λ g. (
     ap (λ r. integer_piece base r (2 + length r)) (run_same p cs m pl),
     let f = run_fits p cs in integer_fits base (run_at p cs) (2 + length (run_at p cs)) (suc (suc (length cs))) (omega arith) g,

@@ -1,6 +1,7 @@
 -- Texts in quotes stand there too.
 use Rattle.std.proofs.Common.{◌≡◌, ℕ, zero, suc, ◌+◌, ◌-◌, ◌≤◌, List, [], ◌∷◌, ◌++◌, drop, Bool, true, false, not, ◌==◌, ◌&&◌, ◌||◌, Option, Some, None, refl, sym, ap, ◌∙◌, subst, length, if◌then◌else◌, arith}
-use Rattle.std.proofs.lemmas.Bool.{eqb-true}
+use Rattle.std.proofs.lemmas.Bool.{and_parts, both_ways, eqb-true}
+use Rattle.std.proofs.lemmas.Option.{none-some, same_Some}
 use Rattle.std.proofs.lemmas.List.{drop-append-le, take-append-le, length-append, length-drop}
 use Rattle.std.specs.Prelude.{count_by, slice_index, option_and_then}
 use Rattle.std.specs.Option.{option_map}
@@ -14,12 +15,6 @@ use Rattle.star_grammar.specs.declared.token.Said.TheVariants as said
 use Rattle.star_grammar.specs.Pieces.{Span, both, bytes_of, closes, escape, first, form, hex1, hex2, hex4, hex8, is_quote, is_triple, joined, letter, letter_at, line_ends, long_escape, no_code, numbered, quoted, quoted_from, quotes, short_escape, span, text_piece, text_token}
 use Rattle.star_lines.proofs.Stays.{Stays, stays_if, two_same}
 
-some_same : {A : Type 0} (x y : A) → ◌≡◌ {A = Option A} (Some x) (Some y) → x ≡ y
-some_same x y e = cc
-
-none_some : {A : Type 0} (x : A) → ◌≡◌ {A = Option A} None (Some x) → ⊥
-none_some x e = cc
-
 -- ---- hexadecimal digits
 
 -- both are there
@@ -31,20 +26,20 @@ record Both (base v : ℕ) (a b : Option ℕ) : Type 0 where
 
 both_some : (base v : ℕ) (a b : Option ℕ) → both base a b ≡ Some v → Both base v a b
 both_some base v (Some x) (Some y) e = record { high = x; low = y; high_is = refl; low_is = refl }
-both_some base v (Some x) None e = absurd (none_some v e)
-both_some base v None b e = absurd (none_some v e)
+both_some base v (Some x) None e = absurd (none-some v e)
+both_some base v None b e = absurd (none-some v e)
 
 both_more : (base v : ℕ) (a a' b b' : Option ℕ) → a' ≡ a → b' ≡ b → both base a b ≡ Some v → both base a' b' ≡ Some v
 both_more base v a a' b b' e f h = ap (λ x. both base x b') e ∙ ap (both base a) f ∙ h
 
 hex2_fits : (t : List ℕ) (v : ℕ) → hex2 t ≡ Some v → 2 ≤ length t
 unfolding hex2
-hex2_fits [] v e = absurd (none_some v e)
+hex2_fits [] v e = absurd (none-some v e)
 hex2_fits (x ∷ []) v e = absurd (no_low (hex1 x) e)
   where
     no_low : (a : Option ℕ) → both 16 a None ≡ Some v → ⊥
-    no_low None h = none_some v h
-    no_low (Some y) h = none_some v h
+    no_low None h = none-some v h
+    no_low (Some y) h = none-some v h
 hex2_fits (x ∷ y ∷ ts) v e = omega arith
 
 hex2_same : (t m : List ℕ) → 2 ≤ length t → hex2 (t ++ m) ≡ hex2 t
@@ -88,7 +83,7 @@ hex8_same t m e =
 -- ---- letters
 
 numbered_more : (most size : ℕ) (l : Letter) (o o' : Option ℕ) → ((v : ℕ) → o ≡ Some v → o' ≡ o) → numbered most size o ≡ Some l → numbered most size o' ≡ Some l
-numbered_more most size l None o' h e = absurd (none_some l e)
+numbered_more most size l None o' h e = absurd (none-some l e)
 numbered_more most size l (Some v) o' h e = ap (numbered most size) (h v refl) ∙ e
 
 by_tests : (x y z : Bool) (l : Letter) (a b c a' b' c' : Option Letter) → (a ≡ Some l → a' ≡ Some l) → (b ≡ Some l → b' ≡ Some l) → (c ≡ Some l → c' ≡ Some l)
@@ -115,7 +110,7 @@ if_none true l x x' h e = e
 if_none false l x x' h e = h e
 
 escape_more : (t m : List ℕ) (l : Letter) → escape false t ≡ Some l → escape false (t ++ 10 ∷ m) ≡ Some l
-escape_more [] m l e = absurd (none_some l e)
+escape_more [] m l e = absurd (none-some l e)
 escape_more (c ∷ cs) m l e = if_none (c == 10) l _ _ (or_long (short_escape c) l (long_escape c cs) (long_escape c (cs ++ 10 ∷ m)) (long_more c cs m l)) e
 
 if_escape : (z : Bool) (l : Letter) (x x' y : Option Letter) → (x ≡ Some l → x' ≡ Some l) → (if z then x else y) ≡ Some l → (if z then x' else y) ≡ Some l
@@ -140,20 +135,13 @@ pub record IsInLine (f : Form) : Type 0 where
 closes_same : (f : Form) (b : ℕ) (bs m : List ℕ) → IsInLine f → closes f (b ∷ bs ++ 10 ∷ m) ≡ closes f (b ∷ bs)
 closes_same f b bs m i = ap (λ z. (b == f.quote) && (not f.triple || z)) (two_same (λ x. x == f.quote) (λ x. x == f.quote) bs m i.none i.end i.none i.end)
 
-after_and : (a b : Bool) → (a && b) ≡ true → (a ≡ true) × (b ≡ true)
-after_and true b e = (refl, e)
-after_and false b e = (cc, cc)
-
-not_true : (b : Bool) → b ≡ true → b ≡ false → ⊥
-not_true b e f = cc
-
 two_there : (q : ℕ) (t : List ℕ) → (0 == q) ≡ false → ((first t == q) && (slice_index t 1 == q)) ≡ true → 2 ≤ length t
-two_there q [] z e = absurd (not_true (0 == q) (after_and (0 == q) (0 == q) e).0 z)
-two_there q (x ∷ []) z e = absurd (not_true (0 == q) (after_and (x == q) (0 == q) e).1 z)
+two_there q [] z e = absurd (both_ways (0 == q) z (and_parts (0 == q) (0 == q) e).0)
+two_there q (x ∷ []) z e = absurd (both_ways (0 == q) z (and_parts (x == q) (0 == q) e).1)
 two_there q (x ∷ y ∷ ts) z e = omega arith
 
 quotes_fit : (f : Form) (b : ℕ) (bs : List ℕ) → IsInLine f → closes f (b ∷ bs) ≡ true → quotes f ≤ suc (length bs)
-quotes_fit f b bs i e = by_form f.triple (after_and (b == f.quote) (not f.triple || ((first bs == f.quote) && (slice_index bs 1 == f.quote))) e).1
+quotes_fit f b bs i e = by_form f.triple (and_parts (b == f.quote) (not f.triple || ((first bs == f.quote) && (slice_index bs 1 == f.quote))) e).1
   where
     by_form : (triple : Bool) → (not triple || ((first bs == f.quote) && (slice_index bs 1 == f.quote))) ≡ true → (if triple then 3 else 1) ≤ suc (length bs)
     by_form false h = omega arith
@@ -165,16 +153,16 @@ further s k = span s.bytes (s.left + k)
 -- the letters behind a first one
 joined_more : (l : Letter) (k : ℕ) (o o' : Option Span) (s : Span) → ((s : Span) → o ≡ Some s → o' ≡ Some (further s k)) → option_map (joined (bytes_of l.said)) o ≡ Some s → option_map (joined (bytes_of l.said)) o' ≡ Some (further s k)
 unfolding further
-joined_more l k None o' s h e = absurd (none_some s e)
-joined_more l k (Some r) o' s h e = ap (option_map (joined (bytes_of l.said))) (h r refl) ∙ ap (λ (x : Span). Some (span x.bytes (x.left + k))) (some_same (joined (bytes_of l.said) r) s e)
+joined_more l k None o' s h e = absurd (none-some s e)
+joined_more l k (Some r) o' s h e = ap (option_map (joined (bytes_of l.said))) (h r refl) ∙ ap (λ (x : Span). Some (span x.bytes (x.left + k))) (same_Some (joined (bytes_of l.said) r) s e)
 
 letters_more : (k : ℕ) (o o' : Option Letter) (go go' : Letter → Option Span) (s : Span) → ((l : Letter) → o ≡ Some l → o' ≡ Some l) → ((l : Letter) (s : Span) → go l ≡ Some s → go' l ≡ Some (further s k))
     → option_and_then go o ≡ Some s → option_and_then go' o' ≡ Some (further s k)
-letters_more k None o' go go' s f h e = absurd (none_some s e)
+letters_more k None o' go go' s f h e = absurd (none-some s e)
 letters_more k (Some l) o' go go' s f h e = ap (option_and_then go') (f l refl) ∙ h l s e
 
 closed_or_not : (k : ℕ) (z : Bool) (x x' : Span) (y y' : Option Span) (s : Span) → (z ≡ true → x' ≡ further x k) → (y ≡ Some s → y' ≡ Some (further s k)) → (if z then Some x else y) ≡ Some s → (if z then Some x' else y') ≡ Some (further s k)
-closed_or_not k true x x' y y' s f h e = ap Some (f refl ∙ ap (λ r. further r k) (some_same x s e))
+closed_or_not k true x x' y y' s f h e = ap Some (f refl ∙ ap (λ r. further r k) (same_Some x s e))
 closed_or_not k false x x' y y' s f h e = h e
 
 less_more : (n k q : ℕ) → q ≤ n → (n + k) - q ≡ (n - q) + k
@@ -182,8 +170,8 @@ less_more n k q e = omega arith
 
 quoted_more : (n : ℕ) (f : Form) (t m : List ℕ) (s : Span) → IsInLine f → quoted_from n f t ≡ Some s → quoted_from n f (t ++ 10 ∷ m) ≡ Some (further s (suc (length m)))
 unfolding further
-quoted_more zero f [] m s i e = absurd (none_some s e)
-quoted_more (suc n) f [] m s i e = absurd (none_some s e)
+quoted_more zero f [] m s i e = absurd (none-some s e)
+quoted_more (suc n) f [] m s i e = absurd (none-some s e)
 quoted_more (suc n) f (b ∷ bs) m s i e = quoted_more n f bs m s i e
 quoted_more zero f (b ∷ bs) m s i e =
     let k : ℕ = suc (length m) in
@@ -228,7 +216,7 @@ other_quote x q e f = by_test (x == q) refl
   where
     by_test : (z : Bool) → (x == q) ≡ z → z ≡ false
     by_test false h = refl
-    by_test true h = absurd (not_true (is_quote q) f (subst (λ y. is_quote y ≡ false) (eqb-true x q h) e))
+    by_test true h = absurd (both_ways (is_quote q) (subst (λ y. is_quote y ≡ false) (eqb-true x q h) e) f)
 
 in_line : (raw triple : Bool) (q : ℕ) → is_quote q ≡ true → IsInLine (form raw triple false q)
 in_line raw triple q e = record { lines = refl; none = other_quote 0 q refl e; end = other_quote 10 q refl e }

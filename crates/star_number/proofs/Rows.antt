@@ -1,6 +1,6 @@
 -- Passes over what stands in lists.
 use Rattle.std.proofs.Common.{◌≡◌, ℕ, ◌+◌, ◌<◌, ◌≤◌, List, [], ◌∷◌, ◌++◌, length, drop, get_or, refl, sym, ap, ◌∙◌, append_assoc, append-nil, map as each}
-use Rattle.std.proofs.lemmas.List.{drop_more, drop_all}
+use Rattle.std.proofs.lemmas.List.{drop_more, drop_all, map_push}
 use Rattle.code_spec.specs.Code as plain
 use Rattle.code_spec.specs.Numbering.{Pass, Passed, number_clauses, number_entries, number_expr, number_exprs, number_parameters, number_pieces, over_one}
 use Rattle.star_tree.specs.Whole.{Clause, for_part, if_part, Entry, Parameter, named_part, default_part, bare_part, star_part, stars_part, Piece, written_part, expr_part, clauses_from, entries_from, exprs_from, parameters_from, pieces_from}
@@ -12,10 +12,6 @@ with_first f p = record { result = f p.result; next = p.next }
 
 -- ---- turns of a loop, whose members are seen as As
 
-each_last : {T A : Type 0} (view : T → A) (made : List T) (y : T) → each view (made ++ y ∷ []) ≡ each view made ++ view y ∷ []
-each_last view [] y = refl
-each_last view (x ∷ xs) y = ap (λ l. view x ∷ l) (each_last view xs y)
-
 -- one more turn
 pub row_turn : {T A : Type 0} (view : T → A) (f : A → Pass A) (all : Passed (List A)) (xs made makes : List T) (j now next : ℕ) (x y : T) →
     j < length xs → x ≡ get_or xs j x → record { result = view y; next = next } ≡ f (view x) now → makes ≡ made ++ y ∷ [] →
@@ -23,7 +19,7 @@ pub row_turn : {T A : Type 0} (view : T → A) (f : A → Pass A) (all : Passed 
 row_turn view f all xs made makes j now next x y lt here is put h =
     let rest = drop (j + 1) xs in
     let after = in_row f (each view rest) next in
-    ap (λ l. behind l after) (ap (each view) put ∙ each_last view made y)
+    ap (λ l. behind l after) (ap (each view) put ∙ map_push view made y)
     ∙ ap (λ l. record { result = l; next = after.next }) (append_assoc (each view made) (view y ∷ []) after.result)
     ∙ ap (λ p. behind (each view made) (with_first (λ ys. p.result ∷ ys) (in_row f (each view rest) p.next))) is
     ∙ ap (λ l. behind (each view made) (in_row f (each view l) now)) (ap (λ z. z ∷ rest) here ∙ sym (drop_more xs j x lt))

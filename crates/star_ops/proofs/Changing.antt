@@ -1,5 +1,5 @@
 -- Rows that make a dict, or change a list.
-use Rattle.star_steps.proofs.Names.{◌≡◌, ℕ, suc, ◌+◌, true, List, [], ◌∷◌, ◌++◌, length, Some, Result, Ok, Err, refl, sym, ap, subst, ◌∙◌, rules, length-map, Place, Stop, count_in, keys_in, members_in, Computation, done, then_do, acting, after_act, give, new_dict, take_steps, ◌>>=◌, did, list_at, list_extend, may_change, pairs_at, put_pairs, extend_row, join_pairs, new_keys, Grows, Owns, View, value_of, values_of, Ref, Value, grows_same, owns_kept, Gives, Meets, as_is, state_in, meets_same, meets_stop}
+use Rattle.star_steps.proofs.Names.{◌≡◌, ℕ, suc, ◌+◌, true, List, [], ◌∷◌, ◌++◌, length, Some, Result, Ok, Err, refl, sym, ap, subst, ◌∙◌, rules, length-map, Place, Stop, count_in, keys_in, members_in, Computation, done, then_do, acting, after_act, give, new_dict, take_steps, ◌>>=◌, did, list_at, list_extend, may_change, pairs_at, put_pairs, extend_row, join_pairs, new_keys, Grows, Owns, View, value_of, values_of, Ref, Value, grows_same, owns_kept, some_same, Gives, Meets, as_is, state_in, meets_same, meets_stop}
 use Rattle.value_spec.specs.Values as plain
 use Rattle.star_values.specs.declared.value.Value.TheVariants as value
 use Rattle.star_fragments.specs.Fresh.{Builds}
@@ -39,9 +39,6 @@ members_there a _ h = absurd (search (rules, h))
 -- what the row comes to where the list may be changed and the value has members
 abbrev extending : Place → ℕ → List plain.Value → Computation (Unit {0}) plain.Value
 extending p r ws = acting p (list_extend r ws) >>= λ u. give (plain.list_value r)
-
-some_same : {A : Type 0} (x y : A) → Some x ≡ Some y → x ≡ y
-some_same x y e = search (rules, e)
 
 pub extended_row : (p : Place) (r : ℕ) (v : plain.Value) (a : View) (n : ℕ) (ws : List plain.Value) → may_change r a.store ≡ did tt a.store → members_in a.store v ≡ Some ws →
     extend_row p r v (state_in a n) ≡ then_do (take_steps (length (list_at r a.store) + length ws) p (state_in a n)) (λ u. extending p r ws)

@@ -1,37 +1,13 @@
 -- A text that stands in another.
-use Rattle.star_steps.proofs.Names.{◌≡◌, ℕ, Bool, true, false, ◌==◌, ◌&&◌, ◌||◌, ◌⊎◌, inl, inr, List, [], ◌∷◌, ◌++◌, refl, sym, ap, subst, eq-eqb, HasSubslice, begins_with, is_part}
-use Rattle.std.proofs.Common.{eqb-true}
-
-same_head : (a b : Bool) → (a && b) ≡ true → (a ≡ true) × (b ≡ true)
-same_head true b h = (refl, h)
-same_head false b h = cc
-
-either : (a b : Bool) → (a || b) ≡ true → (a ≡ true) ⊎ (b ≡ true)
-either true b h = inl refl
-either false b h = inr h
-
-right : (a b : Bool) → b ≡ true → (a || b) ≡ true
-right true b e = refl
-right false b e = e
-
--- what begins with a text is that text and a rest
-rest_of : (x t : List ℕ) → begins_with x t ≡ true → (b : List ℕ) × (t ≡ x ++ b)
-rest_of [] t h = (t, refl)
-rest_of (x ∷ xs) [] h = cc
-rest_of (x ∷ xs) (b ∷ t) h =
-    let p = same_head (x == b) (begins_with xs t) h in
-    let more = rest_of xs t p.1 in
-    (more.0, (λ i. sym (eqb-true x b p.0) i ∷ more.1 i))
-
-begins : (x b : List ℕ) → begins_with x (x ++ b) ≡ true
-begins [] b = refl
-begins (x ∷ xs) b = λ i. eq-eqb x x refl i && begins xs b i
+use Rattle.star_steps.proofs.Names.{◌≡◌, ℕ, Bool, true, false, ◌||◌, inl, inr, List, [], ◌∷◌, ◌++◌, length, drop, refl, sym, ap, subst, HasSubslice, begins_with, is_part}
+use Rattle.std.proofs.lemmas.Bool.{or_cases, or_right}
+use Rattle.operator_spec.proofs.Fronts.{begins, begins_is}
 
 pub shown : (x t : List ℕ) → is_part x t ≡ true → HasSubslice t x
 shown [] [] h = ([], [], refl)
 shown (x ∷ xs) [] h = cc
-shown x (b ∷ t) h = elim (either (begins_with x (b ∷ t)) (is_part x t) h) [
-  | inl e ↦ let r = rest_of x (b ∷ t) e in ([], r.0, r.1)
+shown x (b ∷ t) h = elim (or_cases (begins_with x (b ∷ t)) (is_part x t) h) [
+  | inl e ↦ ([], drop (length x) (b ∷ t), begins_is x (b ∷ t) e)
   | inr e ↦ let r = shown x t e in (b ∷ r.0, r.1, ap (λ l. b ∷ l) r.2)
 ]
 
@@ -42,7 +18,7 @@ part_at_front (x ∷ xs) b = ap (λ v. v || is_part (x ∷ xs) (xs ++ b)) (begin
 
 part_behind : (x a b : List ℕ) → is_part x (a ++ (x ++ b)) ≡ true
 part_behind x [] b = part_at_front x b
-part_behind x (c ∷ a) b = right (begins_with x (c ∷ a ++ (x ++ b))) (is_part x (a ++ (x ++ b))) (part_behind x a b)
+part_behind x (c ∷ a) b = or_right (begins_with x (c ∷ a ++ (x ++ b))) (is_part x (a ++ (x ++ b))) (part_behind x a b)
 
 pub found : (x t : List ℕ) → HasSubslice t x → is_part x t ≡ true
 found x t h = subst (λ t. is_part x t ≡ true) (sym h.2) (part_behind x h.0 h.1)

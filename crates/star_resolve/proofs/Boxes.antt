@@ -1,5 +1,6 @@
 -- The boxes of the names of scopes.
 use Rattle.std.proofs.Common.{◌≡◌, ℕ, Bool, true, false, ◌||◌, List, [], ◌∷◌, ◌++◌, length, Option, Some, None, is_some, if◌then◌else◌, refl, sym, ap, ◌∙◌, map as each}
+use Rattle.std.proofs.Math.Bool.{or-false, or-true, or_assoc}
 use Rattle.std.proofs.lemmas.Slice.Eq.{bytes_eq-Decides}
 use Rattle.std.specs.Prelude.{bytes_eq}
 use Rattle.code_spec.specs.Allowed.{parameter_names}
@@ -78,14 +79,6 @@ names_have_their_boxes globals builtins u parts file h k = boxes_found u.name u.
 
 -- ---- new boxes
 
-or_true : (a : Bool) → true ≡ (a || true)
-or_true true = refl
-or_true false = refl
-
-or_false : (a : Bool) → a ≡ (a || false)
-or_false true = refl
-or_false false = refl
-
 known_box : (x y : Name) (env : Env) (r : ℕ) (more : Bool) (c : Bool) → bytes_eq y x ≡ c → box_of y env ≡ Some r → (is_some (box_of x env) || more) ≡ (is_some (box_of x env) || (c || more))
 known_box x y env r more true e h =
     let same : y ≡ x = (bytes_eq-Decides y x).0 e in
@@ -94,18 +87,14 @@ known_box x y env r more true e h =
 known_box x y env r more false e h = refl
 
 fresh_box : (o : Option ℕ) (r : ℕ) (more c : Bool) → (is_some (if c then Some r else o) || more) ≡ (is_some o || (c || more))
-fresh_box o r more true = or_true (is_some o)
+fresh_box o r more true = sym (or-true (is_some o))
 fresh_box o r more false = refl
 
 -- ---- names in environments
 
-or_both : (a b c : Bool) → (a || (b || c)) ≡ ((a || b) || c)
-or_both true b c = refl
-or_both false b c = refl
-
 pub binds_either : (x : Name) (a b : List Name) → binds x (a ++ b) ≡ (binds x a || binds x b)
 binds_either x [] b = refl
-binds_either x (y ∷ a) b = ap (λ c. bytes_eq y x || c) (binds_either x a b) ∙ or_both (bytes_eq y x) (binds x a) (binds x b)
+binds_either x (y ∷ a) b = ap (λ c. bytes_eq y x || c) (binds_either x a b) ∙ sym (or_assoc (bytes_eq y x) (binds x a) (binds x b))
 
 first_box : (c : Bool) (r : ℕ) (o : Option ℕ) → is_some (if c then Some r else o) ≡ (c || is_some o)
 first_box true r o = refl
@@ -125,7 +114,7 @@ module _ {H : Type 0} where
       more ((y, length s.store) ∷ env) _ e x ∙ fresh_box (box_of x env) (length s.store) (binds x ys) (bytes_eq y x)
 
   pub more_boxes : (names : List Name) (env own : Env) (s t : State H) → with_boxes names env s ≡ done own t → (x : Name) → is_some (box_of x own) ≡ (is_some (box_of x env) || binds x names)
-  more_boxes [] env own s t e x = ap (λ all. is_some (box_of x all)) (sym (same_end env own s t e)) ∙ or_false (is_some (box_of x env))
+  more_boxes [] env own s t e x = ap (λ all. is_some (box_of x all)) (sym (same_end env own s t e)) ∙ sym (or-false (is_some (box_of x env)))
   more_boxes (y ∷ ys) env own s t e x = one_name y ys env own s t (box_of y env) refl e (λ before u. more_boxes ys before own u t) x
 
   pub new_scopes : NewScopes H

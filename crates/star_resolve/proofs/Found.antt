@@ -1,5 +1,6 @@
 -- What is answered to events is what the definitions say of the uses in them.
 use Rattle.std.proofs.Common.{◌≡◌, ℕ, suc, ◌+◌, Bool, true, false, ◌||◌, cond, List, [], ◌∷◌, ◌++◌, Option, Some, None, if◌then◌else◌, refl, sym, ap, ◌∙◌, arith, map as each}
+use Rattle.std.proofs.Math.Bool.{or-false, or_assoc}
 use Rattle.std.proofs.lemmas.Bool.Decides.{Decides-like, same_from_decides}
 use Rattle.std.proofs.lemmas.Slice.Eq.{bytes_eq-Decides}
 use Rattle.std.specs.List.{list_any, position}
@@ -25,19 +26,11 @@ use Rattle.star_resolve.proofs.Sets.{position_by}
 
 -- ---- each name once
 
-or_assoc : (a b c : Bool) → ((a || b) || c) ≡ (a || (b || c))
-or_assoc true b c = refl
-or_assoc false b c = refl
-
 pub bytes_eq-sym : (a b : List ℕ) → bytes_eq a b ≡ bytes_eq b a
 bytes_eq-sym a b = same_from_decides (bytes_eq a b) (bytes_eq b a) (bytes_eq-Decides a b) (Decides-like (bytes_eq b a) sym sym (bytes_eq-Decides b a))
 
-pub or_false : (a : Bool) → a ≡ (a || false)
-or_false true = refl
-or_false false = refl
-
 pub any_more : (x y : Name) (ns : List Name) → list_any (bytes_eq x) (ns ++ y ∷ []) ≡ (list_any (bytes_eq x) ns || bytes_eq x y)
-any_more x y [] = sym (or_false (bytes_eq x y))
+any_more x y [] = or-false (bytes_eq x y)
 any_more x y (n ∷ ns) = ap (λ b. bytes_eq x n || b) (any_more x y ns) ∙ sym (or_assoc (bytes_eq x n) (list_any (bytes_eq x) ns) (bytes_eq x y))
 
 -- a name that is there already
@@ -46,7 +39,7 @@ any_same x y ns h true e =
     let same : x ≡ y = (bytes_eq-Decides x y).0 e in
     let there : list_any (bytes_eq x) ns ≡ true = ap (λ z. list_any (bytes_eq z) ns) same ∙ h in
     there ∙ ap (λ b. b || true) (sym there)
-any_same x y ns h false e = or_false (list_any (bytes_eq x) ns)
+any_same x y ns h false e = sym (or-false (list_any (bytes_eq x) ns))
 
 any_with : (x y : Name) (ns : List Name) (b : Bool) → list_any (bytes_eq y) ns ≡ b →
     list_any (bytes_eq x) (if b then ns else ns ++ y ∷ []) ≡ (list_any (bytes_eq x) ns || bytes_eq x y)
@@ -54,7 +47,7 @@ any_with x y ns true h = any_same x y ns h (bytes_eq x y) refl
 any_with x y ns false h = any_more x y ns
 
 any_each : (x : Name) (ns xs : List Name) → list_any (bytes_eq x) (with_each ns xs) ≡ (list_any (bytes_eq x) ns || binds x xs)
-any_each x ns [] = or_false (list_any (bytes_eq x) ns)
+any_each x ns [] = sym (or-false (list_any (bytes_eq x) ns))
 any_each x ns (y ∷ ys) =
     any_each x (with_name ns y) ys
     ∙ ap (λ b. b || binds x ys) (any_with x y ns (list_any (bytes_eq y) ns) refl)

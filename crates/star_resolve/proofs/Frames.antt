@@ -1,5 +1,6 @@
 -- The boxes of variables.
-use Rattle.std.proofs.Common.{◌≡◌, ℕ, suc, ◌+◌, Bool, true, false, ◌||◌, not, ◌&&◌, cond, List, [], ◌∷◌, ◌++◌, length, Option, Some, None, is_some, if◌then◌else◌, IsTrue, refl, sym, ap, ◌∙◌, append_assoc, append-nil, arith, map as each}
+use Rattle.std.proofs.Common.{◌≡◌, ℕ, suc, ◌+◌, Bool, true, false, ◌||◌, not, cond, List, [], ◌∷◌, ◌++◌, length, Option, Some, None, is_some, if◌then◌else◌, IsTrue, refl, sym, ap, ◌∙◌, append_assoc, append-nil, arith, map as each}
+use Rattle.std.proofs.lemmas.Bool.{and_parts, not-true, or_from, or_right}
 use Rattle.std.proofs.lemmas.Slice.Eq.{bytes_eq-Decides}
 use Rattle.std.specs.List.{list_any, position, position_or_len, slice_get}
 use Rattle.std.specs.Prelude.{bytes_eq}
@@ -208,22 +209,6 @@ same_length : (env : Env) → length (each (λ (b : Name × ℕ). b.1) env) ≡ 
 same_length [] = refl
 same_length (b ∷ env) = ap suc (same_length env)
 
-first_false : (a b : Bool) → IsTrue (not a && b) → a ≡ false
-first_false true b h = cc
-first_false false b h = refl
-
-second_true : (a b : Bool) → IsTrue (not a && b) → IsTrue b
-second_true true b h = cc
-second_true false b h = h
-
-neither : (a b : Bool) → a ≡ false → b ≡ false → (a || b) ≡ false
-neither true b h k = h
-neither false b h k = k
-
-or_second : (a b : Bool) → b ≡ true → (a || b) ≡ true
-or_second true b h = refl
-or_second false b h = h
-
 has_first : (y : Name) (ys : List Name) → has_name y (y ∷ ys) ≡ true
 has_first y ys = ap (λ b. b || has_name y ys) ((bytes_eq-Decides y y).1 refl)
 
@@ -240,10 +225,11 @@ Apart known names = (x : Name) → has_name x names ≡ true → list_any (bytes
 distinct_each : (known names : List Name) → IsTrue (are_distinct names) → Apart known names → with_each known names ≡ known ++ names
 distinct_each known [] d apart = sym (append-nil known)
 distinct_each known (y ∷ ys) d apart =
-    let none = first_false (has_name y ys) (are_distinct ys) d in
+    let parts = and_parts (not (has_name y ys)) (are_distinct ys) d in
+    let none = not-true (has_name y ys) parts.0 in
     ap (λ b. with_each (if b then known else known ++ y ∷ []) ys) (apart y (has_first y ys))
-    ∙ distinct_each (known ++ y ∷ []) ys (second_true (has_name y ys) (are_distinct ys) d)
-    (λ x h. any_more x y known ∙ neither (list_any (bytes_eq x) known) (bytes_eq x y) (apart x (or_second (bytes_eq x y) (has_name x ys) h)) (another x y ys (bytes_eq x y) refl none h))
+    ∙ distinct_each (known ++ y ∷ []) ys parts.1
+    (λ x h. any_more x y known ∙ or_from (list_any (bytes_eq x) known) (bytes_eq x y) (apart x (or_right (bytes_eq x y) (has_name x ys) h)) (another x y ys (bytes_eq x y) refl none h))
     ∙ append_assoc known (y ∷ []) ys
 
 pub each_behind : (known xs ys : List Name) → with_each known (xs ++ ys) ≡ with_each (with_each known xs) ys

@@ -1,4 +1,5 @@
 -- What is asked of keys, and what is wanted then.
+use Rattle.std.proofs.Math.Bool.{and-true}
 use Rattle.star_steps.proofs.Names.{◌≡◌, ℕ, zero, suc, ◌/◌, ◌<◌, ◌≤◌, ◌==◌, Bool, true, false, cond, ◌&&◌, List, [], ◌∷◌, Some, Ok, Err, get_or, length, refl, sym, ap, ◌∙◌, arith, subst, ne_eqb, length-map, fault_at, Place, Stop, are_comparable, Gives, state_in, grows_same, Owns, View, value_of, values_of, then_assoc, Computation, Ending, State, done, fail, need, or_fail, paid_by, reads, take_steps, then_do, ◌>>=◌}
 use Rattle.ytt_base.specs.declared.fault.FaultKind.TheVariants as kind
 use Rattle.ytt_base.specs.declared.fault.Stop.TheVariants as stop
@@ -13,13 +14,9 @@ S = State (Unit {0})
 
 -- ---- kinds
 
-and_true : (b : Bool) → b ≡ (b && true)
-and_true true = refl
-and_true false = refl
-
 -- a value and the next one, or itself where there is none
 one_kind_next : (a : View) (v : held.Value) (vs : List held.Value) → are_of_one_kind (values_of a (v ∷ vs)) ≡ (are_comparable (value_of a v) (value_of a (get_or vs 0 v)) && are_of_one_kind (values_of a vs))
-one_kind_next a v [] = and_true (are_comparable (value_of a v) (value_of a v))
+one_kind_next a v [] = sym (and-true (are_comparable (value_of a v) (value_of a v)))
 one_kind_next a v (w ∷ ws) = refl
 
 pub kinds_told : (a : View) (vs more : List held.Value) (v w : held.Value) (told : Bool) → vs ≡ v ∷ more → w ≡ get_or more 0 v → told ≡ are_comparable (value_of a v) (value_of a w) → are_of_one_kind (values_of a vs) ≡ (told && are_of_one_kind (values_of a more))

@@ -1,5 +1,6 @@
 -- The values that the parameters of a call get are what the program holds, where its arguments and its defaults are.
-use Rattle.std.proofs.Common.{◌≡◌, ℕ, zero, suc, Bool, true, false, ◌||◌, if◌then◌else◌, List, [], ◌∷◌, Option, Some, None, refl, bytes_eq}
+use Rattle.std.proofs.Common.{◌≡◌, ℕ, zero, suc, Bool, true, false, if◌then◌else◌, List, [], ◌∷◌, Option, Some, None, refl, bytes_eq}
+use Rattle.std.proofs.lemmas.Bool.{or_from, or_parts}
 use Rattle.ytt_base.specs.declared.fault.FaultKind.TheVariants as kind
 use Rattle.ytt_base.specs.declared.fault.Place.{Place}
 use Rattle.builtin_spec.specs.Binding.{Own, own_in, taking}
@@ -47,34 +48,21 @@ default_held : (o d : Option Value) → IfFound HeldValue o → IfFound HeldValu
 default_held None d h k = k
 default_held (Some v) d h k = h
 
--- what isn't in two isn't in the second, nor in the first
-not_first : (a b : Bool) → (a || b) ≡ false → a ≡ false
-not_first true b e = cc
-not_first false b e = refl
-
-not_second : (a b : Bool) → (a || b) ≡ false → b ≡ false
-not_second true b e = cc
-not_second false b e = e
-
-neither : (a b : Bool) → a ≡ false → b ≡ false → (a || b) ≡ false
-neither true b e f = cc
-neither false b e f = f
-
 still_without : (y x : Name) (fs : Fields) → has_field y fs ≡ false → has_field y (without_field x fs) ≡ false
 still_without y x no_fields e = e
-still_without y x (a_field z v fs) e = by_test (bytes_eq x z) (still_without y x fs (not_second (bytes_eq y z) (has_field y fs) e))
+still_without y x (a_field z v fs) e = by_test (bytes_eq x z) (still_without y x fs (or_parts (bytes_eq y z) (has_field y fs) e).1)
   where
     by_test : (b : Bool) → has_field y (without_field x fs) ≡ false → has_field y (if b then fs else a_field z v (without_field x fs)) ≡ false
-    by_test true g = not_second (bytes_eq y z) (has_field y fs) e
-    by_test false g = neither (bytes_eq y z) (has_field y (without_field x fs)) (not_first (bytes_eq y z) (has_field y fs) e) g
+    by_test true g = (or_parts (bytes_eq y z) (has_field y fs) e).1
+    by_test false g = or_from (bytes_eq y z) (has_field y (without_field x fs)) (or_parts (bytes_eq y z) (has_field y fs) e).0 g
 
 still_once : (x : Name) (fs : Fields) → has_twice fs ≡ false → has_twice (without_field x fs) ≡ false
 still_once x no_fields e = e
-still_once x (a_field z v fs) e = by_test (bytes_eq x z) (still_once x fs (not_second (has_field z fs) (has_twice fs) e))
+still_once x (a_field z v fs) e = by_test (bytes_eq x z) (still_once x fs (or_parts (has_field z fs) (has_twice fs) e).1)
   where
     by_test : (b : Bool) → has_twice (without_field x fs) ≡ false → has_twice (if b then fs else a_field z v (without_field x fs)) ≡ false
-    by_test true g = not_second (has_field z fs) (has_twice fs) e
-    by_test false g = neither (has_field z (without_field x fs)) (has_twice (without_field x fs)) (still_without z x fs (not_first (has_field z fs) (has_twice fs) e)) g
+    by_test true g = (or_parts (has_field z fs) (has_twice fs) e).1
+    by_test false g = or_from (has_field z (without_field x fs)) (has_twice (without_field x fs)) (still_without z x fs (or_parts (has_field z fs) (has_twice fs) e).0) g
 
 bound_held : (ps : Parameters) (ds : List Value) (vs : Values) (fs : Fields) → HeldList ds → HeldValues vs → HeldFields fs → has_twice fs ≡ false → IfFound AllGiven (bound ps ds vs fs)
 bound_held no_parameters ds no_values no_fields d h k e = tt
@@ -101,11 +89,11 @@ arguments_bound ps ds (arguments vs fs) d h = bound_if (has_twice fs) (bound ps 
 
 texts_avoid : (x : Name) (fs : Fields) → has_field x fs ≡ false → has_equal_key (text_value x) (text_pairs fs) ≡ false
 texts_avoid x no_fields e = refl
-texts_avoid x (a_field y v fs) e = neither (bytes_eq x y) (has_equal_key (text_value x) (text_pairs fs)) (not_first (bytes_eq x y) (has_field x fs) e) (texts_avoid x fs (not_second (bytes_eq x y) (has_field x fs) e))
+texts_avoid x (a_field y v fs) e = or_from (bytes_eq x y) (has_equal_key (text_value x) (text_pairs fs)) (or_parts (bytes_eq x y) (has_field x fs) e).0 (texts_avoid x fs (or_parts (bytes_eq x y) (has_field x fs) e).1)
 
 texts_held : (fs : Fields) → HeldFields fs → has_twice fs ≡ false → HeldPairs (text_pairs fs)
 texts_held no_fields h e = tt
-texts_held (a_field x v fs) h e = (h.0, h.1, texts_avoid x fs (not_first (has_field x fs) (has_twice fs) e), texts_held fs h.2 (not_second (has_field x fs) (has_twice fs) e))
+texts_held (a_field x v fs) h e = (h.0, h.1, texts_avoid x fs (or_parts (has_field x fs) (has_twice fs) e).0, texts_held fs h.2 (or_parts (has_field x fs) (has_twice fs) e).1)
 
 given_keeps : {H : Type 0} (g : Given) → HeldGiven g → Keeps {H = H} HeldValue (value_given g)
 given_keeps (given v) h = keeps_give v h

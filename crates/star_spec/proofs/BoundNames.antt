@@ -1,5 +1,6 @@
 -- The names that arguments are bound to, and how many values and boxes there are for them.
 use Rattle.std.proofs.Common.{◌≡◌, ℕ, suc, Bool, true, false, List, [], ◌∷◌, length, Option, Some, None, if◌then◌else◌, refl, sym, ap, ◌∙◌, arith, map as each}
+use Rattle.std.proofs.lemmas.List.{length-map}
 use Rattle.ytt_base.specs.declared.fault.FaultKind.TheVariants as kind
 use Rattle.ytt_base.specs.declared.fault.Place.{Place}
 use Rattle.code_spec.specs.Allowed.{parameter_names}
@@ -49,13 +50,9 @@ once_bound false ps ds vs fs bs h = names_bound ps ds vs fs bs h
 pub all_names_bound : (ps : Parameters) (ds : List Value) (vs : Arguments) (bs : List (Name × Given)) → all_bound ps ds vs ≡ Some bs → given_names bs ≡ parameter_names ps
 all_names_bound ps ds (arguments vs fs) bs h = once_bound (has_twice fs) ps ds vs fs bs h
 
-each_counted : {A B : Type 0} (f : A → B) (xs : List A) → length (each f xs) ≡ length xs
-each_counted f [] = refl
-each_counted f (x ∷ xs) = ap suc (each_counted f xs)
-
 -- each parameter gets something
 pub given_count : (ps : Parameters) (ds : List Value) (vs : Arguments) (bs : List (Name × Given)) → all_bound ps ds vs ≡ Some bs → length bs ≡ length (parameter_names ps)
-given_count ps ds vs bs h = sym (each_counted (λ (b : Name × Given). b.0) bs) ∙ ap length (all_names_bound ps ds vs bs h)
+given_count ps ds vs bs h = sym (length-map bs (λ (b : Name × Given). b.0)) ∙ ap length (all_names_bound ps ds vs bs h)
 
 module _ {H : Type 0} where
   pub same_end : {A : Type 0} (a b : A) (s t : State H) → done a s ≡ done b t → a ≡ b

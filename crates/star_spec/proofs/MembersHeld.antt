@@ -1,5 +1,6 @@
 -- Members of values, pairs of dicts, and new lists and dicts: what is held stays so.
 use Rattle.std.proofs.Common.{◌≡◌, ℤ, Bool, true, false, ◌||◌, if◌then◌else◌, List, [], ◌∷◌, ◌++◌, map, take, drop, remove, slice_get, slice_set, ℕ, zero, suc, Option, Some, None, refl, ap, ◌∙◌}
+use Rattle.std.proofs.lemmas.Bool.{or_parts}
 use Rattle.ytt_base.specs.declared.fault.FaultKind.TheVariants as kind
 use Rattle.ytt_base.specs.declared.fault.Place.{Place}
 use Rattle.code_spec.specs.Options.{further}
@@ -128,10 +129,7 @@ put_pairs_held ps (m ∷ ms) h k = put_pairs_held (put_pair m.0 m.1 ps) ms (put_
 cut_avoids : (x : Value) (ps : List (Value × Value)) (i : ℕ) → has_equal_key x ps ≡ false → has_equal_key x (remove ps i) ≡ false
 cut_avoids x [] zero e = e
 cut_avoids x [] (suc i) e = e
-cut_avoids x (p ∷ ps) zero e = no_second (same_key x p.0) (has_equal_key x ps) e where
-  no_second : (a b : Bool) → (a || b) ≡ false → b ≡ false
-  no_second true b e = cc
-  no_second false b e = e
+cut_avoids x (p ∷ ps) zero e = (or_parts (same_key x p.0) (has_equal_key x ps) e).1
 cut_avoids x (p ∷ ps) (suc i) e = no_either (same_key x p.0) (has_equal_key x ps) (has_equal_key x (remove ps i)) e (cut_avoids x ps i)
 
 pub cut_held : (ps : List (Value × Value)) (i : ℕ) → HeldPairs ps → HeldPairs (remove ps i)

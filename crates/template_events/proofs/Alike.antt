@@ -1,6 +1,6 @@
 -- The rows of items and comments by level are the events, without keys and what is written.
 use Rattle.std.proofs.Common.{◌≡◌, ℕ, suc, List, [], ◌∷◌, Bool, true, false, ◌==◌, ◌&&◌, Option, Some, None, Ok, Err, refl, sym, ap, ◌∙◌, subst, append-nil, map as each, if◌then◌else◌}
-use Rattle.std.proofs.lemmas.Bool.{eqb-true}
+use Rattle.std.proofs.lemmas.Bool.{and_parts, eqb-true}
 use Rattle.ytt_laws.proofs.Yielded.{ok_same}
 use Rattle.ytt_base.specs.declared.fault.Fault.{Fault}
 use Rattle.ytt_base.specs.Outcomes.{Outcome, ◌>>=◌, place_at}
@@ -62,16 +62,12 @@ held_by_level events.nothing = None
 held_by_level (events.held c l) = Some (record { owner = None; comment = c; last = l })
 held_by_level (events.held_trailing p k b c l) = Some (record { owner = Some (owner_at p k b); comment = c; last = l })
 
-both_true : (a b : Bool) → (a && b) ≡ true → (a ≡ true) × (b ≡ true)
-both_true true b e = (refl, e)
-both_true false b e = (cc, cc)
-
 -- the line of the comment that continues one is the one below it
 below_it : (r : CodeReader) (file : ℕ) (c : Comment) (l : ℕ) (d : Comment) → continues_it r file c l d ≡ true → suc l ≡ d.line
 below_it r file c l d e =
     let code : Bool = is_code d.text && (is_code c.text && r.is_open (place_at file c.line) (without_end (code_in c.text))) in
-    let h = both_true d.own_line (d.line == suc l && code) e in
-    let k = both_true (d.line == suc l) code h.1 in
+    let h = and_parts d.own_line (d.line == suc l && code) e in
+    let k = and_parts (d.line == suc l) code h.1 in
     sym (eqb-true d.line (suc l) k.0)
 
 module _ (r : CodeReader) (ignore : Bool) (file : ℕ) where

@@ -1,5 +1,6 @@
 -- Values taken over, and children added, are what the program holds and nest no deeper than they may.
 use Rattle.std.proofs.Common.{◌≡◌, ℕ, zero, suc, ◌-◌, ◌≤◌, Bool, true, false, not, ◌&&◌, ◌||◌, List, [], ◌∷◌, length, Option, Some, None, IsTrue, refl, sym, ap, ◌∙◌, subst, arith, ℤ, pos, negsuc, eqb-true, bytes_eq}
+use Rattle.std.proofs.lemmas.Bool.{and_parts, not-true, or_from, or_parts}
 use Rattle.std.proofs.lemmas.Slice.Eq.{bytes_eq-Decides}
 use Rattle.ytt_base.specs.declared.fault.FaultKind.TheVariants as kind
 use Rattle.ytt_base.specs.declared.fault.Place.{Place}
@@ -43,14 +44,6 @@ keys_of_children no_children = refl
 keys_of_children (a_child (child p ns None b) cs) = keys_of_children cs
 keys_of_children (a_child (child p ns (Some x) b) cs) = ap (λ ks. x ∷ ks) (keys_of_children cs)
 
-first_false : (a b : Bool) → (not a && b) ≡ true → a ≡ false
-first_false true b e = cc
-first_false false b e = refl
-
-second_true : (a b : Bool) → (not a && b) ≡ true → b ≡ true
-second_true true b e = cc
-second_true false b e = e
-
 mutual
   pub body_is_tree : (b : Body) → HeldBody b → IsTree (body_tree b)
   body_is_tree (one t) h = h
@@ -65,7 +58,8 @@ mutual
   pairs_are no_children h e = tt
   pairs_are (a_child (child p ns None b) cs) h e = pairs_are cs h.1 e
   pairs_are (a_child (child p ns (Some x) b) cs) h e =
-      (h.0.0, body_is_tree b h.0.1, ap (has_key x) (keys_of_children cs) ∙ first_false (has_key x (child_keys cs)) (keys_distinct (child_keys cs)) e, pairs_are cs h.1 (second_true (has_key x (child_keys cs)) (keys_distinct (child_keys cs)) e))
+      let parts = and_parts (not (has_key x (child_keys cs))) (keys_distinct (child_keys cs)) e in
+      (h.0.0, body_is_tree b h.0.1, ap (has_key x) (keys_of_children cs) ∙ not-true (has_key x (child_keys cs)) parts.0, pairs_are cs h.1 parts.1)
 
 -- ---- what is paid for is no deeper than the levels left
 
@@ -135,25 +129,13 @@ KeysAre [] [] = Unit {0}
 KeysAre (m ∷ ms) (k ∷ ks) = (m.0 ≡ value_of_scalar k) × KeysAre ms ks
 KeysAre _ _ = ⊥
 
-neither : (a b : Bool) → a ≡ false → b ≡ false → (a || b) ≡ false
-neither true b e f = cc
-neither false b e f = f
-
-not_first : (a b : Bool) → (a || b) ≡ false → a ≡ false
-not_first true b e = cc
-not_first false b e = refl
-
-not_second : (a b : Bool) → (a || b) ≡ false → b ≡ false
-not_second true b e = cc
-not_second false b e = e
-
 keys_avoid : (x : Scalar) (ms : List (Value × Value)) (ks : List Scalar) → KeysAre ms ks → has_equal_key (value_of_scalar x) ms ≡ false → has_key x ks ≡ false
 keys_avoid x [] [] h e = refl
 keys_avoid x [] (k ∷ ks) h e = absurd h
 keys_avoid x (m ∷ ms) [] h e = absurd h
 keys_avoid x (m ∷ ms) (k ∷ ks) h e =
-    neither (same_key x k) (has_key x ks) (sym (ap (value_keys.same_key (value_of_scalar x)) h.0 ∙ same_scalars x k) ∙ not_first (value_keys.same_key (value_of_scalar x) m.0) (has_equal_key (value_of_scalar x) ms) e)
-    (keys_avoid x ms ks h.1 (not_second (value_keys.same_key (value_of_scalar x) m.0) (has_equal_key (value_of_scalar x) ms) e))
+    or_from (same_key x k) (has_key x ks) (sym (ap (value_keys.same_key (value_of_scalar x)) h.0 ∙ same_scalars x k) ∙ (or_parts (value_keys.same_key (value_of_scalar x) m.0) (has_equal_key (value_of_scalar x) ms) e).0)
+    (keys_avoid x ms ks h.1 (or_parts (value_keys.same_key (value_of_scalar x) m.0) (has_equal_key (value_of_scalar x) ms) e).1)
 
 -- ---- conversion
 
@@ -179,12 +161,13 @@ map_keeps n ms m h = keeps_then h (λ ps a. let low = a.2 in keeps_give (map ps)
 
 names_avoid : (x : Name) (fs : Fields) → has_name x (field_names fs) ≡ false → has_equal_key (text_value x) (with_text_keys (fields_in fs)) ≡ false
 names_avoid x no_fields e = refl
-names_avoid x (a_field y v fs) e = neither (bytes_eq x y) (has_equal_key (text_value x) (with_text_keys (fields_in fs))) (not_first (bytes_eq x y) (has_name x (field_names fs)) e) (names_avoid x fs (not_second (bytes_eq x y) (has_name x (field_names fs)) e))
+names_avoid x (a_field y v fs) e = or_from (bytes_eq x y) (has_equal_key (text_value x) (with_text_keys (fields_in fs))) (or_parts (bytes_eq x y) (has_name x (field_names fs)) e).0 (names_avoid x fs (or_parts (bytes_eq x y) (has_name x (field_names fs)) e).1)
 
 fields_held : (fs : Fields) → HeldFields fs → IsTrue (are_distinct (field_names fs)) → HeldPairs (with_text_keys (fields_in fs))
 fields_held no_fields h e = tt
 fields_held (a_field x v fs) h e =
-    (h.0, h.1, names_avoid x fs (first_false (has_name x (field_names fs)) (are_distinct (field_names fs)) e), fields_held fs h.2 (second_true (has_name x (field_names fs)) (are_distinct (field_names fs)) e))
+    let parts = and_parts (not (has_name x (field_names fs))) (are_distinct (field_names fs)) e in
+    (h.0, h.1, names_avoid x fs (not-true (has_name x (field_names fs)) parts.0), fields_held fs h.2 parts.1)
 
 object_keeps : {H : Type 0} (n : ℕ) (convert : Value → Computation H Tree) (p : Place) (o : Option Object) → ((v : Value) → HeldValue v → Keeps (IsLow n) (convert v)) → HeldIfThere o → Keeps (IsLow (suc n)) (object_tree convert p o)
 object_keeps n convert p None k h = keeps_fail kind.NotYaml p []
@@ -352,16 +335,18 @@ distinct false c e f = f
 
 child_added : {H : Type 0} (m : ℕ) (cs : Children) (p : Place) (ns : BuiltNotes) (x : Option Scalar) (b : Body) → Good m cs → HeldKey x → HeldBody b → depth (body_tree b) ≤ m → Keeps {H = H} (Added m x cs) (add_child cs (child p ns x b))
 child_added m no_children p ns None b g k h l = keeps_give _ (record { good = (((tt, h), tt), (l, tt), refl); avoids = λ y e f. refl })
-child_added m no_children p ns (Some x) b g k h l = keeps_give _ (record { good = (((k, h), tt), (l, tt), refl); avoids = λ y e f. neither (same_key y x) false f refl })
+child_added m no_children p ns (Some x) b g k h l = keeps_give _ (record { good = (((k, h), tt), (l, tt), refl); avoids = λ y e f. or_from (same_key y x) false f refl })
 child_added m (a_child (child q ms None d) cs) p ns x b g k h l =
     keeps_then (child_added m cs p ns x b (g.0.1, g.1.1, g.2) k h l) (λ all a. keeps_give _ (record { good = ((g.0.0, a.good.0), (g.1.0, a.good.1), a.good.2); avoids = a.avoids }))
 child_added m (a_child (child q ms (Some y) d) cs) p ns None b g k h l =
-    let fresh = first_false (has_key y (child_keys cs)) (keys_distinct (child_keys cs)) g.2 in
-    keeps_then (child_added m cs p ns None b (g.0.1, g.1.1, second_true (has_key y (child_keys cs)) (keys_distinct (child_keys cs)) g.2) k h l)
-    (λ all a. keeps_give _ (record { good = ((g.0.0, a.good.0), (g.1.0, a.good.1), distinct (has_key y (child_keys all)) (keys_distinct (child_keys all)) (a.avoids y fresh refl) a.good.2); avoids = λ z e f. neither (same_key z y) (has_key z (child_keys all)) (not_first (same_key z y) (has_key z (child_keys cs)) e) (a.avoids z (not_second (same_key z y) (has_key z (child_keys cs)) e) f) }))
+    let parts = and_parts (not (has_key y (child_keys cs))) (keys_distinct (child_keys cs)) g.2 in
+    let fresh = not-true (has_key y (child_keys cs)) parts.0 in
+    keeps_then (child_added m cs p ns None b (g.0.1, g.1.1, parts.1) k h l)
+    (λ all a. keeps_give _ (record { good = ((g.0.0, a.good.0), (g.1.0, a.good.1), distinct (has_key y (child_keys all)) (keys_distinct (child_keys all)) (a.avoids y fresh refl) a.good.2); avoids = λ z e f. or_from (same_key z y) (has_key z (child_keys all)) (or_parts (same_key z y) (has_key z (child_keys cs)) e).0 (a.avoids z (or_parts (same_key z y) (has_key z (child_keys cs)) e).1 f) }))
 child_added m (a_child (child q ms (Some y) d) cs) p ns (Some x) b g k h l =
-    let fresh = first_false (has_key y (child_keys cs)) (keys_distinct (child_keys cs)) g.2 in
-    let once = second_true (has_key y (child_keys cs)) (keys_distinct (child_keys cs)) g.2 in
+    let parts = and_parts (not (has_key y (child_keys cs))) (keys_distinct (child_keys cs)) g.2 in
+    let fresh = not-true (has_key y (child_keys cs)) parts.0 in
+    let once = parts.1 in
     keeps_if (same_key y x)
     (λ e. let same = keys_same y x e in keeps_if (overrides ns)
     (λ i. keeps_give _ (record {
@@ -372,7 +357,7 @@ child_added m (a_child (child q ms (Some y) d) cs) p ns (Some x) b g k h l =
     (λ e. keeps_then (child_added m cs p ns (Some x) b (g.0.1, g.1.1, once) k h l)
     (λ all a. keeps_give _ (record {
       good = ((g.0.0, a.good.0), (g.1.0, a.good.1), distinct (has_key y (child_keys all)) (keys_distinct (child_keys all)) (a.avoids y fresh e) a.good.2);
-      avoids = λ z f j. neither (same_key z y) (has_key z (child_keys all)) (not_first (same_key z y) (has_key z (child_keys cs)) f) (a.avoids z (not_second (same_key z y) (has_key z (child_keys cs)) f) j);
+      avoids = λ z f j. or_from (same_key z y) (has_key z (child_keys all)) (or_parts (same_key z y) (has_key z (child_keys cs)) f).0 (a.avoids z (or_parts (same_key z y) (has_key z (child_keys cs)) f).1 j);
     })))
 
 one_added : {H : Type 0} (m : ℕ) (cs : Children) (c : Child) → Good m cs → HeldChild c → AreLow m (a_child c no_children) → Keeps {H = H} (Good m) (add_child cs c)

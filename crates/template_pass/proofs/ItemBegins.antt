@@ -1,6 +1,7 @@
 -- The stack of levels behind the beginning of an item.
 use Rattle.std.proofs.Common.{◌≡◌, ℕ, zero, suc, ◌≤◌, Bool, true, false, not, ◌&&◌, if◌then◌else◌, List, [], ◌∷◌, ◌++◌, length, get_or, map as each, bytes_eq, Option, Some, None, refl, sym, ◌∙◌, ap, subst, arith}
 use Rattle.std.specs.Bool.{IsTrue}
+use Rattle.std.proofs.lemmas.Bool.{not-false}
 use Rattle.std.proofs.lemmas.Bool.Decides.{Decides-like, same_from_decides, nat_tests}
 use Rattle.std.proofs.lemmas.Slice.Eq.{bytes_eq-Decides}
 use Rattle.code_spec.specs.Program.{ItemKind}
@@ -94,11 +95,7 @@ told past p x (Some q) h c =
     record { stays = stays_over p q x new i; level = λ e. over_by_level p q x new i h.0 h.1 h.2 (lain p x (when_kept e)) }
   where
     when_kept : not (lies_in p x) ≡ false → lies_in p x ≡ true
-    when_kept e = by_test (lies_in p x) e
-      where
-        by_test : (b : Bool) → not b ≡ false → b ≡ true
-        by_test true e = refl
-        by_test false e = cc
+    when_kept e = not-false (lies_in p x) e
 
 either : (t s : Bool) (bs cs : List Block) (b : Block) → t ≡ s → bs ≡ cs → (if t then bs else b ∷ bs) ≡ (if s then cs else b ∷ cs)
 either true true bs cs b e h = h

@@ -1,6 +1,7 @@
 -- Where each `end` stands in no item of its block, what stands outside every block is in no item of a block.
 use Rattle.std.proofs.Common.{◌≡◌, ℕ, suc, ◌<◌, ◌≤◌, Bool, true, false, not, ◌&&◌, ◌||◌, if◌then◌else◌, is_some, List, [], ◌∷◌, length, drop, bytes_eq, Option, Some, None, ◌⊎◌, inl, inr, refl, sym, ◌∙◌, ap, subst, arith}
 use Rattle.std.specs.Bool.{IsTrue}
+use Rattle.std.proofs.lemmas.Bool.{or_left, or_right}
 use Rattle.ytt_base.specs.declared.fault.FaultKind.TheVariants as kind
 use Rattle.code_spec.specs.Code.{load, return}
 use Rattle.code_spec.specs.Program.{ItemKind, Instruction, statement}
@@ -23,7 +24,7 @@ use Rattle.template_pass.proofs.Paths.{In, in_by_length, in_collection, in_itsel
 use Rattle.template_pass.proofs.Standing.{none_true, belongs_lies, coming_next, standing_step}
 use Rattle.template_placed.proofs.StillPlaced.{Fine, behind_begins, behind_closes, behind_otherwise, fine_begins, fine_said, ones_open, then_said}
 use Rattle.template_pass.proofs.Unclosed.{flagged, OfOne, Ones, with_else}
-use Rattle.template_placed.proofs.WordsPlaced.{both_none, or_left, or_right}
+use Rattle.template_placed.proofs.WordsPlaced.{both_none}
 
 -- ---- a collection in an item of a block that is open
 

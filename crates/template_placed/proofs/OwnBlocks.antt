@@ -1,7 +1,7 @@
 -- The open blocks of one collection, and what holds of open blocks as long as nothing is wrong.
 use Rattle.std.proofs.Common.{◌≡◌, ℕ, suc, ◌<◌, ◌≤◌, Bool, true, false, not, ◌&&◌, if◌then◌else◌, is_some, List, [], ◌∷◌, length, bytes_eq, Option, Some, None, ◌⊎◌, inl, inr, refl, sym, ◌∙◌, ap, subst, arith}
 use Rattle.std.specs.Bool.{IsTrue}
-use Rattle.std.proofs.lemmas.Bool.{cases_lt}
+use Rattle.std.proofs.lemmas.Bool.{cases_lt, not-false}
 use Rattle.code_spec.specs.CodeReading.{Header, if_header, elif_header, else_header, for_header, def_header, end_header}
 use Rattle.template_spec.specs.Events.{Path, Event}
 use Rattle.template_spec.specs.Misplaced.{is_def, is_for, innermost_def, innermost_loop, is_collection_of, is_waiting, stays_within, holder_in}
@@ -166,11 +166,7 @@ module _ (q : Path) (past : List Event) (p : Path) (coming : Coming q past (Some
   not_here b0 bs0 d o n e over h = by (lies_in (collection_of p) b0.collection) refl h
     where
       kept_in : not (lies_in p o) ≡ false → IsTrue (lies_in p o)
-      kept_in f = by_test (lies_in p o) f
-        where
-          by_test : (b : Bool) → not b ≡ false → b ≡ true
-          by_test true g = refl
-          by_test false g = cc g
+      kept_in f = not-false (lies_in p o) f
 
       within : In (collection_of p) o
       within = collection_in p o (is_new past o p n coming.1) (lain p o (kept_in over))

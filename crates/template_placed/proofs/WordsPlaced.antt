@@ -1,7 +1,7 @@
 -- Where placing finds nothing wrong, and each `return` and `load` is clear of items of blocks, each statement stands where it may.
 use Rattle.std.proofs.Common.{◌≡◌, ℕ, suc, ◌<◌, ◌≤◌, Bool, true, false, not, ◌&&◌, ◌||◌, if◌then◌else◌, is_some, List, [], ◌∷◌, length, drop, bytes_eq, Option, Some, None, ◌⊎◌, inl, inr, refl, sym, ◌∙◌, ap, subst, arith}
 use Rattle.std.specs.Bool.{IsTrue}
-use Rattle.std.proofs.lemmas.Bool.{cases_lt}
+use Rattle.std.proofs.lemmas.Bool.{cases_lt, or_left, or_right}
 use Rattle.ytt_base.specs.declared.fault.Place.{Place}
 use Rattle.code_spec.specs.Code.{Expr, Statement, load, return, break, continue}
 use Rattle.code_spec.specs.CodeReading.{Header}
@@ -135,14 +135,6 @@ content_stands holders v file a_list ps h = checked_stands holders (in_a_node v)
 belongs_begun : (bs : List Block) (p : Path) → IsTrue (stays_within bs p) → belongs bs (Some p) ≡ collection_of p
 belongs_begun [] p h = refl
 belongs_begun (b ∷ bs) p h = ap (λ (t : Bool). if t then collection_of p else b.collection) h
-
-pub or_left : (a b : Bool) → IsTrue a → IsTrue (a || b)
-or_left true b h = refl
-or_left false b h = cc h
-
-pub or_right : (a b : Bool) → IsTrue b → IsTrue (a || b)
-or_right true b h = refl
-or_right false b h = h
 
 in_block_below : (p c : Path) (past : List Event) → In p c → IsTrue (is_in_block c past) → IsTrue (is_in_block p past)
 in_block_below p c [] i h = h

@@ -1,5 +1,6 @@
 -- Where the program of a template is well nested, the control words of the template stand where they may.
 use Rattle.std.proofs.Common.{◌≡◌, List, [], ◌∷◌, Bool, true, false, IsTrue, refl, sym, ◌∙◌, subst}
+use Rattle.std.proofs.lemmas.Bool.{both_ways}
 use Rattle.ytt_base.specs.declared.fault.Place.{Place}
 use Rattle.code_spec.specs.Code.{Statement, evaluate, assign, augment, load, return, break, continue, pass}
 use Rattle.code_spec.specs.Program.{ItemKind, document_item, pair_item, element_item, Holds, holds_one, holds_map, holds_list, holds_void, node_end}
@@ -18,12 +19,9 @@ Agree free v = Unit {0}
 Agree in_loop v = v.may_return ≡ false
 Agree in_node v = (v.may_return ≡ false) × (v.may_break ≡ false)
 
-no_both : (b : Bool) → b ≡ false → b ≡ true → ⊥
-no_both b e f = cc
-
 may_stand : (a : Around) (v : Ways) (s : Statement) → Agree a v → IsTrue (stands v s) → MayStand a s
 may_stand free v s h g = tt
-may_stand in_loop v (return p e) h g = no_both v.may_return h g
+may_stand in_loop v (return p e) h g = both_ways v.may_return h g
 may_stand in_loop v (evaluate p e) h g = tt
 may_stand in_loop v (assign p x e) h g = tt
 may_stand in_loop v (augment p o q x e) h g = tt
@@ -31,9 +29,9 @@ may_stand in_loop v (load p path xs) h g = tt
 may_stand in_loop v (break p) h g = tt
 may_stand in_loop v (continue p) h g = tt
 may_stand in_loop v (pass p) h g = tt
-may_stand in_node v (return p e) h g = no_both v.may_return h.0 g
-may_stand in_node v (break p) h g = no_both v.may_break h.1 g
-may_stand in_node v (continue p) h g = no_both v.may_break h.1 g
+may_stand in_node v (return p e) h g = both_ways v.may_return h.0 g
+may_stand in_node v (break p) h g = both_ways v.may_break h.1 g
+may_stand in_node v (continue p) h g = both_ways v.may_break h.1 g
 may_stand in_node v (evaluate p e) h g = tt
 may_stand in_node v (assign p x e) h g = tt
 may_stand in_node v (augment p o q x e) h g = tt

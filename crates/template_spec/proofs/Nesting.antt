@@ -1,5 +1,6 @@
 -- The program of a placed template is well nested.
 use Rattle.std.proofs.Common.{◌≡◌, List, [], ◌∷◌, Some, None, Bool, true, false, ◌||◌, ◌&&◌, not, if◌then◌else◌, IsTrue, refl, sym, ap, ◌∙◌, subst}
+use Rattle.std.proofs.lemmas.Bool.{or_left, or_right}
 use Rattle.ytt_base.specs.declared.fault.Place.{Place}
 use Rattle.code_spec.specs.Program.{ItemKind, document_item, pair_item, element_item, Holds, holds_one, holds_map, holds_list, holds_void, node_end, Instruction, same_kind}
 use Rattle.code_spec.specs.Blocks.{op_part, Ops, no_ops, an_op, blocks}
@@ -23,14 +24,6 @@ past_past (place_of k) = refl
 pub record Fine (s : Stage) (kind : ItemKind) (has_any : Bool) : Type 0 where
   pub open_here : is_open s ≡ true
   pub fit : has_any ≡ true → inner_kind s ≡ Some kind
-
-or_left : (a b : Bool) → a ≡ true → (a || b) ≡ true
-or_left true b e = refl
-or_left false b e = cc
-
-or_right : (a b : Bool) → b ≡ true → (a || b) ≡ true
-or_right true b e = refl
-or_right false b e = e
 
 fine_left : (s : Stage) (kind : ItemKind) (a b : Bool) → Fine s kind (a || b) → Fine s kind a
 fine_left s kind a b f = record { open_here = f.open_here; fit = λ e. f.fit (or_left a b e) }

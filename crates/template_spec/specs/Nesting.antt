@@ -159,7 +159,8 @@ abbrev pub value_or : Option Expr → Content → Content
 value_or None c = c
 value_or (Some e) c = value_from e
 
--- the scalar that a noted scalar is
+-- the scalar that a noted scalar is; of a list or a map it would be null, but none is asked for here, since all that is
+-- read as a noted scalar is a scalar
 abbrev pub scalar_of : Tree → Scalar
 scalar_of (scalar s) = s
 scalar_of t = null

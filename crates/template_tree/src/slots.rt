@@ -161,7 +161,8 @@ fn cut(alloc: Global, slots: &mut Vec<Slot>, level: usize) -> Slot
 
 // ---- items
 
-/// The scalar that a noted scalar is.
+/// The scalar that a noted scalar is. Of a list or a map it would be null, but all that is read as a noted scalar
+/// is a scalar.
 #[tactic(auto, using(ytt_base::proofs::Views::views))]
 fn scalar_of(tree: Tree) -> Key
     ensures { key_of result ≡ nesting.scalar_of (tree_of tree) }

@@ -6,8 +6,9 @@ use Rattle.std.specs.Str.Pattern.{FindsText, LacksTextAt, RFindsText, SplitsArou
 use Rattle.memchr.specs.Find.{FindsLastNeedle, FindsNeedle, OccursAt}
 use Rattle.memchr.proofs.lemmas.MatchLemmas.{OccursAt-from_part, OccursAt-split}
 use Rattle.operator_spec.specs.Operators.{begins_with}
+use Rattle.operator_spec.proofs.Fronts.{begins}
 use Rattle.text_spec.specs.Places.{first_place, last_place}
-use Rattle.text_pieces.proofs.Fronts.{begins, lacks}
+use Rattle.text_pieces.proofs.Fronts.{lacks}
 use Rattle.text_pieces.specs.Texts.{Parts, StandAround}
 
 -- ---- over plain lists

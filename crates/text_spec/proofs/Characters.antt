@@ -1,9 +1,9 @@
 -- Going through a text in UTF-8 character by character, and what goes through it byte by byte.
 use Rattle.std.proofs.Common.{◌≡◌, ℕ, zero, suc, ◌<◌, ◌≤◌, true, false, Bool, cond, if◌then◌else◌, List, [], ◌∷◌, ◌++◌, IsUtf8, refl, sym, ap, subst, arith, rules, ◌∙◌}
 use Rattle.std.specs.Prelude.{nat_lt}
-use Rattle.std.proofs.lemmas.Bool.{and_parts, lt-ltb, le-ltb, ltb-false, ltb-true}
+use Rattle.std.proofs.lemmas.Bool.{and_parts, le-ltb, ltb-false, ltb-true}
 use Rattle.std.proofs.lemmas.Bool.Decides.{nat_tests}
-use Rattle.std.proofs.lemmas.Str.{IsUtf8-append, IsUtf8-encode, IsUtf8-from_ascii, IsUtf8-nil}
+use Rattle.std.proofs.lemmas.Str.{encode_ascii, IsUtf8-append, IsUtf8-encode, IsUtf8-from_ascii, IsUtf8-nil}
 use Rattle.std.proofs.lemmas.Str.Ascii.{IsAscii-cons, IsAscii-nil}
 use lib.Utf8.{encode, encodes, scalars, scalar}
 use Rattle.index_spec.specs.Index.{is_inner}
@@ -40,10 +40,6 @@ encode_high c h =
     (high_if (nat_lt c 65536) _ _ (high _ _ (omega arith) (omega arith, omega arith, (omega arith, omega arith, tt)))
     (high _ _ (omega arith) (omega arith, omega arith, (omega arith, omega arith, (omega arith, omega arith, tt))))))
 
-encode_low : (c : ℕ) → c < 128 → encode c ≡ c ∷ []
-unfolding encode
-encode_low c h = rw (lt-ltb c 128 h) refl
-
 -- what holds of the rest of a text holds with a byte of ASCII, and with another character, before it
 module _ (P : List ℕ → Type 0) (none : P []) (low : (b : ℕ) (t : List ℕ) → b < 128 → IsUtf8 t → P t → P (b ∷ t)) (past : (c : List ℕ) (t : List ℕ) → IsHigh c → IsUtf8 c → IsUtf8 t → P t → P (c ++ t)) where
   by_scalars : (cs : List ℕ) → scalars cs ≡ true → P (encodes cs)
@@ -52,7 +48,7 @@ module _ (P : List ℕ → Type 0) (none : P []) (low : (b : ℕ) (t : List ℕ)
       let p = and_parts (scalar c) (scalars cs) s in
       by (by_scalars cs p.1) p.0 p.1 (nat_lt c 128) refl where
         by : P (encodes cs) → scalar c ≡ true → scalars cs ≡ true → (h : Bool) → nat_lt c 128 ≡ h → P (encode c ++ encodes cs)
-        by more s r true e = rw (encode_low c (ltb-true c 128 e)) (low c (encodes cs) (ltb-true c 128 e) (cs, (r, refl)) more)
+        by more s r true e = rw (encode_ascii c (ltb-true c 128 e)) (low c (encodes cs) (ltb-true c 128 e) (cs, (r, refl)) more)
         by more s r false e = past (encode c) (encodes cs) (encode_high c (ltb-false c 128 e)) (IsUtf8-encode c s) (cs, (r, refl)) more
 
   pub each_character : (t : List ℕ) → IsUtf8 t → P t

@@ -1,22 +1,13 @@
 -- A text in UTF-8 is cut into such where another one occurs.
-use Rattle.std.proofs.Common.{◌≡◌, ℕ, zero, suc, ◌+◌, ◌<◌, ◌≤◌, true, false, Bool, if◌then◌else◌, ◌==◌, List, [], ◌∷◌, ◌++◌, length, take, drop, Option, Some, None, IsUtf8, refl, sym, ap, subst, arith, ◌∙◌}
-use Rattle.std.proofs.lemmas.Bool.{and_parts, eqb-true}
+use Rattle.std.proofs.Common.{◌≡◌, ℕ, zero, suc, ◌+◌, ◌<◌, ◌≤◌, true, false, Bool, if◌then◌else◌, List, [], ◌∷◌, ◌++◌, length, take, drop, Option, Some, None, IsUtf8, refl, sym, ap, subst, arith, ◌∙◌}
 use Rattle.std.proofs.lemmas.List.{drop-drop, length-append}
 use Rattle.std.proofs.lemmas.Str.{IsCharBoundary-from_take, IsCharBoundary-start, IsUtf8-drop, IsUtf8-take}
 use Rattle.std.proofs.Math.Seq.{drop-append_seam, get_or-append_seam, take-append_seam}
 use Rattle.std.specs.Str.{IsCharBoundary}
 use Rattle.code_spec.specs.Options.{further, or_else}
 use Rattle.operator_spec.specs.Operators.{begins_with}
+use Rattle.operator_spec.proofs.Fronts.{begins_is}
 use Rattle.text_spec.specs.Places.{first_place, last_place}
-
--- ---- where it occurs
-
-pub begins_is : (x t : List ℕ) → begins_with x t ≡ true → t ≡ x ++ drop (length x) t
-begins_is [] t h = refl
-begins_is (a ∷ x) [] h = cc
-begins_is (a ∷ x) (b ∷ t) h =
-    let p = and_parts (a == b) (begins_with x t) h in
-    λ i. sym (eqb-true a b p.0) i ∷ begins_is x t p.1 i
 
 -- ---- the sides of a text that isn't empty
 

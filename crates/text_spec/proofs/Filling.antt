@@ -1,5 +1,6 @@
 -- How `%` and `format` go on behind a run of bytes that stand for themselves, and behind what was filled.
 use Rattle.std.proofs.Common.{◌≡◌, ℕ, zero, suc, ◌+◌, ◌/◌, ◌%◌, ◌<◌, ◌==◌, ◌||◌, Bool, true, false, cond, not, if◌then◌else◌, List, [], ◌∷◌, ◌++◌, length, take, drop, Some, None, refl, sym, ap, arith, append_assoc, ◌∙◌}
+use Rattle.std.proofs.lemmas.Bool.{not-true}
 use Rattle.std.proofs.lemmas.List.{append-nil}
 use Rattle.std.specs.Fmt.{digit_glyph, digits, digits_onto}
 use Rattle.std.specs.List.{after_first, before_first, position_or_len}
@@ -68,13 +69,9 @@ is_plain b = not (b == 37)
 abbrev pub is_no_brace : ℕ → Bool
 is_no_brace b = not (b == 123 || b == 125)
 
-is_false : (h : Bool) → not h ≡ true → h ≡ false
-is_false true e = cc
-is_false false e = refl
-
 pub one_filled : {H : Type 0} (p : Place) (b : ℕ) (t : List ℕ) (vs : List Value) → is_plain b ≡ true → filled {H = H} p (b ∷ t) vs ≡ text_before (b ∷ []) (filled p t vs)
-one_filled {H = H} p b [] vs h = ap (λ k. if k then fail kind.ValueKind p else text_before {H = H} (b ∷ []) (at_end p vs)) (is_false (b == 37) h)
-one_filled {H = H} p b (c ∷ t) vs h = ap (λ k. if k then by_conversion p (conversion_of c) vs (filled p t) else text_before {H = H} (b ∷ []) (filled p (c ∷ t) vs)) (is_false (b == 37) h)
+one_filled {H = H} p b [] vs h = ap (λ k. if k then fail kind.ValueKind p else text_before {H = H} (b ∷ []) (at_end p vs)) (not-true (b == 37) h)
+one_filled {H = H} p b (c ∷ t) vs h = ap (λ k. if k then by_conversion p (conversion_of c) vs (filled p t) else text_before {H = H} (b ∷ []) (filled p (c ∷ t) vs)) (not-true (b == 37) h)
 
 pub run_filled : {H : Type 0} (p : Place) (a t : List ℕ) (vs : List Value) (made : List ℕ) (s : State H) → AllPass is_plain a → onto made (filled p (a ++ t) vs) s ≡ onto (made ++ a) (filled p t vs) s
 run_filled p [] t vs made s h = ap (λ m. onto m (filled p t vs) s) (sym (append-nil made))
@@ -95,7 +92,7 @@ module _ {H : Type 0} (p : Place) (vs : Values) (fs : Fields) where
   pub one_formatted : (met : Met) (b : ℕ) (t : List ℕ) → is_no_brace b ≡ true → formatted {H = H} p vs fs met 0 (b ∷ t) ≡ text_before (b ∷ []) (formatted p vs fs met 0 t)
   one_formatted met b t h =
       ap (λ k. if k then (if begins b t then text_before {H = H} (b ∷ []) (formatted p vs fs met 1 t) else if b == 125 then fail kind.ValueKind p else opened p vs fs met (cut_at 125 t) (λ m k. formatted p vs fs m k t)) else text_before (b ∷ []) (formatted p vs fs met 0 t))
-      (is_false (b == 123 || b == 125) h)
+      (not-true (b == 123 || b == 125) h)
 
   pub run_formatted : (met : Met) (a t made : List ℕ) (s : State H) → AllPass is_no_brace a → onto made (formatted p vs fs met 0 (a ++ t)) s ≡ onto (made ++ a) (formatted p vs fs met 0 t) s
   run_formatted met [] t made s h = ap (λ m. onto m (formatted p vs fs met 0 t) s) (sym (append-nil made))

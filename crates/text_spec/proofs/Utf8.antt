@@ -9,7 +9,9 @@ use Rattle.operator_spec.specs.Operators.{begins_with}
 use Rattle.text_spec.specs.Classes.{behind, front, is_space}
 use Rattle.text_spec.specs.Cutting.{cut_back, cut_front, cut_once, cut_once_back, first_in, joined_by, is_word, last_in, more_joined, pieces, pieces_back, each_reversed, end_length, is_line_byte, line_with, lines, strip_back, strip_front, without_prefix, without_suffix, words, words_at, words_back}
 use Rattle.text_spec.specs.Places.{ends_with, first_place, last_place}
-use Rattle.text_spec.proofs.Cuts.{around_utf8, begins_is, behind_utf8, first_is, last_is, sides_utf8}
+use Rattle.operator_spec.proofs.Fronts.{begins_is}
+use Rattle.text_spec.proofs.Cuts.{around_utf8, behind_utf8, first_is, last_is, sides_utf8}
+use Rattle.text_spec.proofs.Ends.{ends_is}
 
 abbrev pub AreUtf8 : List (List ℕ) → Type 0
 AreUtf8 [] = Unit {0}
@@ -209,19 +211,6 @@ strip_front_utf8 (suc n) cs t u w = by (strip_front_utf8 n cs) (first_in cs t) r
 before_utf8 : (a c : List ℕ) → IsUtf8 c → IsUtf8 (a ++ c) → IsUtf8 a
 before_utf8 a [] u w = subst IsUtf8 (append-nil a) w
 before_utf8 a (x ∷ c) u w = (sides_utf8 a (x ∷ c) [] u (search (rules, arith)) (subst IsUtf8 (ap (λ b. a ++ b) (sym (append-nil (x ∷ c)))) w)).0
-
--- what stands before an end
-front_of : (a c t : List ℕ) → t ≡ a ++ c → take (length t - length c) t ≡ a
-front_of a c t e =
-    ap (λ s. take (length s - length c) s) e
-    ∙ ap (λ n. take n (a ++ c)) (grind (arith, length-append a c))
-    ∙ take-append_seam a c
-
-ends_is : (c t : List ℕ) → ends_with c t ≡ true → t ≡ take (length t - length c) t ++ c
-ends_is c t h =
-    let back = drop (length (reverse c)) (reverse t) in
-    let parts : t ≡ reverse back ++ c = sym (reverse-reverse t) ∙ ap reverse (begins_is (reverse c) (reverse t) h) ∙ reverse-append (reverse c) back ∙ ap (λ x. reverse back ++ x) (reverse-reverse c) in
-    parts ∙ ap (λ x. x ++ c) (sym (front_of (reverse back) c t parts))
 
 last_cut : (cs : List (List ℕ)) (t : List ℕ) → AreUtf8 cs → IsUtf8 t → (k : ℕ) → last_in cs t ≡ Some k → IsUtf8 (take (length t - k) t)
 last_cut [] t u w k e = cc

@@ -1,40 +1,19 @@
 -- What is stripped off an end, one after another.
-use Rattle.std.proofs.Common.{◌≡◌, ℕ, zero, suc, ◌-◌, ◌<◌, ◌≤◌, Bool, true, false, ◌==◌, ◌&&◌, List, [], ◌∷◌, ◌++◌, length, reverse, take, drop, Option, Some, None, option_map, MatchOption, if◌then◌else◌, refl, sym, ap, ◌∙◌, arith}
-use Rattle.std.proofs.lemmas.Bool.{and_parts, eq-eqb, eqb-true}
-use Rattle.std.proofs.lemmas.List.{reverse-append, reverse-reverse}
+use Rattle.std.proofs.Common.{◌≡◌, ℕ, zero, suc, ◌-◌, ◌<◌, ◌≤◌, Bool, true, false, List, [], ◌∷◌, length, take, drop, Option, Some, None, option_map, MatchOption, if◌then◌else◌, refl, sym, ap, ◌∙◌, arith}
 use Rattle.std.specs.Borrow.{Bor}
 use Rattle.std.specs.Str.Pattern.{FindsTextPrefix, FindsTextSuffix, StripsPrefix, StripsSuffix}
 use Rattle.index_spec.specs.Index.{is_inner}
 use Rattle.operator_spec.specs.Operators.{begins_with}
+use Rattle.operator_spec.proofs.Fronts.{begins, begins_is}
 use Rattle.text_spec.specs.Classes.{characters, to_front}
 use Rattle.text_spec.specs.Cutting.{cut_back, cut_front, first_in, last_in, strip_back, strip_front}
 use Rattle.text_spec.specs.Places.{ends_with}
+use Rattle.text_spec.proofs.Ends.{ends, ends_is}
 use Rattle.text_words.specs.declared.runs.End.{End}
 use Rattle.text_words.specs.declared.runs.End.TheVariants.{Front, Back}
 use Rattle.text_words.specs.Strips.{AreFull, cut_at, cut_one, strip_at}
 
 -- ---- one text at an end
-
--- what begins with a text is that text and a rest
-rest_of : (x t : List ℕ) → begins_with x t ≡ true → (b : List ℕ) × (t ≡ x ++ b)
-rest_of [] t h = (t, refl)
-rest_of (x ∷ xs) [] h = cc
-rest_of (x ∷ xs) (b ∷ t) h =
-    let p = and_parts (x == b) (begins_with xs t) h in
-    let more = rest_of xs t p.1 in
-    (more.0, (λ i. sym (eqb-true x b p.0) i ∷ more.1 i))
-
-begins : (x b : List ℕ) → begins_with x (x ++ b) ≡ true
-begins [] b = refl
-begins (x ∷ xs) b = λ i. eq-eqb x x refl i && begins xs b i
-
-front_of : (x t : List ℕ) → ends_with x t ≡ true → (a : List ℕ) × (t ≡ a ++ x)
-front_of x t h =
-    let r = rest_of (reverse x) (reverse t) h in
-    (reverse r.0, sym (reverse-reverse t) ∙ ap reverse r.1 ∙ reverse-append (reverse x) r.0 ∙ ap (λ l. reverse r.0 ++ l) (reverse-reverse x))
-
-ends : (x a : List ℕ) → ends_with x (a ++ x) ≡ true
-ends x a = ap (begins_with (reverse x)) (reverse-append a x) ∙ begins (reverse x) (reverse a)
 
 -- what std's calls answer
 none_cut : (v : Bool) (r : List ℕ) → (v ≡ true → ⊥) → None ≡ (if v then Some r else None)
@@ -42,13 +21,13 @@ none_cut true r h = absurd (h refl)
 none_cut false r h = refl
 
 pub cut_prefix : (x t : List ℕ) (r : Option (Bor (List ℕ))) → MatchOption r (FindsTextPrefix x t None) (λ s. StripsPrefix (FindsTextPrefix x) t s.now) → option_map (λ s. s.now) r ≡ cut_one Front x t
-cut_prefix x t None h = none_cut (begins_with x t) (drop (length x) t) (λ e. let r = rest_of x t e in h r.0 r.1)
+cut_prefix x t None h = none_cut (begins_with x t) (drop (length x) t) (λ e. h (drop (length x) t) (begins_is x t e))
 cut_prefix x t (Some s) h =
     let there : begins_with x t ≡ true = ap (begins_with x) h.1.1 ∙ begins x (drop h.0 t) in
     rw there (ap Some (h.2 ∙ ap (λ k. drop k t) h.1.0))
 
 pub cut_suffix : (x t : List ℕ) (r : Option (Bor (List ℕ))) → MatchOption r (FindsTextSuffix x t None) (λ s. StripsSuffix (FindsTextSuffix x) t s.now) → option_map (λ s. s.now) r ≡ cut_one Back x t
-cut_suffix x t None h = none_cut (ends_with x t) (take (length t - length x) t) (λ e. let r = front_of x t e in h r.0 r.1)
+cut_suffix x t None h = none_cut (ends_with x t) (take (length t - length x) t) (λ e. h (take (length t - length x) t) (ends_is x t e))
 cut_suffix x t (Some s) h =
     let there : ends_with x t ≡ true = ap (ends_with x) h.1.1 ∙ ends x (take (length t - h.0) t) in
     rw there (ap Some (h.2 ∙ ap (λ k. take (length t - k) t) h.1.0))

@@ -4,7 +4,7 @@ use Rattle.std.specs.List.{list_all}
 use Rattle.std.proofs.lemmas.List.{append-nil}
 use Rattle.std.proofs.lemmas.Bool.{cond_both, ne_eqb, eqb-true, eqb-false, leb-true, le-leb, ltb-true, ltb-false, or_parts, or_right, and_cases, cases_lt, lt-leb, leb-false, and_parts}
 use Rattle.std.proofs.lemmas.Bool.Decides.{nat_tests}
-use Rattle.std.proofs.lemmas.Str.{encodes-chars, scalars-chars, chars-encodes, encodes-append, is_utf8-from_IsUtf8}
+use Rattle.std.proofs.lemmas.Str.{encode_ascii, encodes-chars, scalars-chars, chars-encodes, encodes-append, is_utf8-from_IsUtf8}
 use Rattle.std.specs.Prelude.{ℤ, IsUtf8, chars, codes, nat_le, nat_lt, decimal}
 use Rattle.std.specs.Str.{is_utf8}
 use Rattle.std.specs.Fmt.{signed_decimal}
@@ -13,7 +13,7 @@ use Rattle.yaml_spec.specs.Bytes.{tab, line_feed, carriage_return, quote, is_dig
 use Rattle.yaml_spec.specs.Lines.{is_printable, all_printable, has_good_chars, start_line}
 use Rattle.ytt_base.specs.Trees.{Scalar, null, boolean, integer, string, IsScalar}
 use Rattle.yaml_spec.specs.Text.{spaces, is_hidden, is_shown, is_literal_char, hex_digit, hex2, quoted_char, quoted_chars, quoted_text, key_text, fits_plain, fits_literal, pieces, are_trimmed, has_break}
-use Rattle.yaml_back.proofs.QuotesBack.{AreHigh, encode_high, encode_low}
+use Rattle.yaml_back.proofs.QuotesBack.{AreHigh, encode_high}
 use Rattle.yaml_back.proofs.ValuesBack.{plain_of}
 use Rattle.yaml_back.proofs.LiteralsBack.{pieces_some}
 use Rattle.yaml_spec.proofs.IntegersBack.{decimal-digits}
@@ -51,7 +51,7 @@ good-char c s p = record { cs = c ∷ []; is = append-nil (encode c); scalars = 
 
 pub good-byte : (b : ℕ) → 32 ≤ b → b ≤ 126 → IsGood (b ∷ [])
 good-byte b l m =
-    subst IsGood (encode_low b (omega arith)) (good-char b (grind (arith, nat_tests)) (or_right (b == tab) (is_printable b) (printable_ascii b l m)))
+    subst IsGood (encode_ascii b (omega arith)) (good-char b (grind (arith, nat_tests)) (or_right (b == tab) (is_printable b) (printable_ascii b l m)))
 
 abbrev pub is_ascii_shown : ℕ → Bool
 is_ascii_shown b = nat_le 32 b && nat_le b 126
@@ -98,7 +98,7 @@ char_no_break c e = go (nat_lt c 128) refl (c == 10) refl (c == 13) refl
     go false l t f u g = high_no_break (encode c) (encode_high c (ltb-false c 128 l))
     go true l true f u g = absurd (true≢false (sym e ∙ ap (λ c. c == tab || is_printable c) (eqb-true c 10 f)))
     go true l false f true g = absurd (true≢false (sym e ∙ ap (λ c. c == tab || is_printable c) (eqb-true c 13 g)))
-    go true l false f false g = rw (encode_low c (ltb-true c 128 l)) (f, g, tt)
+    go true l false f false g = rw (encode_ascii c (ltb-true c 128 l)) (f, g, tt)
 
 chars_no_break : (cs : List ℕ) → all_printable cs ≡ true → NoBreak (encodes cs)
 unfolding NoBreak
@@ -241,7 +241,7 @@ literal_printable c e n = go (c == line_feed) (c == tab) (is_shown c) (is_printa
 by_break : (c : ℕ) (cs : List ℕ) → is_scalar_char c ≡ true → is_literal_char c ≡ true → AllGood (pieces (encodes cs)) → (b : Bool) → (c == line_feed) ≡ b → AllGood (pieces (encode c ++ encodes cs))
 unfolding AllGood
 by_break c cs s l h true e =
-    let i : encode c ≡ 10 ∷ [] = ap encode (eqb-true c 10 e) ∙ encode_low 10 (omega arith) in
+    let i : encode c ≡ 10 ∷ [] = ap encode (eqb-true c 10 e) ∙ encode_ascii 10 (omega arith) in
     rw i (good-nil, h)
 by_break c cs s l h false e =
     let p = literal_printable c l e in

@@ -1,7 +1,8 @@
 -- A string in double quotes, as it is printed, reads back.
 use Rattle.std.proofs.Common.{◌≡◌, ℕ, ◌+◌, ◌*◌, ◌/◌, ◌%◌, ◌<◌, ◌≤◌, Bool, true, false, cond, ◌||◌, ◌==◌, List, [], ◌∷◌, ◌++◌, refl, sym, ◌∙◌, ap, subst, append_assoc, arith, true≢false, inl, inr}
 use Rattle.std.proofs.lemmas.List.{append-nil}
-use Rattle.std.proofs.lemmas.Bool.{agree_below_at, cond_both, or_cases, le-ltb, ne_eqb, eqb-true, ltb-true, ltb-false, le-leb, leb-true, lt-ltb}
+use Rattle.std.proofs.lemmas.Bool.{agree_below_at, cond_both, or_cases, le-ltb, ne_eqb, eqb-true, ltb-true, ltb-false, le-leb, leb-true}
+use Rattle.std.proofs.lemmas.Str.{encode_ascii}
 use Rattle.std.specs.Prelude.{nat_lt, nat_le, codes}
 use Rattle.std.specs.Cmp.{second_so}
 use lib.Utf8.{encode, encodes}
@@ -83,10 +84,6 @@ encode_high c h =
     (either (nat_lt c 2048) _ _ (omega arith, (omega arith, tt))
     (either (nat_lt c 65536) _ _ (omega arith, (omega arith, (omega arith, tt))) (omega arith, (omega arith, (omega arith, (omega arith, tt))))))
 
-pub encode_low : (c : ℕ) → c < 128 → encode c ≡ c ∷ []
-unfolding encode
-encode_low c h = rw (lt-ltb c 128 h) refl
-
 -- a character that needs no escape
 shown : (c : ℕ) → 32 ≤ c → (c == quote) ≡ false → (c == 92) ≡ false → (white x tail rest : List ℕ) → Closes x tail rest →
     double normal white (encode c ++ x) ≡ closed (white ++ (encode c ++ tail)) rest
@@ -96,9 +93,9 @@ shown c l p q white x tail rest h = go (nat_lt c 128) refl (c == 32) refl
     go : (low : Bool) → nat_lt c 128 ≡ low → (sp : Bool) → (c == 32) ≡ sp → double normal white (encode c ++ x) ≡ closed (white ++ (encode c ++ tail)) rest
     go false e sp f = high_bytes (encode c) (encode_high c (ltb-false c 128 e)) tail x rest h white
     go true e true f =
-        rw (encode_low c (ltb-true c 128 e), eqb-true c 32 f) (space_as_is white x ∙ h (white ++ 32 ∷ []) ∙ ap (λ l. closed l rest) (append_assoc white (32 ∷ []) tail))
+        rw (encode_ascii c (ltb-true c 128 e), eqb-true c 32 f) (space_as_is white x ∙ h (white ++ 32 ∷ []) ∙ ap (λ l. closed l rest) (append_assoc white (32 ∷ []) tail))
     go true e false f =
-        rw (encode_low c (ltb-true c 128 e))
+        rw (encode_ascii c (ltb-true c 128 e))
         (byte_as_is c p q (rw (f, ne_eqb c 9 (omega arith)) refl) white x ∙ prepended white (c ∷ []) x tail rest h)
 
 -- ---- all characters

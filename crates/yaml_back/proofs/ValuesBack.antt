@@ -4,7 +4,7 @@ use Rattle.std.proofs.Common.{◌≡◌, ℕ, Bool, true, false, not, ◌&&◌, 
 use Rattle.std.specs.List.{list_all}
 use Rattle.std.proofs.lemmas.List.{append-nil}
 use Rattle.std.proofs.lemmas.Bool.{ne_eqb, eqb-true, ltb-true, ltb-false, and_parts, not-true}
-use Rattle.std.proofs.lemmas.Str.{encodes-chars}
+use Rattle.std.proofs.lemmas.Str.{encode_ascii, encodes-chars}
 use Rattle.std.specs.Prelude.{IsUtf8, chars, nat_lt, bytes_eq, codes, take}
 use lib.Utf8.{encode, encodes}
 use Rattle.yaml_spec.specs.Bytes.{hash, colon, space, tab, quote, first, is_white, is_blank, is_one_of}
@@ -18,7 +18,7 @@ use Rattle.yaml_spec.specs.Noted.{Comment, noted_scalar}
 use Rattle.yaml_spec.specs.Values.{Value, value, ended, noted}
 use Rattle.yaml_spec.specs.Text.{is_shown, start_marks, has_pair, last, fits_plain, quoted_text, quoted_chars}
 use Rattle.yaml_back.proofs.PlainBack.{NoTab, IsQuiet}
-use Rattle.yaml_back.proofs.QuotesBack.{AreHigh, encode_high, encode_low, closes_chars, Closes}
+use Rattle.yaml_back.proofs.QuotesBack.{AreHigh, encode_high, closes_chars, Closes}
 
 -- ---- what `fits_plain` says
 
@@ -68,7 +68,7 @@ shown_no_tab c e = go (nat_lt c 128) refl (c == tab) refl
     go : (low : Bool) → nat_lt c 128 ≡ low → (t : Bool) → (c == tab) ≡ t → NoTab (encode c)
     go false l t f = high_no_tab (encode c) (encode_high c (ltb-false c 128 l))
     go true l true f = absurd (true≢false (sym e ∙ ap is_shown (eqb-true c tab f)))
-    go true l false f = rw (encode_low c (ltb-true c 128 l)) (f, tt)
+    go true l false f = rw (encode_ascii c (ltb-true c 128 l)) (f, tt)
 
 no_tab_of : (cs : List ℕ) → list_all is_shown cs ≡ true → NoTab (encodes cs)
 unfolding NoTab

@@ -1,13 +1,13 @@
 -- What is read in quotes is UTF-8, and so is the text behind it.
-use Rattle.std.proofs.Common.{◌≡◌, ℕ, zero, suc, ◌+◌, ◌*◌, ◌<◌, ◌≤◌, Bool, true, false, ◌&&◌, ◌==◌, List, [], ◌∷◌, ◌++◌, Option, Some, None, refl, sym, ◌∙◌, ap, subst, append_assoc, arith, true≢false, length, if◌then◌else◌}
+use Rattle.std.proofs.Common.{◌≡◌, ℕ, zero, suc, ◌+◌, ◌*◌, ◌<◌, ◌≤◌, Bool, true, false, ◌&&◌, ◌==◌, List, [], ◌∷◌, ◌++◌, Option, Some, None, refl, sym, ◌∙◌, ap, subst, append_assoc, arith, length, if◌then◌else◌}
 use Rattle.std.specs.Prelude.{IsUtf8, nat_lt}
 use lib.Utf8.{encode, encodes, scalars, scalar}
 use Rattle.std.proofs.lemmas.Bool.{and_parts, eqb-true, ne_eqb, ltb-true, ltb-false}
 use Rattle.std.proofs.lemmas.Bool.Decides.{nat_tests}
-use Rattle.std.proofs.lemmas.Str.{IsUtf8-nil, IsUtf8-append, IsUtf8-encode, length-encode, len_utf8_bounds}
+use Rattle.std.proofs.lemmas.Str.{encode_ascii, IsUtf8-nil, IsUtf8-append, IsUtf8-encode, length-encode, len_utf8_bounds}
 use Rattle.yaml_spec.specs.Bytes.{quote, apostrophe, backslash, is_white, is_hex_digit, digit_value}
 use Rattle.yaml_spec.specs.Quotes.{Scan, open_end, closed, wrong, prepend, single, Mode, normal, escape, digits, escaped, escape_digits, is_scalar_value, double, scan}
-use Rattle.yaml_back.proofs.QuotesBack.{AreHigh, high, encode_high, encode_low}
+use Rattle.yaml_back.proofs.QuotesBack.{AreHigh, high, encode_high}
 use Rattle.yaml_held.proofs.TextParts.{utf8_one}
 
 -- the strings of what a line holds are UTF-8
@@ -99,11 +99,7 @@ double_low b x l u h escape white w = by_letter (escaped b) (good_escaped b)
 double_low b x l u h (digits zero c) white w = tt
 double_low b x l u h (digits (suc zero) c) white w =
     good_if (is_hex_digit b && is_scalar_value (c * 16 + digit_value b)) _ _
-    (λ e. good_prepend _ _ (IsUtf8-append white _ w (scalar_value (c * 16 + digit_value b) (second (is_hex_digit b) (is_scalar_value (c * 16 + digit_value b)) e))) (h normal [] IsUtf8-nil)) (λ e. tt)
-  where
-    second : (a b : Bool) → (a && b) ≡ true → b ≡ true
-    second true b e = e
-    second false b e = absurd (true≢false (sym e))
+    (λ e. good_prepend _ _ (IsUtf8-append white _ w (scalar_value (c * 16 + digit_value b) (and_parts (is_hex_digit b) (is_scalar_value (c * 16 + digit_value b)) e).1)) (h normal [] IsUtf8-nil)) (λ e. tt)
 double_low b x l u h (digits (suc (suc n)) c) white w = good_if (is_hex_digit b) _ _ (λ e. h (digits (suc n) (c * 16 + digit_value b)) white w) (λ e. tt)
 
 -- ---- characters past ASCII
@@ -196,7 +192,7 @@ good_double [] s (digits n c) white w = tt
 good_double (c ∷ cs) s m white w = go (good_double cs (scalar_head c cs s).1) (nat_lt c 128) refl
   where
     go : GoodFrom (encodes cs) → (low : Bool) → nat_lt c 128 ≡ low → IsGoodScan (double m white (encode c ++ encodes cs))
-    go h true e = rw (encode_low c (ltb-true c 128 e)) (double_low c (encodes cs) (ltb-true c 128 e) (cs, ((scalar_head c cs s).1, refl)) h m white w)
+    go h true e = rw (encode_ascii c (ltb-true c 128 e)) (double_low c (encodes cs) (ltb-true c 128 e) (cs, ((scalar_head c cs s).1, refl)) h m white w)
     go h false e = double_char c (encodes cs) (ltb-false c 128 e) (scalar_head c cs s).0 h m white w
 
 -- ---- in single quotes
@@ -245,7 +241,7 @@ single_char : (c : ℕ) (x : List ℕ) → scalar c ≡ true → GoodSingle x �
 single_char c x s h q white w = go (nat_lt c 128) refl
   where
     go : (low : Bool) → nat_lt c 128 ≡ low → IsGoodScan (single white (encode c ++ x))
-    go true e = rw (encode_low c (ltb-true c 128 e)) (single_low c x (ltb-true c 128 e) h q white w)
+    go true e = rw (encode_ascii c (ltb-true c 128 e)) (single_low c x (ltb-true c 128 e) h q white w)
     go false e =
         let f = char_first c (ltb-false c 128 e) in
         rw f.is (rw (single_high f.byte f.rest x f.high f.more white) (good_prepend (white ++ f.byte ∷ f.rest) _ (IsUtf8-append white _ w (subst IsUtf8 f.is (IsUtf8-encode c s))) (h [] IsUtf8-nil)))
@@ -269,7 +265,7 @@ unfolding IsGoodScan
 after_char c x s u h white w = go (nat_lt c 128) refl
   where
     go : (low : Bool) → nat_lt c 128 ≡ low → IsGoodScan (single white (apostrophe ∷ (encode c ++ x)))
-    go true e = rw (encode_low c (ltb-true c 128 e)) (after_low c x (ltb-true c 128 e) u h white w)
+    go true e = rw (encode_ascii c (ltb-true c 128 e)) (after_low c x (ltb-true c 128 e) u h white w)
     go false e =
         let f = char_first c (ltb-false c 128 e) in
         let l = f.high in

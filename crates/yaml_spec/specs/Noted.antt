@@ -19,7 +19,7 @@ pub record Note : Type 0 where
   pub trailing : Option Comment
   pub flow : Bool
 
--- a scalar is a tree without items below it
+-- a scalar is a tree without items below it: all that is read as one is a scalar, though its type has lists and maps too
 mutual
   pub data Content : Type 0 where
     noted_scalar : Tree → Content

@@ -1,5 +1,5 @@
 -- White space at the ends of a text, and where a text may be cut.
-use Rattle.std.proofs.Common.{◌≡◌, ℕ, zero, suc, ◌+◌, ◌-◌, ◌<◌, ◌≤◌, Bool, true, false, ◌&&◌, List, [], ◌∷◌, ◌++◌, length, get_or, take, drop, IsUtf8, refl, sym, subst, inl, inr, arith, length-drop}
+use Rattle.std.proofs.Common.{◌≡◌, ℕ, zero, suc, ◌+◌, ◌-◌, ◌<◌, ◌≤◌, Bool, true, false, List, [], ◌∷◌, ◌++◌, length, get_or, take, drop, IsUtf8, refl, sym, subst, inl, inr, arith, length-drop}
 use Rattle.std.proofs.lemmas.Bool.{and_right, cases_lt}
 use Rattle.std.proofs.lemmas.Bool.Decides.{nat_tests}
 use Rattle.std.proofs.lemmas.List.Sums.{prefix_len-le-length, prefix_len_passes, prefix_len_stops}
@@ -45,10 +45,6 @@ skip_white-length t = rw (← skip_white-drop t) (omega (arith, length-drop {A =
 is_empty-middle : (w : List ℕ) (b : ℕ) (t : List ℕ) → is_empty (w ++ b ∷ t) ≡ false
 is_empty-middle [] b t = refl
 is_empty-middle (x ∷ w) b t = refl
-
-and-false : (a : Bool) → (a && false) ≡ false
-and-false true = refl
-and-false false = refl
 
 -- what stands up to a byte that is no white space stays
 pub trim_end-middle : (w : List ℕ) (b : ℕ) (t : List ℕ) → is_white b ≡ false → trim_end (w ++ b ∷ t) ≡ w ++ b ∷ trim_end t

@@ -1,7 +1,7 @@
 use Rattle.ytt_base.specs.View.{trees_of}
 use Rattle.template_tree.specs.View.{template_of}
 use Rattle.ytt_spec.specs.Meaning.{built}
-use Rattle.render_core.proofs.Chains.{gives_next}
+use Rattle.ytt_laws.proofs.Chains.{gives_next}
 use Rattle.ytt_words.specs.Asks.{budget_of}
 use Rattle.render_core.proofs.rendering.build.Goals as goal
 

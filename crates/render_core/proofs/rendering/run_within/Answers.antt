@@ -6,7 +6,7 @@ use Rattle.star_eval.specs.declared.file.FileResult.{FileResult}
 use Rattle.star_values.specs.View.{built_in}
 use Rattle.template_meaning.specs.Meaning.{documents}
 use Rattle.render_core.proofs.Built.{gives_built}
-use Rattle.render_core.proofs.Chains.{gives_alike}
+use Rattle.ytt_laws.proofs.Chains.{gives_alike}
 use Rattle.ytt_words.specs.Asks.{budget_of}
 use Rattle.render_core.proofs.rendering.run_within.Goals as goal
 

@@ -2,7 +2,8 @@ use Rattle.std.proofs.Common.{List, ◌++◌}
 use Rattle.star_blocks.specs.Nested.{arms_of, ops_of}
 use Rattle.star_blocks.specs.declared.block.Arm.{Arm}
 use Rattle.star_functions.proofs.Finding.{In, found_both, found_same, found_then, in_code, in_else, in_test, of_assign, of_augment, of_expr, of_for, of_function, of_if, of_return, pushed}
-use Rattle.star_functions.proofs.Walking.{put_last, put_next}
+use Rattle.star_resolve.proofs.Putting.{put_next}
+use Rattle.star_functions.proofs.Walking.{put_last}
 use Rattle.star_functions.specs.Numbered.{arms_functions, ops_functions}
 use Rattle.star_functions.specs.View.{all_of}
 use Rattle.star_functions.proofs.blocks.+blocks.Goals as goal

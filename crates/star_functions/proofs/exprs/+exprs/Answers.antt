@@ -1,5 +1,5 @@
 use Rattle.star_functions.proofs.Finding.{found_same, found_then, in_call, in_conditional, in_dict, in_dict_comprehension, in_lambda, in_list_comprehension, in_members, in_one, in_part, in_slice, in_template, in_two, pushed}
-use Rattle.star_functions.proofs.Walking.{put_after, put_same}
+use Rattle.star_resolve.proofs.Putting.{put_after, put_same}
 use Rattle.star_functions.proofs.exprs.+exprs.Goals as goal
 
 pub find_in_expr-returns-in-Dict : goal.find_in_expr-returns-in-Dict

@@ -3,8 +3,9 @@ use Rattle.code_spec.specs.Scopes.{arms_names, ops_names}
 use Rattle.star_blocks.specs.Nested.{arms_of, ops_of}
 use Rattle.star_blocks.specs.declared.block.Arm.{Arm}
 use Rattle.star_blocks.specs.declared.block.Op.{Op}
+use Rattle.star_resolve.proofs.Putting.{put_after, put_done, put_next, put_same}
 use Rattle.star_functions.proofs.Naming.{assign_names, augment_names, code_names, else_names, for_names, function_names, if_names, load_names, test_names}
-use Rattle.star_functions.proofs.Walking.{put_after, put_done, put_last, put_next, put_same}
+use Rattle.star_functions.proofs.Walking.{put_last}
 use Rattle.star_functions.proofs.names.+names.Goals as goal
 
 pub put_arms_names-returns-in-Else : goal.put_arms_names-returns-in-Else

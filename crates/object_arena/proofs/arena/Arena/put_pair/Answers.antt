@@ -1,5 +1,5 @@
-use Rattle.std.proofs.Common.{Result, Ok, Err, OnOk, ap, ◌∙◌}
-use Rattle.std.proofs.Common.{subst, sym}
+use Rattle.std.proofs.Common.{ap, ◌∙◌, subst, sym}
+use Rattle.std.proofs.lemmas.Result.{on_ok_weaker}
 use Rattle.object_arena.proofs.Names.{identified, seen}
 use Rattle.object_arena.specs.Names.{Each, OwnsPair}
 use Rattle.star_values.specs.Objects as objects
@@ -8,21 +8,17 @@ use Rattle.star_values.specs.contracts.value.ValuePartialEq.TheImpl.{ghosts as v
 use Rattle.star_values.specs.declared.object.Contents.TheVariants as contents
 use Rattle.object_arena.proofs.arena.Arena.put_pair.Goals as goal
 
-only_ok : {A E : Type 0} {P Q : Type 0} (r : Result A E) → (P → Q) → OnOk r P → OnOk r Q
-only_ok (Ok x) f h = f h
-only_ok (Err e) f h = tt
-
 pub returns-clause-pairs : goal.returns-clause-pairs
 returns-clause-pairs c =
     let a = seen c.args.self.now in
     let old = c.args.pairs.now in
-    only_ok c.put_under.result
+    on_ok_weaker c.put_under.result
     (λ e. ap (objects.pairs_in a.held) e ∙ put_seen value_ghosts.eq a.held c.args.key c.args.v old.entries c.equal_values_are_one.ensures (identified a (contents.Dict old) c.args.key c.keys_stand_once.ensures c.requires.key c.requires.pairs))
     c.put_under.ensures.ok
 
 pub returns-clause-owned : goal.returns-clause-owned
 returns-clause-owned c =
     let a = seen c.args.self.now in
-    only_ok c.put_under.result
+    on_ok_weaker c.put_under.result
     (λ e. subst (Each (OwnsPair a)) (sym e) (put_owned a value_ghosts.eq c.args.key c.args.v c.args.pairs.now.entries c.requires.pairs c.requires.owned c.requires.value c.requires.key))
     c.put_under.ensures.ok
