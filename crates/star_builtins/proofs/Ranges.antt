@@ -62,3 +62,8 @@ module _ (p : Place) (s : State Here) where
 -- the refusal of arguments
 pub refused : (p : Place) (a : View) (n : ℕ) (e : Stop) → e ≡ stop.Fault (fault_at kind.ArgBind p) → Gives (bad (fault_at kind.ArgBind p) (state_in a n)) (Err e) a a n
 refused p a n e is = subst (λ e. Gives (bad (fault_at kind.ArgBind p) (state_in a n)) (Err e) a a n) (sym is) (record { meaning = refl; owns = tt; grows = grows_same a })
+
+-- what has no member is empty
+pub none : {A : Type 0} (xs : List A) → length xs ≡ 0 → xs ≡ []
+none [] e = refl
+none (x ∷ xs) e = absurd (omega (arith, e))

@@ -22,8 +22,7 @@ use Rattle.star_eval.specs.View.{OwnsBag, Sound, arena_in, bag_of, env_of, nodes
 use Rattle.star_eval.specs.Waiting.{gather, unwind_bag, unwind_value}
 use Rattle.star_spec.specs.Names.{with_boxes}
 use Rattle.star_eval.proofs.Chaining.{chained}
-use Rattle.star_calls.proofs.Kept.{env_kept}
-use Rattle.star_eval.proofs.Growing.{Kept, bag_kept, kept}
+use Rattle.star_eval.proofs.Growing.{Kept, bag_kept, env_kept, kept}
 use Rattle.star_eval.proofs.Walks.{pushed_sound, pushed_waits}
 
 -- the members of the first clause come first

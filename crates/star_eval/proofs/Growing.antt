@@ -1,16 +1,20 @@
 -- What is held stays owned, and the same, as the arena grows.
 use Rattle.std.proofs.Common.{◌≡◌, ℕ, List, [], ◌∷◌, drop, reverse, Option, Some, None, option_map, refl, ap, subst, sym, ◌∙◌, IsTrue, rules}
+use Rattle.std.proofs.lemmas.List.{reverse-append}
 use Rattle.star_blocks.specs.Nested.{ops_of}
 use Rattle.star_tree.specs.Listed.{clauses_of, entries_of, optional_of}
 use Rattle.star_tree.specs.Whole.{binary_operator_of, expr_of, exprs_of, parameters_of}
 use Rattle.node_build.proofs.Growing.{nodes_kept}
-use Rattle.star_values.proofs.Growing.{owns_all_kept, owns_kept, value_kept, values_kept}
-use Rattle.star_values.specs.Owns.{Each, Grows, OwnsArguments, object_at}
+use Rattle.star_values.proofs.Growing.{each_joined, owns_all_kept, owns_kept, value_kept, values_kept, variable_kept}
+use Rattle.star_values.specs.Objects.{env_in, pairs_in}
+use Rattle.star_values.specs.Owns.{Each, Grows, OwnsArguments, OwnsEnv, OwnsPair, object_at}
 use Rattle.star_values.specs.View.{View, arguments_in}
+use Rattle.star_values.specs.declared.object.NamedBox.{NamedBox}
 use Rattle.star_values.specs.declared.value.Ref.{Ref}
 use Rattle.star_values.specs.declared.value.Sort.{Sort}
 use Rattle.star_values.specs.declared.value.Value.{Value}
-use Rattle.star_calls.proofs.Kept.{env_kept, fields_kept, pairs_kept, reversed_each}
+use Rattle.value_spec.specs.Keys.{IsKey}
+use Rattle.star_calls.proofs.Kept.{fields_kept}
 use Rattle.star_calls.specs.View.{form_of}
 use Rattle.star_sorting.specs.View.{wanted_of}
 use Rattle.star_tree.specs.View.{item_kind_of}
@@ -51,6 +55,15 @@ use Rattle.star_eval.specs.View.{OwnsBag, OwnsCaller, OwnsFrame, OwnsInBlock, Ow
 use Rattle.star_eval.specs.Waiting as plain
 use Rattle.star_eval.specs.Waiting.{setting}
 
+-- ---- scopes
+
+pub env_kept : (a b : View) (bs : List NamedBox) → Grows a b → OwnsEnv a bs → OwnsEnv b bs × (env_in b.held bs ≡ env_in a.held bs)
+env_kept a b [] g w = (tt, refl)
+env_kept a b (x ∷ bs) g w =
+    let k = variable_kept a b x g w.0 in
+    let more = env_kept a b bs g w.1 in
+    ((k.0, more.0), λ i. k.1 i ∷ more.1 i)
+
 -- ---- members
 
 members_kept : (a b : View) (ms : Members) → Grows a b → OwnsMembers a ms → OwnsMembers b ms × (all_members b ms ≡ all_members a ms)
@@ -66,6 +79,16 @@ still_walked (Some k) p f h = subst (λ q. IsTrue (walked_sort q)) (sym (f k ref
 
 pub walked_kept : (a b : View) (r : Ref) → Grows a b → Walked a r → Walked b r
 walked_kept a b r g w = still_walked (object_at a r.at) (object_at b r.at) (g.objects r.at) w
+
+-- ---- pairs
+
+pairs_kept : (a b : View) (ps : List (Value × Value)) → Grows a b → Each (OwnsPair a) ps → Each (OwnsPair b) ps × (pairs_in b.held ps ≡ pairs_in a.held ps)
+pairs_kept a b [] g w = (tt, refl)
+pairs_kept a b (p ∷ ps) g w =
+    let key = value_kept a b p.0 g w.0.0 in
+    let value = value_kept a b p.1 g w.0.1 in
+    let more = pairs_kept a b ps g w.1 in
+    (((owns_kept a b p.0 g w.0.0, owns_kept a b p.1 g w.0.1, subst IsKey (sym key) w.0.2), more.0), λ i. (key i, value i) ∷ more.1 i)
 
 -- ---- arguments
 
@@ -196,6 +219,10 @@ frames_kept a b code g (f ∷ fs) w =
     ((k.0, more.0), λ i. k.1 i ∷ more.1 i)
 
 -- ---- the same from the innermost one on
+
+pub reversed_each : {A : Type 0} (P : A → Type 0) (xs : List A) → Each P xs → Each P (reverse xs)
+reversed_each P [] w = tt
+reversed_each P (x ∷ xs) w = subst (Each P) (sym (reverse-append (x ∷ []) xs)) (each_joined P (reverse xs) (x ∷ []) (reversed_each P xs w.1) (w.0, tt))
 
 -- ---- a machine with a session whose arena has grown
 

@@ -1,7 +1,6 @@
 -- A text is one part: each rule takes some of the parts that stand before it, mostly the last one, and leaves one for them.
 use Rattle.std.proofs.Common.{◌≡◌, ℕ, ◌+◌, ◌-◌, ◌≤◌, List, [], ◌∷◌, length, Option, Some, None, refl, ap, ◌∙◌, subst, arith, leb-true}
 use Rattle.std.proofs.lemmas.Bool.{eqb-true}
-use Rattle.std.proofs.lemmas.Option.{same_Some}
 use Rattle.std.specs.Prelude.{suc, Bool, true, false, nat_le, nat_eq, if◌then◌else◌}
 use Rattle.ll.specs.Grammar.{terminal, rule, Symbols, done, token, node, Parts, IsWhole}
 use Rattle.ll.proofs.Check.{every, every_at}
@@ -235,9 +234,12 @@ goes_on : (b : Bool) (o : Option ℕ) (m : ℕ) → (if b then o else None) ≡ 
 goes_on true o m e = (refl, e)
 goes_on false o m e = absurd (grind arith)
 
+same_some : (n m : ℕ) → Some n ≡ Some m → n ≡ m
+same_some n m e = cc
+
 walk : (s : Parts language) (xs : Symbols language) (v w : Value) → IsWhole language xs s v w → (n m base : ℕ) → behind n xs ≡ Some m → length v.parts ≡ base + n → length w.parts ≡ base + m
 walk done [] v w e n m base b h =
-    let k : n ≡ m = same_Some n m b in
+    let k : n ≡ m = same_some n m b in
     rw (← e, ← k) h
 walk done (terminal a ∷ xs) v w e n m base b h = absurd e
 walk done (rule r ∷ xs) v w e n m base b h = absurd e

@@ -1,5 +1,5 @@
 -- What is kept while the pass walks over the rows.
-use Rattle.std.proofs.Common.{◌≡◌, ℕ, suc, Bool, true, false, List, [], ◌∷◌, ◌++◌, Option, Some, None, refl, ap, ◌∙◌, sym, append_assoc, append-nil}
+use Rattle.std.proofs.Common.{◌≡◌, ℕ, suc, Bool, true, false, List, [], ◌∷◌, ◌++◌, Option, Some, None, refl, ap, ◌∙◌, sym, append_assoc}
 use Rattle.std.specs.Prelude.{◌||◌, ◌==◌, nat_lt, if◌then◌else◌}
 use Rattle.std.specs.List.{list_any}
 use Rattle.ytt_base.specs.declared.fault.Fault.{Fault}
@@ -81,6 +81,10 @@ walks_on file all rest r n bs bs2 flags flags2 returned returned2 levels levels2
 
 -- ---- the end
 
+append_nil : {A : Type 0} (xs : List A) → xs ++ [] ≡ xs
+append_nil [] = refl
+append_nil (x ∷ xs) = ap (λ ys. x ∷ ys) (append_nil xs)
+
 not_none : (f : Fault) → Some f ≡ None → ⊥
 not_none f e = cc
 
@@ -95,7 +99,7 @@ walk_stops file all rest r n bs flags returned returned2 levels f w fault return
     let sound_as : sound_from file [] 0 all ≡ and_sound w.holders returned (record { holders = []; returned = returned_at real r; stop = f ∷ [] })
     = w.sound ∙ ap (and_sound w.holders returned) (sound_stops file real n r rest f real_fault) in
     record {
-      flagged = λ k. w.flagged k ∙ ap (λ (hs : List ℕ). list_any (λ h. h == k) hs) (sym (append-nil w.holders)) ∙ ap (λ (s : Sound). list_any (λ h. h == k) s.holders) (sym sound_as);
+      flagged = λ k. w.flagged k ∙ ap (λ (hs : List ℕ). list_any (λ h. h == k) hs) (sym (append_nil w.holders)) ∙ ap (λ (s : Sound). list_any (λ h. h == k) s.holders) (sym sound_as);
       returns = returned_as ∙ ap (λ (s : Sound). s.returned) (sym sound_as);
       stops = ap (λ (s : Sound). s.stop) (sym sound_as);
       marked = λ e. absurd (not_none f e);
@@ -110,10 +114,10 @@ pub walk_ends : (file : ℕ) (all : List Row) (n : ℕ) (bs : List Open) (flags 
     → IsWalking file all [] n bs flags returned levels → IsWalked file all flags returned None levels (left_open file bs)
 walk_ends file all n bs flags returned levels w =
     record {
-      flagged = λ k. w.flagged k ∙ ap (λ (hs : List ℕ). list_any (λ h. h == k) hs) (sym (append-nil w.holders)) ∙ ap (λ (s : Sound). list_any (λ h. h == k) s.holders) (sym w.sound);
-      returns = sym (append-nil returned) ∙ ap (λ (s : Sound). s.returned) (sym w.sound);
+      flagged = λ k. w.flagged k ∙ ap (λ (hs : List ℕ). list_any (λ h. h == k) hs) (sym (append_nil w.holders)) ∙ ap (λ (s : Sound). list_any (λ h. h == k) s.holders) (sym w.sound);
+      returns = sym (append_nil returned) ∙ ap (λ (s : Sound). s.returned) (sym w.sound);
       stops = ap (λ (s : Sound). s.stop) (sym w.sound);
-      marked = λ e. sym (append-nil levels) ∙ sym w.marked;
+      marked = λ e. sym (append_nil levels) ∙ sym w.marked;
       last = λ e. ap (λ (cs : List Open). left_open file cs) (sym w.bared) ∙ left_bare file w.blocks ∙ ap (λ (cs : List Open). left_open file cs) (sym w.last);
     }
 

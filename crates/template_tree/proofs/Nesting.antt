@@ -1,5 +1,5 @@
 -- What parts of a collection become, one after another.
-use Rattle.std.proofs.Common.{◌≡◌, ℕ, true, false, List, [], ◌∷◌, ◌++◌, reverse, map as each, Option, Some, None, Result, Ok, Err, OnOk, refl, ap, sym, ◌∙◌, append_assoc, append-nil, rules}
+use Rattle.std.proofs.Common.{◌≡◌, ℕ, true, false, List, [], ◌∷◌, ◌++◌, reverse, map as each, Option, Some, None, Result, Ok, Err, OnOk, refl, ap, sym, ◌∙◌, append_assoc, rules}
 use Rattle.std.proofs.lemmas.List.{map-append, reverse-append, reverse-reverse}
 use Rattle.ytt_base.specs.declared.fault.Place.{Place}
 use Rattle.ytt_base.specs.Outcomes.{place_at}
@@ -106,9 +106,13 @@ nesting_goes_on file kind all left left2 p nested nested2 w e h = record {
   is_nested = h ∙ ap (nest_step file kind (part_of file p)) w.is_nested ∙ sym (nest_more file kind (part_of file p) (parts_of file w.done)) ∙ ap (nest file kind) (sym (parts_behind file w.done p));
 }
 
+append_nil : (ps : List Part) → ps ++ [] ≡ ps
+append_nil [] = refl
+append_nil (p ∷ ps) = ap (λ qs. p ∷ qs) (append_nil ps)
+
 pub nesting_ends : (file : ℕ) (kind : ItemKind) (all left : List Part) (nested : Nested) → IsNesting file kind all left nested → left ≡ [] → nested_of file nested ≡ nest file kind (parts_of file all)
 nesting_ends file kind all left nested w e =
-    w.is_nested ∙ ap (λ (ps : List Part). nest file kind (parts_of file ps)) (sym (append-nil w.done) ∙ ap (λ (ps : List Part). w.done ++ reverse ps) (sym e) ∙ sym w.whole)
+    w.is_nested ∙ ap (λ (ps : List Part). nest file kind (parts_of file ps)) (sym (append_nil w.done) ∙ ap (λ (ps : List Part). w.done ++ reverse ps) (sym e) ∙ sym w.whole)
 
 -- ---- what each call gives
 

@@ -1,6 +1,6 @@
 -- What one row puts.
-use Rattle.std.proofs.Common.{◌≡◌, ℕ, ◌+◌, ◌≤◌, List, [], ◌∷◌, ◌++◌, length, drop, reverse, refl, ap, sym, ◌∙◌, append_assoc, append-nil}
-use Rattle.std.proofs.lemmas.List.{drop_all, reverse-append, reverse-reverse}
+use Rattle.std.proofs.Common.{◌≡◌, ℕ, ◌+◌, ◌<◌, ◌≤◌, List, [], ◌∷◌, ◌++◌, length, drop, get_or, reverse, refl, ap, sym, ◌∙◌, append_assoc}
+use Rattle.std.proofs.lemmas.List.{drop_all, drop_more, reverse-append, reverse-reverse}
 use Rattle.notes_read.specs.declared.comment.Comment.{Comment}
 use Rattle.notes_read.specs.View.{said_of}
 use Rattle.template_events.specs.declared.event.Row.{Row}
@@ -26,10 +26,17 @@ put_none file d ds left left2 ns ps e f =
     ap (λ (rs : List Row). ps ++ puts_at ds ns (rows_of file (reverse rs))) f ∙ ap (λ (qs : List Put). ps ++ qs) (none_put ds ns)
     ∙ ap (λ (rs : List Row). ps ++ puts_at (d ∷ ds) ns (rows_of file (reverse rs))) (sym e)
 
+pub level_at : (levels : List ℕ) (at : ℕ) (d : ℕ) → at < length levels → drop at levels ≡ get_or levels at d ∷ drop (at + 1) levels
+level_at levels at d within = drop_more levels at d within
+
+append_nil : (ps : List Put) → ps ++ [] ≡ ps
+append_nil [] = refl
+append_nil (p ∷ ps) = ap (λ qs. p ∷ qs) (append_nil ps)
+
 pub puts_end : (file : ℕ) (levels : List ℕ) (at : ℕ) (ns : List Before) (left rows turned : List Row) (ps : List Put) → length levels ≤ at → turned ≡ reverse rows
     → ps ++ puts_at (drop at levels) ns (rows_of file (reverse left)) ≡ puts_at levels [] (rows_of file (reverse turned)) → ps ≡ puts_at levels [] (rows_of file rows)
 puts_end file levels at ns left rows turned ps past e h =
-    sym (append-nil ps) ∙ ap (λ (ds : List ℕ). ps ++ puts_at ds ns (rows_of file (reverse left))) (sym (drop_all at levels past)) ∙ h
+    sym (append_nil ps) ∙ ap (λ (ds : List ℕ). ps ++ puts_at ds ns (rows_of file (reverse left))) (sym (drop_all at levels past)) ∙ h
     ∙ ap (λ (rs : List Row). puts_at levels [] (rows_of file rs)) (ap reverse e ∙ reverse-reverse rows)
 
 -- a statement, an opener, a branch or an end is put where it is said

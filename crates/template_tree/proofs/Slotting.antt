@@ -1,6 +1,6 @@
 -- Slots, one for each level.
-use Rattle.std.proofs.Common.{◌≡◌, ℕ, zero, suc, ◌+◌, ◌<◌, ◌≤◌, List, [], ◌∷◌, ◌++◌, length, take, get_or, set, Option, Some, None, refl, ap, sym, ◌∙◌, append_assoc, append-nil, arith}
-use Rattle.std.proofs.lemmas.List.{length-map, length_push, map-append, take_all}
+use Rattle.std.proofs.Common.{◌≡◌, ℕ, zero, suc, ◌+◌, ◌<◌, ◌≤◌, List, [], ◌∷◌, ◌++◌, length, take, get_or, set, Option, Some, None, refl, ap, sym, ◌∙◌, append_assoc, arith}
+use Rattle.std.proofs.lemmas.List.{length-map, map-append}
 use Rattle.std.specs.Prelude.{option_map, OnOk, Result, Ok, Err}
 use Rattle.ytt_base.specs.declared.tree.Key.{Key}
 use Rattle.ytt_base.specs.Outcomes.{place_at}
@@ -63,6 +63,12 @@ take_before zero ss s le = refl
 take_before (suc d) [] s le = absurd (omega arith)
 take_before (suc d) (t ∷ ts) s le = ap (λ (us : List build.Slot). t ∷ us) (take_before d ts s (omega arith))
 
+take_short : (d : ℕ) (ss : List build.Slot) → length ss ≤ d → take d ss ≡ ss
+take_short zero [] le = refl
+take_short (suc d) [] le = refl
+take_short zero (s ∷ ss) le = absurd (omega arith)
+take_short (suc d) (s ∷ ss) le = ap (λ (ts : List build.Slot). s ∷ ts) (take_short d ss (omega arith))
+
 -- where these slots are left of all, and this one was taken last
 pub record IsCut (file d : ℕ) (all left : List Slot) (taken : Slot) : Type 0 where
   pub rest : take d (slots_of file left) ≡ take d (slots_of file all)
@@ -71,6 +77,10 @@ pub record IsCut (file d : ℕ) (all left : List Slot) (taken : Slot) : Type 0 w
 
 held_length : (file : ℕ) (ss : List Slot) → length (slots_of file ss) ≡ length ss
 held_length file ss = length-map ss (slot_of file)
+
+length_pushed : {A : Type 0} (xs : List A) (x : A) → length (xs ++ x ∷ []) ≡ length xs + 1
+length_pushed [] x = refl
+length_pushed (y ∷ xs) x = let h : length (xs ++ x ∷ []) ≡ length xs + 1 = length_pushed xs x in omega arith
 
 pub cut_begins : (file d : ℕ) (all : List Slot) (taken : Slot) → slot_of file taken ≡ fresh → IsCut file d all all taken
 cut_begins file d all taken e = record {
@@ -82,7 +92,7 @@ cut_begins file d all taken e = record {
 pub cut_goes_on : (file d : ℕ) (all left left2 : List Slot) (taken s : Slot) → IsCut file d all left taken → d < length left → left ≡ left2 ++ s ∷ [] → IsCut file d all left2 s
 cut_goes_on file d all left left2 taken s w more e =
     let seen : slots_of file left ≡ slots_of file left2 ++ slot_of file s ∷ [] = ap (slots_of file) e ∙ map-append (slot_of file) left2 (s ∷ []) in
-    let one_less : length left ≡ length left2 + 1 = ap length e ∙ length_push left2 s in
+    let one_less : length left ≡ length left2 + 1 = ap length e ∙ length_pushed left2 s in
     record {
       rest = let le : d ≤ length (slots_of file left2) = omega (arith, held_length file left2) in sym (take_before d (slots_of file left2) (slot_of file s) le) ∙ ap (take d) (sym seen) ∙ w.rest;
       there = λ lt. let l : d < length (slots_of file left2) = omega (arith, held_length file left2) in sym (slot_before d (slots_of file left2) (slot_of file s) l) ∙ ap (slot_at d) (sym seen) ∙ w.there more;
@@ -90,7 +100,7 @@ cut_goes_on file d all left left2 taken s w more e =
     }
 
 pub cut_ends : (file d : ℕ) (all left : List Slot) (taken : Slot) → IsCut file d all left taken → length left ≤ d → slots_of file left ≡ take d (slots_of file all)
-cut_ends file d all left taken w le = let l : length (slots_of file left) ≤ d = omega (arith, held_length file left) in sym (take_all d (slots_of file left) l) ∙ w.rest
+cut_ends file d all left taken w le = let l : length (slots_of file left) ≤ d = omega (arith, held_length file left) in sym (take_short d (slots_of file left) l) ∙ w.rest
 
 -- ---- items
 
@@ -113,8 +123,12 @@ pub record IsBuilding (file : ℕ) (all left : List Put) (slots : List build.Slo
   pub whole : all ≡ left ++ done
   pub is_built : slots ≡ built file (puts_of file done)
 
+append_nil : (ps : List Put) → ps ++ [] ≡ ps
+append_nil [] = refl
+append_nil (p ∷ ps) = ap (λ qs. p ∷ qs) (append_nil ps)
+
 pub building_begins : (file : ℕ) (all : List Put) (slots : List Slot) → slots ≡ [] → IsBuilding file all all (slots_of file slots)
-building_begins file all slots e = record { done = []; whole = sym (append-nil all); is_built = ap (slots_of file) e }
+building_begins file all slots e = record { done = []; whole = sym (append_nil all); is_built = ap (slots_of file) e }
 
 pub building_goes_on : (file : ℕ) (all left left2 : List Put) (p : Put) (slots slots2 : List build.Slot) → IsBuilding file all left slots → left ≡ left2 ++ p ∷ [] → slots2 ≡ built_step file (put_of file p) slots
     → IsBuilding file all left2 slots2

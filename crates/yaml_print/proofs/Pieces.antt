@@ -1,6 +1,5 @@
 -- The lines of a string: where one ends, and how many breaks stand at the end.
 use Rattle.std.proofs.Common.{◌≡◌, ◌≢◌, ℕ, suc, ◌+◌, ◌<◌, Bool, true, false, not, ◌&&◌, ◌==◌, if◌then◌else◌, List, [], ◌∷◌, ◌++◌, length, get_or, Option, Some, None, Bor, MatchOption, IfSome, refl, ap, ◌∙◌, arith, ne_eqb}
-use Rattle.std.proofs.Math.Bool.{and-true}
 use Rattle.std.proofs.lemmas.Bool.Decides.{nat_tests}
 use Rattle.std.proofs.lemmas.List.{length-append}
 use Rattle.yaml_spec.specs.Bytes.{line_feed, is_empty, is_white, first}
@@ -105,7 +104,11 @@ pub ruleset finals = (final-break, final-other)
 pub trimmed-cons : (l : List ℕ) (ls ps : List (List ℕ)) → ps ≡ l ∷ ls → are_trimmed ps ≡ (not (is_white (first l)) && not (is_white (last l)) && are_trimmed ls)
 trimmed-cons l ls ps h = rw h
 
+and_true : (b : Bool) → (b && true) ≡ b
+and_true true = refl
+and_true false = refl
+
 pub trimmed-one : (l : List ℕ) (ps : List (List ℕ)) → ps ≡ l ∷ [] → are_trimmed ps ≡ (not (is_white (first l)) && not (is_white (last l)))
-trimmed-one l ps h = rw h (and-true (not (is_white (first l)) && not (is_white (last l))))
+trimmed-one l ps h = rw h (and_true (not (is_white (first l)) && not (is_white (last l))))
 
 pub ruleset trims = (trimmed-cons, trimmed-one)

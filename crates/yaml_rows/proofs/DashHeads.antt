@@ -1,6 +1,5 @@
 -- The heads of a line one after another.
-use Rattle.std.proofs.Common.{◌≡◌, ℕ, zero, suc, ◌+◌, ◌-◌, ◌≤◌, Bool, true, false, List, [], ◌∷◌, ◌++◌, length, drop, Some, None, slice_get, refl, sym, ap, subst, ◌∙◌, arith, length-drop, append_assoc}
-use Rattle.std.proofs.lemmas.Option.{some_pair_parts}
+use Rattle.std.proofs.Common.{◌≡◌, ℕ, zero, suc, ◌+◌, ◌-◌, ◌≤◌, Bool, true, false, List, [], ◌∷◌, ◌++◌, length, drop, Option, Some, None, slice_get, refl, sym, ap, subst, ◌∙◌, arith, length-drop, append_assoc}
 use Rattle.yaml_spec.specs.Bytes.{is_empty, indent, skip_white, passed}
 use Rattle.yaml_spec.specs.Plain.{start_fault, span}
 use Rattle.yaml_spec.specs.Rows.{Mark, dash_mark, key_mark, Key_text, Head, heads_of, key_at, is_dash, has_tab_before, least_behind, open_place_of, row_at}
@@ -18,12 +17,15 @@ pub ruleset whites = (skip_white-length)
 abbrev head_at : ℕ → Bool → Mark → Head
 head_at column has_tab m = record { column = column; has_tab = has_tab; mark = m }
 
+some-pair : {A B : Type 0} (x m : A) (y b : B) → ◌≡◌ {A = Option (A × B)} (Some (x, y)) (Some (m, b)) → (x ≡ m) × (y ≡ b)
+some-pair {A} {B} x m y b h = let e : ◌≡◌ {A = A × B} (x, y) (m, b) = cc in (ap (λ (p : A × B). p.0) e, ap (λ (p : A × B). p.1) e)
+
 pub key_head-some : (column : ℕ) (has_tab : Bool) (t : List ℕ) (m : Mark) (b : List ℕ) → marked (key_at t) ≡ Some (m, b) → key_head column has_tab t ≡ (head_at column has_tab m ∷ [], skip_white b)
 unfolding key_head
 key_head-some column has_tab t m b h = by (key_at t) refl h where
   by : (o : Key_text) → key_at t ≡ o → marked o ≡ Some (m, b) → key_head column has_tab t ≡ (head_at column has_tab m ∷ [], skip_white b)
   by (Some k) e g =
-      let same = some_pair_parts (key_mark k.0) m k.1 b g in
+      let same = some-pair (key_mark k.0) m k.1 b g in
       rw (e, key_head, same.0, same.1) refl
   by None e g = cc
 

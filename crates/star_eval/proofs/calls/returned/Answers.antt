@@ -9,8 +9,7 @@ use Rattle.star_eval.specs.Calling.{functions_at}
 use Rattle.star_eval.specs.Frames.{Goes, inside}
 use Rattle.star_eval.specs.View.{OwnsFrame, arena_in, frames_of, in_file, waiting_with}
 use Rattle.star_eval.specs.Waiting.{setting, unwind_value}
-use Rattle.star_calls.proofs.Kept.{env_kept, reversed_each}
-use Rattle.star_eval.proofs.Growing.{frames_kept}
+use Rattle.star_eval.proofs.Growing.{env_kept, frames_kept, reversed_each}
 use Rattle.star_eval.proofs.calls.returned.Goals as goal
 
 pub returns : goal.returns

@@ -7,7 +7,7 @@ use Rattle.star_values.specs.Objects.{env_in, variable_in}
 use Rattle.star_values.specs.Owns.{OwnsEnv, OwnsVariable}
 use Rattle.star_eval.specs.Meets.{arena_of}
 use Rattle.star_eval.specs.declared.session.Session.{Session}
-use Rattle.star_calls.proofs.Kept.{env_kept}
+use Rattle.star_eval.proofs.Growing.{env_kept}
 use Rattle.star_eval.proofs.comprehensions.open_clauses.Goals as goal
 
 pub returns : goal.returns

@@ -6,7 +6,7 @@ use Rattle.template_meaning.specs.Files.{bind_loaded}
 use Rattle.star_eval.specs.Finishes.{globals_of}
 use Rattle.star_eval.specs.Meets.{Acts, arena_of, state_of}
 use Rattle.star_eval.proofs.FileRuns.{bound_stops, bound_turn, globals_kept}
-use Rattle.star_calls.proofs.Kept.{env_kept}
+use Rattle.star_eval.proofs.Growing.{env_kept}
 use Rattle.star_eval.proofs.file.bind_loaded.Goals as goal
 
 pub loop-first-preserved : goal.loop-first-preserved

@@ -20,7 +20,7 @@ use Rattle.star_eval.specs.FileRun.{RunsAs, block_of}
 use Rattle.star_eval.specs.Finishes.{block_ending, globals_of}
 use Rattle.star_eval.specs.Meets.{arena_of, in_store, state_of}
 use Rattle.star_eval.proofs.FileRuns.{file_runs, globals_kept, same_calls, unbound_runs}
-use Rattle.star_calls.proofs.Kept.{env_kept}
+use Rattle.star_eval.proofs.Growing.{env_kept}
 use Rattle.star_eval.proofs.file.run_known.Goals as goal
 
 pub bind_loaded-requires-clause-loaded : goal.bind_loaded-requires-clause-loaded
