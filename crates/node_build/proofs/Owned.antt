@@ -1,5 +1,5 @@
 -- Which values are owned in items and nodes.
-use Rattle.std.proofs.Common.{◌≡◌, ◌∙◌, ◌==◌, ℕ, true, false, ap, length, get_or, zero, suc, take, List, [], ◌∷◌, ◌++◌, sym, subst, rules}
+use Rattle.std.proofs.Common.{◌≡◌, ◌∙◌, ◌==◌, ℕ, false, ap, length, get_or, zero, suc, take, List, [], ◌∷◌, ◌++◌, sym, subst, rules}
 use Rattle.std.specs.Prelude.{map}
 use Rattle.ytt_base.specs.declared.tree.Tree.{Tree}
 use Rattle.star_fragments.specs.Fresh.{OwnsBody}
