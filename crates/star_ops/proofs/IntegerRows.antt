@@ -2,7 +2,7 @@
 use Rattle.star_steps.proofs.Names.{ℕ, Bool, true, false, Result, Ok, Err, Stop, View, Gives, state_in, grows_same, gives_same, ap, give, unary_row, neg_ℤ, if◌then◌else◌, ◌≡◌, ℤ, Option, Some, None, FitsSigned, to_z, of_z, refl, sym, subst, ◌∙◌, to_z-of_z, w128, Place, as_int, State, Computation, fail, int_value, if_both, sum_row, product_row, remainder_row, union_row, binary_row}
 use Rattle.ytt_base.specs.declared.fault.FaultKind.TheVariants as kind
 use Rattle.value_spec.specs.Values.{Value}
-use Rattle.star_integers.specs.Answers.{Answer, number, refused, answer_of, answered, fitting, integer_answer, operator_of}
+use Rattle.star_integers.specs.Answers.{number, refused, answer_of, answered, fitting, integer_answer, operator_of}
 use Rattle.star_integers.specs.declared.operators.IntegerOp.{IntegerOp}
 use Rattle.star_integers.specs.declared.operators.IntegerOp.TheVariants as integer
 use Rattle.star_integers.proofs.Acts as acts

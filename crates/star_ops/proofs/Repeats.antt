@@ -1,5 +1,5 @@
 -- Tuples and lists so many times, as their members are paid for and copied.
-use Rattle.star_steps.proofs.Names.{◌≡◌, ◌+◌, ◌*◌, ◌∙◌, ℕ, ℤ, List, Stop, Place, Result, Ok, Err, Value, View, Owns, Gives, Makes, MakesObject, Meets, as_is, state_in, State, Ending, done, give, new_list, then_do, take_steps, with_object, length, list_at, ap, sym, at_least_zero, repeated, gives_stop}
+use Rattle.star_steps.proofs.Names.{◌≡◌, ◌+◌, ◌*◌, ◌∙◌, ℕ, ℤ, List, Stop, Place, Result, Ok, Err, Value, View, Gives, Makes, MakesObject, Meets, as_is, state_in, State, done, give, new_list, then_do, take_steps, length, list_at, ap, sym, at_least_zero, repeated, gives_stop}
 use Rattle.value_spec.specs.Values as plain
 use Rattle.operator_spec.specs.Operators.{repeat_list, repeat_tuple, tuple_of}
 use Rattle.star_index.proofs.Ends.{gives_made, gives_object}
