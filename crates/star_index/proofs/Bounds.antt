@@ -1,6 +1,6 @@
 -- The bounds of a slice, as the code names them.
 use Rattle.std.proofs.Common.{◌-ℤ◌}
-use Rattle.star_steps.proofs.Names.{◌≡◌, ◌∙◌, ℕ, ℤ, pos, negsuc, true, false, arith, ints, bound_or, end_place, first_place}
+use Rattle.star_steps.proofs.Names.{◌≡◌, ℕ, ℤ, pos, negsuc, true, false, arith, ints, bound_or, end_place, first_place}
 use Rattle.std.specs.Prelude.{int_lt}
 use Rattle.value_spec.specs.Values.{Value}
 

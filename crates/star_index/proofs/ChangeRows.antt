@@ -1,6 +1,6 @@
--- What a key of a dict gets.
+-- What a key of a dict and a member of a list get.
 use Rattle.star_steps.proofs.Names.{◌≡◌, ℕ, Result, Err, refl, Place, Stop, acting, then_do, did, dict_put, may_change, dict_value, key_sized, set_index_row, View, Meets, as_is, state_in, meets_same, meets_stop}
-use Rattle.std.proofs.Common.{List, length, Option, Some, None, ap, sym, subst, ◌∙◌}
+use Rattle.std.proofs.Common.{length, Option, Some, None, ap, sym, subst, ◌∙◌}
 use Rattle.std.specs.Prelude.{ℤ}
 use Rattle.index_spec.specs.Index.{place_among, set_member_at}
 use Rattle.value_spec.specs.Outcomes.{Computation, after_act, bad}
@@ -12,7 +12,6 @@ use Rattle.star_values.specs.declared.object.ArenaStop.{ArenaStop}
 use Rattle.star_values.specs.declared.object.ArenaStop.TheVariants as arena_stop
 use Rattle.ytt_base.specs.Outcomes.{fault_at}
 use Rattle.ytt_base.specs.declared.fault.FaultKind.TheVariants as kind
-use Rattle.ytt_base.specs.declared.fault.Stop.TheVariants as stop
 
 -- a dict that may be changed
 pub key_put : (p : Place) (r : ℕ) (k v : plain.Value) (a : View) (n : ℕ) → may_change r a.store ≡ did tt a.store →
@@ -26,7 +25,7 @@ put_stopped p r k v a n m e res may h is = meets_same as_is res (state_in a m) _
 
 -- ---- what an act of the arena answers, at a place
 
--- what a refusal of an act is, where nothing is changed
+-- an act that is refused changes nothing, and is that fault at the place
 refused_at : {B : Type 0} (p : Place) (k : kind.the_data) (o : Answer plain.Store B) (why : Answer plain.Store B) (a b : View) (n : ℕ) → o ≡ why → b.store ≡ a.store → after_act p why (state_in a n) ≡ bad (fault_at k p) (state_in a n) → after_act p o (state_in a n) ≡ bad (fault_at k p) (state_in b n)
 refused_at p k o why a b n e same is = ap (λ o. after_act p o (state_in a n)) e ∙ is ∙ ap (λ st. bad (fault_at k p) (record { store = st; steps = n; host = tt })) (sym same)
 
