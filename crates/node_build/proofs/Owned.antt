@@ -1,5 +1,5 @@
 -- Which values are owned in items and nodes.
-use Rattle.std.proofs.Common.{◌≡◌, ℕ, zero, suc, take, List, [], ◌∷◌, ◌++◌, sym, subst, rules}
+use Rattle.std.proofs.Common.{◌≡◌, ◌∙◌, ◌==◌, ℕ, false, ap, length, get_or, zero, suc, take, List, [], ◌∷◌, ◌++◌, sym, subst, rules}
 use Rattle.std.specs.Prelude.{map}
 use Rattle.ytt_base.specs.declared.tree.Tree.{Tree}
 use Rattle.star_fragments.specs.Fresh.{OwnsBody}
@@ -68,3 +68,8 @@ pub taken_each : {A : Type 0} (P : A → Type 0) (n : ℕ) (xs : List A) → Eac
 taken_each P zero xs h = tt
 taken_each P (suc n) [] h = tt
 taken_each P (suc n) (x ∷ xs) h = (h.0, taken_each P n xs h.1)
+
+-- what holds of all holds of the first
+pub first_of : {A : Type 0} (P : A → Type 0) (n : A) (ns : List A) (many : ℕ) → many ≡ length ns → (many == 0) ≡ false → n ≡ get_or ns 0 n → Each P ns → P n
+first_of P n [] many e f is o = absurd (search (rules, sym (ap (λ m. m == 0) e) ∙ f))
+first_of P n (m ∷ ns) many e f is o = subst P (sym is) o.0

@@ -1,5 +1,5 @@
 -- The open nodes of a stack.
-use Rattle.std.proofs.Common.{◌≡◌, ◌≤◌, ◌<◌, ◌==◌, ℕ, zero, suc, ◌+◌, ◌-◌, false, not, Some, List, [], ◌∷◌, ◌++◌, length, length-append, take, drop, get_or, slice_set, refl, sym, ap, ◌∙◌, add-one, arith, rules}
+use Rattle.std.proofs.Common.{◌≡◌, ◌≤◌, ◌<◌, ◌==◌, ℕ, zero, suc, ◌+◌, ◌-◌, true, false, not, Some, List, [], ◌∷◌, ◌++◌, length, length-append, take, drop, get_or, slice_set, refl, sym, ap, ◌∙◌, add-one, arith, rules}
 use Rattle.std.specs.Prelude.{slice_get}
 use Rattle.value_spec.specs.Values as plain
 use Rattle.value_spec.specs.Values.{Children}
@@ -142,6 +142,11 @@ module _ (held : List plain.Value) where
   finished-some k top n (m ∷ ns) e =
       let same : n ≡ m = search (rules, e) in
       ap (λ (m : OpenNode). built_in held m.children.items.items) same ∙ sym (finished-first k top m ns)
+
+  -- where none is below
+  pub finished-alone : (k : ℕ) (top : OpenNode) (ns : List OpenNode) (many : ℕ) → many ≡ length ns → (many == 0) ≡ true → built_in held top.children.items.items ≡ finished (nodes_in held k top ns)
+  finished-alone k top [] many e f = refl
+  finished-alone k top (m ∷ ns) many e f = absurd (search (rules, sym (ap (λ m. m == 0) e) ∙ f))
 
   pub finished-zero : (k : ℕ) (top n : OpenNode) (ns : List OpenNode) (many : ℕ) → many ≡ length ns → (many == 0) ≡ false → n ≡ get_or ns 0 n → built_in held n.children.items.items ≡ finished (nodes_in held k top ns)
   finished-zero k top n [] many e f is = absurd (search (rules, sym (ap (λ m. m == 0) e) ∙ f))

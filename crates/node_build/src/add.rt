@@ -137,9 +137,12 @@ fn add_copy(
     ensures owned { (a : View) → OwnsItem a item.now → OwnsBuilt a items.old.items → OwnsBuilt a items.new.items }
 {
     let spot = spot_for(alloc, keys, items, item.place, &item.key, &item.notes)?;
-    let copy = copy_item(alloc, item)?;
     make_room(items)?;
-    push(log, Undo::Behind)?;
+    let copy = copy_item(alloc, item)?;
+    if let Err(_) = push(log, Undo::Behind) {
+        drop(copy);
+        return Err(Stop::Memory);
+    }
     let step = place(items, spot, copy);
     log.set(log.len() - 1, step);
     Ok(())

@@ -79,7 +79,7 @@ impl Builder {
         match self.below.push(under) {
             Ok(()) => Ok(()),
             Err(failed) => {
-                self.top = failed.value;
+                drop(mem::replace(&mut self.top, failed.value));
                 Err(Memory)
             }
         }

@@ -48,12 +48,25 @@ fn body(holds: Holds, value: Filled, children: Built) -> BuiltValue
 {
     match holds {
         Holds::One => match value {
-            Filled::One(body) => body,
+            Filled::One(body) => {
+                drop(children);
+                body
+            }
             Filled::Many(_) => unreachable!(),
         },
-        Holds::Map => BuiltValue::Map(children),
-        Holds::List => BuiltValue::List(children),
-        Holds::Void => BuiltValue::One(Tree::Null),
+        Holds::Map => {
+            drop(value);
+            BuiltValue::Map(children)
+        }
+        Holds::List => {
+            drop(value);
+            BuiltValue::List(children)
+        }
+        Holds::Void => {
+            drop(value);
+            drop(children);
+            BuiltValue::One(Tree::Null)
+        }
     }
 }
 
@@ -93,7 +106,7 @@ fn add_one(
     make_room(items)?;
     let empty = OpenNode::new(alloc, node.place, node.kind, node.holds);
     let item = closed(mem::replace(node, empty));
-    place(items, spot, item);
+    drop(place(items, spot, item));
     Ok(())
 }
 

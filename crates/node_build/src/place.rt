@@ -41,12 +41,12 @@ fn take_one_out(items: &mut Vec<BuiltItem>, step: Undo)
     ensures { items.new.items ≡ undone_one step items.old.items }
 {
     match step {
-        Undo::Behind => {
-            items.pop();
-        }
+        Undo::Behind => drop(items.pop()),
         Undo::At(at, item) => {
             if at < items.len() {
-                items[at] = item;
+                drop(mem::replace(&mut items[at], item));
+            } else {
+                drop(item);
             }
         }
     }

@@ -1,3 +1,4 @@
+pub mod Bounds
 pub mod Bytes
 pub mod ChangeRows
 pub mod Characters

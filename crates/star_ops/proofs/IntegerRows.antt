@@ -1,12 +1,15 @@
 -- The rows of operators where an operand is an integer.
-use Rattle.star_steps.proofs.Names.{◌≡◌, ℤ, Option, Some, None, FitsSigned, to_z, of_z, refl, sym, subst, ◌∙◌, to_z-of_z, w128, Place, as_int, State, Computation, fail, int_value, if_both, sum_row, product_row, remainder_row, union_row, binary_row}
+use Rattle.star_steps.proofs.Names.{ℕ, Bool, true, false, Result, Ok, Err, Stop, View, Gives, state_in, grows_same, gives_same, ap, give, unary_row, neg_ℤ, if◌then◌else◌, ◌≡◌, ℤ, Option, Some, None, FitsSigned, to_z, of_z, refl, sym, subst, ◌∙◌, to_z-of_z, w128, Place, as_int, State, Computation, fail, int_value, if_both, sum_row, product_row, remainder_row, union_row, binary_row}
 use Rattle.ytt_base.specs.declared.fault.FaultKind.TheVariants as kind
 use Rattle.value_spec.specs.Values.{Value}
-use Rattle.star_integers.specs.Answers.{answered, integer_answer, operator_of}
+use Rattle.star_integers.specs.Answers.{number, refused, answer_of, answered, fitting, integer_answer, operator_of}
 use Rattle.star_integers.specs.declared.operators.IntegerOp.{IntegerOp}
 use Rattle.star_integers.specs.declared.operators.IntegerOp.TheVariants as integer
 use Rattle.star_integers.proofs.Acts as acts
-use Rattle.star_ops.specs.Acts.{integer_row}
+use Rattle.ytt_base.specs.declared.fault.FaultKind.{FaultKind}
+use Rattle.code_spec.specs.Code as code
+use Rattle.star_values.specs.declared.value.Value as held
+use Rattle.star_ops.specs.Acts.{integer_row, placed}
 
 -- what follows from two numbers, where each is one
 both_as : (o q : Option ℤ) (f g : ℤ → ℤ → Computation (Unit {0}) Value) (m : Computation (Unit {0}) Value) (s : State (Unit {0})) → ((x y : ℤ) → f x y s ≡ g x y s) → if_both o q f m s ≡ if_both o q g m s
@@ -52,3 +55,21 @@ rest_of_int p z w s = both_as (Some z) (as_int w) _ _ (fail kind.ValueKind p) s 
 -- `|` where the left is an integer
 pub union_of_int : (p : Place) (z : ℤ) (w : Value) (s : State (Unit {0})) → union_row p (int_value z) w s ≡ integer_row integer.BitOr p (int_value z) w s
 union_of_int p z w s = both_as (Some z) (as_int w) _ _ (fail kind.ValueKind p) s (λ x y. acts.integer_row integer.BitOr p x y s)
+
+-- what is given where a test holds, or the refusal, is its answer
+if_fitting : (p : Place) (k : FaultKind) (z : ℤ) (b : Bool) (s : State (Unit {0})) → (if b then give (int_value z) else fail k p) s ≡ answered p (if b then number z else refused k) s
+if_fitting p k z true s = refl
+if_fitting p k z false s = refl
+
+-- an answer at a place is what its computation gives
+placed_gives : (p : Place) (r : Result ℤ FaultKind) (a : View) (n : ℕ) → Gives (answered p (answer_of r) (state_in a n)) (placed p r) a a n
+placed_gives p (Ok z) a n = record { meaning = refl; owns = tt; grows = grows_same a }
+placed_gives p (Err k) a n = record { meaning = refl; owns = tt; grows = grows_same a }
+
+-- an integer whose sign is turned
+pub negative_gives : (p : Place) (z y : ℤ) (v : Value) (r : Result ℤ FaultKind) (res : Result held.Value Stop) (a : View) (n : ℕ) → v ≡ int_value z → y ≡ z → answer_of r ≡ fitting (neg_ℤ y) → res ≡ placed p r → Gives (unary_row p code.negation v (state_in a n)) res a a n
+negative_gives p z y v r res a n v_is y_is r_is res_is =
+    subst (λ res. Gives (unary_row p code.negation v (state_in a n)) res a a n) (sym res_is)
+    (gives_same _ _ (placed p r) a a n
+    (ap (λ v. unary_row p code.negation v (state_in a n)) v_is ∙ if_fitting p kind.IntOverflow (neg_ℤ z) _ (state_in a n) ∙ ap (λ x. answered p x (state_in a n)) (ap (λ z. fitting (neg_ℤ z)) (sym y_is) ∙ sym r_is))
+    (placed_gives p r a n))

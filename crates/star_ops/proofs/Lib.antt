@@ -3,3 +3,4 @@ pub mod Copies
 pub mod IntegerRows
 pub mod Members
 pub mod Parts
+pub mod Repeats

@@ -17,5 +17,5 @@ returns-clause-known c =
 
 pub returns-clause-undone : goal.returns-clause-undone
 returns-clause-undone c =
-    undone_set c.args.log.now c.push.new.items c.set.new.self c.len.result _ c.place-step.result c.place-step.new.items.items c.args.items.now.items c.in_ok-push.ensures.ok c.len.ensures c.set.ensures
+    undone_set c.args.log.now c.push.new.items c.set.new.self c.len.result _ c.place-step.result c.place-step.new.items.items c.args.items.now.items c.in_default.ensures.ok c.len.ensures c.set.ensures
     (c.place-step.ensures.undone ∙ c.in_ok-make_room.ensures.same)
