@@ -1,3 +1,4 @@
 pub mod AllowedNames
+pub mod Formed
 pub mod Nested
 pub mod Rows
