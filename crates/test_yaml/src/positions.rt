@@ -87,7 +87,9 @@ fn quote_at(alloc: Global, source: &str, line: u64, column: u64) -> Result<Strin
     if source.len() >= 1000 {
         return Err("a long text".into());
     }
-    let lines = cut_lines(alloc, source.as_bytes(), 3)?;
+    let Ok(lines) = cut_lines(alloc, source.as_bytes(), 3) else {
+        return Err("no lines".into());
+    };
     if !has_quote(&lines, line, column) {
         return Err("no quote".into());
     }
@@ -143,7 +145,9 @@ fn block_at(
     if source.len() >= 1000 {
         return Err("a long text".into());
     }
-    let lines = cut_lines(alloc, source.as_bytes(), 3)?;
+    let Ok(lines) = cut_lines(alloc, source.as_bytes(), 3) else {
+        return Err("no lines".into());
+    };
     if !has_block(&lines, line, column) {
         return Err("no block".into());
     }
