@@ -7,11 +7,11 @@ ghost use Rattle.star_grammar.specs.declared.table.Added.TheVariants as added;
 ghost use Rattle.star_grammar.specs.declared.table.Opened.TheVariants as opened;
 
 use crate::made::index;
-use crate::params::defaulted;
 use crate::parts::Parts;
 use crate::values::{name_of, text_of, with};
 use sqlite_items::Items;
 use star_grammar::{Added, Opened, Part};
+use star_params::Parameters;
 use star_tree::code::{Clause, Entry, Expr, Loaded, Param};
 use std::alloc::Global;
 use ytt_base::text::{Memory, Text};
@@ -33,7 +33,7 @@ pub fn open_part(alloc: Global, action: Opened, parts: &mut Parts) -> Result<(),
         Opened::Exprs | Opened::EmptyTuple => parts.push(Part::Exprs(0, Items::new(alloc))),
         Opened::Entries => parts.push(Part::Entries(Items::new(alloc))),
         Opened::Clauses => parts.push(Part::Clauses(Items::new(alloc))),
-        Opened::Params => parts.push(Part::Params(Items::new(alloc))),
+        Opened::Params => parts.push(Part::Params(Parameters::new(alloc))),
         Opened::Loads => parts.push(Part::Loads(Items::new(alloc))),
         Opened::Missing => parts.push(Part::Missing),
         Opened::NoResult => open_result(alloc, parts),
@@ -107,7 +107,7 @@ fn add_param(alloc: Global, parts: &mut Parts, param: Param) -> Result<(), Memor
     ensures { OnOk result (parts.new ≡ part.Params (params_in (top parts.old) ++ param ∷ []) ∷ under parts.old) }
 {
     let params = parts.pop_params(alloc);
-    parts.push(Part::Params(with(params, param)?))
+    parts.push(Part::Params(params.with(alloc, param)?))
 }
 
 fn add_required(alloc: Global, parts: &mut Parts) -> Result<(), Memory>
@@ -122,7 +122,7 @@ fn add_default(alloc: Global, parts: &mut Parts) -> Result<(), Memory>
 {
     let default = parts.pop_boxed(alloc)?;
     let params = parts.pop_params(alloc);
-    parts.push(Part::Params(defaulted(params, default)?))
+    parts.push(Part::Params(params.with_default(default)?))
 }
 
 fn add_star(alloc: Global, parts: &mut Parts) -> Result<(), Memory>

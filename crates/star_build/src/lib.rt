@@ -6,7 +6,6 @@ mod added;
 mod blocks;
 mod ends;
 mod made;
-mod params;
 mod parts;
 mod stated;
 mod values;

@@ -109,7 +109,7 @@ fn lambda(alloc: Global, parts: &mut Parts) -> Result<(), Memory>
     ensures { OnOk result (parts.new ≡ spec.made_parts made.Lambda parts.old) }
 {
     let value = parts.pop_boxed(alloc)?;
-    let params = parts.pop_params(alloc);
+    let params = parts.pop_params(alloc).into_items();
     let line = parts.pop_line();
     parts.push_expr(alloc, line, Expr::Lambda(line, 0, params, value))
 }

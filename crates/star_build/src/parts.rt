@@ -1,13 +1,14 @@
 // The parts that were read.
-ghost use Rattle.std.specs.Prelude.{◌≡◌, ◌∷◌, [], OnOk, IfOk};
+ghost use Rattle.std.specs.Prelude.{◌≡◌, ◌∷◌, [], MatchOption, OnOk, IfOk};
 ghost use Rattle.star_grammar.specs.Parts as spec;
 ghost use Rattle.star_grammar.specs.declared.part.Part.TheVariants as part;
+ghost use Rattle.star_params.specs.Parameters as asked;
 
-use crate::params::{has_name, has_star, has_stars, may_be_required};
-use crate::values::{boxed_of, expr_of, line_of, mark_of, no_items};
+use crate::values::{boxed_of, expr_of, line_of, mark_of, no_items, no_params};
 use sqlite_items::{Boxed, Items};
 use star_grammar::{Mark, Part};
-use star_tree::code::{Clause, Entry, Expr, Loaded, Param, Stmt};
+use star_params::Parameters;
+use star_tree::code::{Clause, Entry, Expr, Loaded, Stmt};
 use std::alloc::Global;
 use std::marker::Model;
 use ytt_base::text::Memory;
@@ -87,11 +88,27 @@ fn is_place(part: &Part) -> bool
 
 // What the last part is.
 impl Parts {
+    fn last(&self) -> Option<&Part>
+        ensures { MatchOption result (spec.top self.now ≡ part.Missing) (λ last. last.now ≡ spec.top self.now) }
+    {
+        self.parts.last()
+    }
+
+    /// Its parameters, where it has some.
+    fn params(&self) -> Option<&Parameters>
+        ensures { MatchOption result (spec.params_in (spec.top self.now) ≡ []) (λ params. params.now ≡ spec.params_in (spec.top self.now)) }
+    {
+        match self.last() {
+            Some(Part::Params(params)) => Some(params),
+            _ => None,
+        }
+    }
+
     /// Whether it is a name.
     pub fn is_name(&self) -> bool
         ensures { result ≡ spec.is_name (spec.top self.now) }
     {
-        match self.parts.last() {
+        match self.last() {
             Some(part) => is_name(part),
             None => false,
         }
@@ -101,55 +118,57 @@ impl Parts {
     pub fn is_place(&self) -> bool
         ensures { result ≡ spec.is_place (spec.top self.now) }
     {
-        match self.parts.last() {
+        match self.last() {
             Some(part) => is_place(part),
             None => false,
         }
     }
 
-    /// Its parameters.
-    fn params(&self) -> &[Param]
-        ensures { result.now ≡ spec.params_in (spec.top self.now) }
-    {
-        match self.parts.last() {
-            Some(Part::Params(params)) => params.as_slice(),
-            _ => &[],
-        }
-    }
-
     /// Whether one of its parameters has two stars.
     pub fn has_stars(&self) -> bool
-        ensures { result ≡ spec.has_stars (spec.params_in (spec.top self.now)) }
+        ensures { result ≡ asked.has_stars (spec.params_in (spec.top self.now)) }
     {
-        has_stars(self.params())
+        match self.params() {
+            Some(params) => params.has_stars(),
+            None => false,
+        }
     }
 
     /// Whether one of its parameters has a star, or is one alone.
     pub fn has_star(&self) -> bool
-        ensures { result ≡ spec.has_star (spec.params_in (spec.top self.now)) }
+        ensures { result ≡ asked.has_star (spec.params_in (spec.top self.now)) }
     {
-        has_star(self.params())
+        match self.params() {
+            Some(params) => params.has_star(),
+            None => false,
+        }
     }
 
     /// Whether its last parameter may go without a default.
     pub fn may_be_required(&self) -> bool
-        ensures { result ≡ spec.may_be_required (spec.params_in (spec.top self.now)) }
+        ensures { result ≡ asked.may_be_required (spec.params_in (spec.top self.now)) }
     {
-        may_be_required(self.params())
+        match self.params() {
+            Some(params) => params.may_be_required(),
+            None => true,
+        }
     }
 
     /// Whether one of its parameters has this name.
     pub fn has_name(&self, name: &str) -> bool
-        ensures { result ≡ spec.has_name name.now (spec.params_in (spec.top self.now)) }
+        ensures { result ≡ asked.has_name name.now (spec.params_in (spec.top self.now)) }
     {
-        has_name(self.params(), name)
+        match self.params() {
+            Some(params) => params.has_name(name),
+            None => false,
+        }
     }
 
     /// The line of its first token, or 0.
     pub(crate) fn line(&self) -> u32
         ensures { result ≡ spec.line_in (spec.top self.now) }
     {
-        match self.parts.last() {
+        match self.last() {
             Some(part) => line_of(part),
             None => 0,
         }
@@ -159,7 +178,7 @@ impl Parts {
     fn mark(&self) -> Mark
         ensures { result ≡ spec.mark_in (spec.top self.now) }
     {
-        match self.parts.last() {
+        match self.last() {
             Some(part) => mark_of(part),
             None => Mark::Comma,
         }
@@ -230,13 +249,13 @@ impl Parts {
         }
     }
 
-    pub(crate) fn pop_params(&mut self, alloc: Global) -> Items<Param>
+    pub(crate) fn pop_params(&mut self, alloc: Global) -> Parameters
         ensures value { result ≡ spec.params_in (spec.top self.old) }
         ensures rest { self.new ≡ spec.under self.old }
     {
         match self.pop() {
             Part::Params(params) => params,
-            other => no_items(alloc, other),
+            other => no_params(alloc, other),
         }
     }
 

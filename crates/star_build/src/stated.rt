@@ -112,7 +112,7 @@ fn begin_for(alloc: Global, parts: &mut Parts) -> Result<(), Memory>
 fn begin_def(alloc: Global, parts: &mut Parts) -> Result<(), Memory>
     ensures { OnOk result (parts.new ≡ spec.stated_parts stated.Def parts.old) }
 {
-    let params = parts.pop_params(alloc);
+    let params = parts.pop_params(alloc).into_items();
     let name = name_of(alloc, parts.pop_expr(alloc));
     let line = parts.pop_line();
     add_statement(alloc, parts, Stmt::Def(line, 0, None, name, params))

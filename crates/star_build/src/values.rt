@@ -4,6 +4,7 @@ ghost use Rattle.star_grammar.specs.Parts as spec;
 
 use sqlite_items::{Boxed, Items};
 use star_grammar::{Mark, Part};
+use star_params::Parameters;
 use star_tree::code::Expr;
 use std::alloc::Global;
 use ytt_base::text::{Memory, Text};
@@ -116,4 +117,12 @@ pub fn no_items<T>(alloc: Global, part: Part) -> Items<T>
 {
     drop(part);
     Items::new(alloc)
+}
+
+/// No parameters, where a part holds others.
+pub fn no_params(alloc: Global, part: Part) -> Parameters
+    ensures { result ≡ [] }
+{
+    drop(part);
+    Parameters::new(alloc)
 }

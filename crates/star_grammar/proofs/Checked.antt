@@ -1,8 +1,7 @@
 -- The tables keep their laws, by computing.
-use Rattle.std.proofs.Common.{◌≡◌, ℕ, List, [], ◌∷◌, Option, Some, None, refl, sym, ap, ◌∙◌, arith}
+use Rattle.std.proofs.Common.{◌≡◌, List, [], ◌∷◌, Some, None, refl, arith}
 use Rattle.std.specs.Prelude.{Bool, true, false, nat_eq, ◌&&◌, if◌then◌else◌}
 use Rattle.ll.specs.declared.shapes.Shape.{Shape}
-use Rattle.ll.specs.Grammar.{Entry}
 use Rattle.ll.specs.Shapes.{apply}
 use Rattle.ll.proofs.Laws.{Ahead, Consistent, Ended}
 use Rattle.ll.proofs.Check.{nth, every, Listed, same_place, one_place, all_chosen, chosen, followed, has_head, headed, is_ranked, ranked, implies, implied, every_at}
@@ -19,7 +18,7 @@ use Rattle.star_grammar.specs.declared.table.Rule.{Rule}
 use Rattle.star_grammar.specs.declared.table.Rule.TheVariants as rule
 use Rattle.star_grammar.specs.declared.table.Terminal.TheVariants as terminal
 use Rattle.star_grammar.specs.Effects.{takes, place, effect_of, is_keep, silent}
-use Rattle.star_grammar.specs.Language.{language, Value, value, kind_of_token}
+use Rattle.star_grammar.specs.Language.{language, Value, kind_of_token}
 use Rattle.star_grammar.specs.Machine.{tables, solid}
 use Rattle.star_grammar.specs.Predict.{predict}
 use Rattle.star_grammar.specs.Reading.{rule_of, entry_of}

@@ -1,7 +1,7 @@
 -- Nothing stands behind the text's end.
-use Rattle.std.proofs.Common.{◌≡◌, ℕ, List, [], ◌∷◌, ◌++◌, Some, None, refl, sym, ap, ◌∙◌, arith, append_assoc}
+use Rattle.std.proofs.Common.{◌≡◌, ℕ, List, [], ◌∷◌, ◌++◌, refl, sym, ap, ◌∙◌, arith, append_assoc}
 use Rattle.std.specs.Prelude.{Bool, true, false, not, ◌&&◌, if◌then◌else◌}
-use Rattle.ll.specs.Grammar.{terminal, rule, Symbols, Entry, Source, done, token, node, Parts, IsWhole, spell, Parses, Front}
+use Rattle.ll.specs.Grammar.{terminal, rule, Symbols, done, token, node, Parts, IsWhole, spell, Parses, Front}
 use Rattle.ll.proofs.Check.{every, every_at}
 use Rattle.star_grammar.specs.declared.start.Start.{Start}
 use Rattle.star_grammar.specs.declared.table.Choice.{Choice}
@@ -15,7 +15,7 @@ use Rattle.star_grammar.specs.declared.token.Token.{Token}
 use Rattle.star_grammar.specs.declared.token.TokenKind.{TokenKind}
 use Rattle.star_grammar.specs.declared.token.TokenKind.TheVariants as a_token
 use Rattle.star_grammar.specs.Effects.{takes}
-use Rattle.star_grammar.specs.Language.{language, Value, kind_of_token, kind_of_mark, symbols_of, may_stand, taken}
+use Rattle.star_grammar.specs.Language.{language, Value, kind_of_token, kind_of_mark, symbols_of}
 use Rattle.star_grammar.specs.Reading.{entry_of, rule_of, empty_of}
 use Rattle.star_grammar.specs.Table.{body}
 use Rattle.star_grammar.specs.Tokens.{is_end, ends}

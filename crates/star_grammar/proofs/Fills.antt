@@ -1,14 +1,11 @@
 -- Heights in this language, and how what is begun may end.
-use Rattle.std.proofs.Common.{◌≡◌, ℕ, ◌+◌, ◌<◌, ◌≤◌, max, List, [], ◌∷◌, length, Option, Some, None, refl, sym, ap, ◌∙◌, subst, arith}
-use Rattle.std.specs.Prelude.{zero, suc, pos, Bool, true, false, nat_eq, not, ◌||◌, if◌then◌else◌, bytes_eq, codes}
+use Rattle.std.proofs.Common.{◌≡◌, ℕ, ◌<◌, max, List, [], ◌∷◌, length, Some, None, refl, ap, arith}
+use Rattle.std.specs.Prelude.{zero, suc, pos, Bool, true, false, nat_eq, if◌then◌else◌, bytes_eq, codes}
 use Rattle.std.proofs.Math.Bool.{and-false}
-use Rattle.std.proofs.lemmas.Slice.Eq.{bytes_eq-Decides}
-use Rattle.std.proofs.lemmas.Bool.{false_from_ne_true}
 use Rattle.ll.specs.declared.shapes.Shape.{Shape}
 use Rattle.ll.specs.Shapes.{run}
 use Rattle.ll.proofs.Laws.{Rising, Completes}
 use Rattle.ll.proofs.Heights.{Low, low_same, low_cons, low_up, Measured, closed, Given, Fillings, by_choice, Shallow, rising, completed}
-use Rattle.star_tree.specs.declared.code.Clause.TheOpen.{Param-F}
 use Rattle.star_tree.specs.declared.code.Param.{Param, out-Param}
 use Rattle.star_grammar.specs.declared.table.Choice.{Choice}
 use Rattle.star_grammar.specs.declared.table.Choice.TheVariants as choice
@@ -22,10 +19,11 @@ use Rattle.star_grammar.specs.declared.token.Mark.TheVariants as mark
 use Rattle.star_grammar.specs.declared.token.Token.{Token}
 use Rattle.star_grammar.specs.declared.token.TokenKind.{TokenKind}
 use Rattle.star_grammar.specs.declared.token.TokenKind.TheVariants as token
-use Rattle.star_grammar.specs.Effects.{least, takes, place, kind_of}
+use Rattle.star_grammar.specs.Effects.{least, takes, place}
 use Rattle.star_grammar.specs.Language.{language, Value, allowed, may_stand, taken, symbols_of, kind_of_token, is_constant}
 use Rattle.star_grammar.specs.Machine.{tables, measure}
-use Rattle.star_grammar.specs.Parts.{Parameter, top, params_in, name_of_parameter, has_name}
+use Rattle.star_grammar.specs.Parts.{top, params_in}
+use Rattle.star_params.specs.Parameters.{name_of_parameter, has_name}
 use Rattle.star_grammar.specs.Table.{head, body}
 use Rattle.star_grammar.proofs.Checked.{silent_shapes}
 use Rattle.star_grammar.proofs.Numbers.{canon, depth}

@@ -1,5 +1,5 @@
 -- The language: where alternatives and tokens may stand, and what they make of what was read.
-use Rattle.std.specs.Prelude.{ℕ, nat_eq, nat_lt, Bool, true, false, not, ◌&&◌, ◌||◌, if◌then◌else◌, List, [], ◌∷◌, length, Option, Some, None, bytes_eq, codes}
+use Rattle.std.specs.Prelude.{ℕ, nat_eq, nat_lt, Bool, true, false, not, ◌&&◌, ◌||◌, if◌then◌else◌, List, [], ◌∷◌, length, Some, None, bytes_eq, codes}
 use Rattle.ll.specs.declared.shapes.Shape.{Shape}
 use Rattle.ll.specs.Grammar as ll
 use Rattle.ll.specs.Grammar.{Grammar}
@@ -26,7 +26,8 @@ use Rattle.star_grammar.specs.declared.token.TokenKind.{TokenKind}
 use Rattle.star_grammar.specs.declared.token.TokenKind.TheVariants as token
 use Rattle.star_grammar.specs.Table.{head, body, action_of}
 use Rattle.star_grammar.specs.Effects.{effect, silent, given, takes}
-use Rattle.star_grammar.specs.Parts.{top, under, expr_in, params_in, is_name, is_place, has_name, has_star, has_stars, may_be_required, nothing}
+use Rattle.star_grammar.specs.Parts.{top, params_in, is_name, is_place, nothing}
+use Rattle.star_params.specs.Parameters.{has_name, has_star, has_stars, may_be_required}
 use Rattle.star_grammar.specs.Trees.{built}
 
 -- the parts that were read, their shapes, and the blocks that are open, the innermost first

@@ -1,6 +1,5 @@
 -- What bounds the turns of the machine at one token, and the machine itself.
 use Rattle.std.specs.Prelude.{ℕ, Bool, true, false, Some}
-use Rattle.ll.specs.Grammar.{Grammar}
 use Rattle.ll.specs.Machine.{Tables}
 use Rattle.ll.specs.Measure.{Measure, weigh}
 use Rattle.star_grammar.specs.declared.table.Kind.{Kind}

@@ -5,7 +5,6 @@ use Rattle.std.specs.List.{prefix_len}
 use Rattle.std.specs.Option.{option_map}
 use Rattle.std.specs.Str.{is_utf8}
 use Rattle.std.specs.Str.Parse.{digits_value}
-use Rattle.ytt_base.specs.declared.fault.FaultKind.{FaultKind}
 use Rattle.ytt_base.specs.declared.fault.FaultKind.TheVariants as fault
 use Rattle.star_grammar.specs.declared.token.Form.{Form}
 use Rattle.star_grammar.specs.declared.token.Letter.{Letter}
@@ -17,7 +16,6 @@ use Rattle.star_grammar.specs.declared.token.Origin.{Origin}
 use Rattle.star_grammar.specs.declared.token.Origin.TheVariants as origin
 use Rattle.star_grammar.specs.declared.token.Piece.{Piece}
 use Rattle.star_grammar.specs.declared.token.Piece.TheVariants as piece
-use Rattle.star_grammar.specs.declared.token.TokenKind.{TokenKind}
 use Rattle.star_grammar.specs.declared.token.TokenKind.TheVariants as token
 
 abbrev pub no_code : Piece

@@ -1,6 +1,6 @@
 -- What tokens are read as, or why they are refused: at the least token with which no text of the grammar begins, or
 -- none of at most this height.
-use Rattle.std.specs.Prelude.{◌≡◌, ℕ, Bool, true, false, ◌⊎◌, List, [], ◌∷◌, ◌++◌, Result, Ok, Err}
+use Rattle.std.specs.Prelude.{◌≡◌, ℕ, Bool, true, false, ◌⊎◌, List, [], ◌∷◌, ◌++◌}
 use Rattle.ll.specs.Grammar.{Entry, Parses, FormAt, DeepAt}
 use Rattle.ll.specs.Shapes.{shape}
 use Rattle.star_tree.specs.declared.code.Header.{Header}

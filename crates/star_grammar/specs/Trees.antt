@@ -26,7 +26,8 @@ use Rattle.star_grammar.specs.declared.table.Stated.{Stated}
 use Rattle.star_grammar.specs.declared.table.Stated.TheVariants as stated
 use Rattle.star_grammar.specs.declared.token.Mark.{Mark}
 use Rattle.star_grammar.specs.declared.token.Mark.TheVariants as mark
-use Rattle.star_grammar.specs.Parts.{top, under, expr_in, optional_in, exprs_in, entries_in, clauses_in, params_in, loads_in, code_in, line_in, mark_in, name_of, text_of, defaulted}
+use Rattle.star_grammar.specs.Parts.{top, under, expr_in, optional_in, exprs_in, entries_in, clauses_in, params_in, loads_in, code_in, line_in, mark_in, name_of, text_of}
+use Rattle.star_params.specs.Parameters.{defaulted}
 
 -- ---- operators
 

@@ -2,7 +2,8 @@
 
 use crate::token::Mark;
 use sqlite_items::{Boxed, Items};
-use star_tree::code::{Clause, Entry, Expr, Loaded, Param, Stmt};
+use star_params::Parameters;
+use star_tree::code::{Clause, Entry, Expr, Loaded, Stmt};
 
 /// A part of a text that was read: nothing where a part may be left out, a token that is kept, with its
 /// line, an expression or several, with the line of the first token, or what stands in a list.
@@ -18,7 +19,7 @@ pub enum Part {
     ListFor(Boxed<Expr>, Items<Clause>),
     /// A key, a value and the clauses of a comprehension.
     DictFor(Boxed<Expr>, Boxed<Expr>, Items<Clause>),
-    Params(Items<Param>),
+    Params(Parameters),
     Loads(Items<Loaded>),
     Code(Items<Stmt>),
 }

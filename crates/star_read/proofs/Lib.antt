@@ -3,3 +3,4 @@ pub mod Answering
 pub mod Deciding
 pub mod OnePart
 pub mod Refusing
+pub mod Stopping

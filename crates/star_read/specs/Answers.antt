@@ -40,6 +40,12 @@ HasRead s view ts (Ok x) = (p : Part) × (x ≡ view p) × IsRead s ts.tokens (p
 HasRead s view ts (Err (stop.Fault f)) = (r : Refusal) × (stop.Fault f ≡ told ts.file r) × Refuses s ts.tokens r
 HasRead s view ts (Err stop.Memory) = Unit {0}
 
+-- The tokens are these parts; or why they are refused. Want of memory says nothing.
+abbrev pub HasParts : {A : Type 0} → Start → Tokens → Result A Stop → List Part → Type 0
+HasParts s ts (Ok x) ps = IsRead s ts.tokens ps
+HasParts s ts (Err (stop.Fault f)) ps = (r : Refusal) × (stop.Fault f ≡ told ts.file r) × Refuses s ts.tokens r
+HasParts s ts (Err stop.Memory) ps = Unit {0}
+
 -- ---- laws
 
 -- tokens are at most one list of parts

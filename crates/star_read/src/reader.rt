@@ -4,7 +4,8 @@ ghost use Rattle.star_grammar.specs.declared.start.Start.TheVariants as start;
 ghost use Rattle.star_grammar.specs.Parts.{expr_in, exprs_in};
 ghost use Rattle.star_grammar.specs.Reading as spec;
 ghost use Rattle.star_grammar.specs.Tokens.{ends, stop_of};
-ghost use Rattle.star_read.specs.Answers.{HasRead, head_in, program_in, refusal_at, the_part, told};
+ghost use Rattle.star_read.specs.Answers.{HasParts, HasRead, head_in, program_in, refusal_at, the_part, told};
+ghost use Rattle.star_read.specs.Passing.{Passes};
 ghost use Rattle.star_machine.specs.Pending.{begun};
 ghost use Rattle.star_machine.specs.Turns.{value_of};
 
@@ -126,28 +127,58 @@ fn refuse(alloc: Global, file: u32, stand: Stand, token: &Token) -> Stop
     }
 }
 
+/// Reads one token. It gives where the next one stands, or why this one is refused.
+fn read_token(
+    alloc: Global,
+    start: Start,
+    file: u32,
+    stand: Stand,
+    token: &Token,
+    machine: &mut Machine,
+) -> Result<Stand, Stop>
+    ensures { Passes start file stand token.now machine.old machine.new result }
+{
+    if !step(alloc, token, machine)? {
+        return Err(refuse(alloc, file, stand, token));
+    }
+    let next = stand_after(start, stand, kind_of(&token.kind), token.line);
+    if !is_low(alloc, &machine.pending, &machine.shapes)? {
+        return Err(fault(alloc, FaultKind::TooDeep, file, next.line));
+    }
+    Ok(next)
+}
+
+/// Reads all tokens, from the begin of a text on.
+fn read_tokens(
+    alloc: Global,
+    start: Start,
+    tokens: &Tokens,
+    machine: &mut Machine,
+) -> Result<(), Stop>
+    requires ended { ends tokens.now.tokens ≡ true }
+    requires pending { machine.old.pending ≡ begun start }
+    requires empty { value_of machine.old ≡ spec.empty_of start }
+    ensures { HasParts start tokens.now result machine.new.parts }
+{
+    let mut stand = at_first();
+    let found = tokens.tokens.as_slice();
+    for token in found {
+        stand = read_token(alloc, start, tokens.file, stand, token, machine)?;
+    }
+    match machine.pending.pop() {
+        None => Ok(()),
+        Some(_) => unreachable!(),
+    }
+}
+
 /// The one part that tokens are.
 fn read_part(alloc: Global, start: Start, tokens: &Tokens) -> Result<Part, Stop>
     requires ended { ends tokens.now.tokens ≡ true }
     ensures { HasRead start the_part tokens.now result }
 {
     let mut machine = begin(alloc, start)?;
-    let mut stand = at_first();
-    let found = tokens.tokens.as_slice();
-    for token in found {
-        let next = stand_after(start, stand, kind_of(&token.kind), token.line);
-        if !step(alloc, token, &mut machine)? {
-            return Err(refuse(alloc, tokens.file, stand, token));
-        }
-        if !is_low(alloc, &machine.pending, &machine.shapes)? {
-            return Err(fault(alloc, FaultKind::TooDeep, tokens.file, next.line));
-        }
-        stand = next;
-    }
-    match machine.pending.pop() {
-        None => Ok(machine.parts.pop()),
-        Some(_) => unreachable!(),
-    }
+    read_tokens(alloc, start, tokens, &mut machine)?;
+    Ok(machine.parts.pop())
 }
 
 /// The expression that tokens are; several without brackets are a tuple.

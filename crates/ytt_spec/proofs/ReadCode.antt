@@ -51,7 +51,8 @@ use Rattle.star_grammar.specs.declared.token.TokenKind.{TokenKind}
 use Rattle.star_grammar.specs.declared.token.TokenKind.TheVariants as kind
 use Rattle.star_grammar.specs.CodeReaders.{IsCodeReader, ReadsAs}
 use Rattle.star_grammar.specs.Language.{language, Value, leaf, may_stand, taken, with_token}
-use Rattle.star_grammar.specs.Parts.{Parameter, clauses_in, code_in, defaulted, entries_in, expr_in, exprs_in, line_in, mark_in, name_of, optional_in, params_in, top, under, with_default}
+use Rattle.star_grammar.specs.Parts.{clauses_in, code_in, entries_in, expr_in, exprs_in, line_in, mark_in, name_of, optional_in, params_in, top, under}
+use Rattle.star_params.specs.Parameters.{Parameter, defaulted, with_default}
 use Rattle.star_grammar.specs.Reading.{IsRead, empty_of, entry_of as reading_of, header_in, header_of}
 use Rattle.star_grammar.specs.Table.{action_of}
 use Rattle.star_grammar.specs.Trees.{added_parts, built, dicted, fourth, grouped, indexed, listed, made_parts, opened_part, operation, second, starred, stated_parts, statement_of_word, statement_with, third, fifth}

@@ -5,7 +5,7 @@ use Rattle.star_machine.specs.Pending.{items_of}
 use Rattle.star_machine.specs.Turns.{value_of}
 use Rattle.star_read.proofs.Anchored.{Anchored}
 use Rattle.star_read.proofs.Answering.{read, read_all}
-use Rattle.star_read.proofs.reader.read_part.Given as goal
+use Rattle.star_read.proofs.reader.read_tokens.Given as goal
 
 abbrev pub invariant-loop-token : goal.invariant-loop-token
 invariant-loop-token l = record {
