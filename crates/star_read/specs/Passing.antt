@@ -1,5 +1,5 @@
--- What one token makes of the machine.
-use Rattle.std.specs.Prelude.{◌≡◌, ◌⊎◌, ◌≤◌, ◌<◌, ℕ, Some, None, Result, Ok, Err}
+-- What the machine is before a text, and what one token makes of it.
+use Rattle.std.specs.Prelude.{◌≡◌, ◌⊎◌, ◌≤◌, ◌<◌, ℕ, [], Some, None, Result, Ok, Err}
 use Rattle.ytt_base.specs.declared.fault.Stop.{Stop}
 use Rattle.ytt_base.specs.declared.fault.Stop.TheVariants as stop
 use Rattle.star_grammar.specs.declared.start.Stand.{Stand}
@@ -11,6 +11,10 @@ use Rattle.star_grammar.specs.Standing as standing
 use Rattle.star_machine.specs.declared.machine.Machine.{Machine}
 use Rattle.star_machine.specs.Turns.{next, state_of, value_of, weigh}
 use Rattle.star_read.specs.Answers.{refusal_at, told}
+
+-- a machine that has read nothing, and wants nothing
+abbrev pub IsEmpty : Machine → Type 0
+IsEmpty m = (m.pending ≡ []) × (m.parts ≡ []) × (m.shapes ≡ []) × (m.blocks ≡ [])
 
 -- where the token behind this one stands
 abbrev pub stand_behind : Start → Stand → Token → Stand

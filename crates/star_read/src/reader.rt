@@ -1,11 +1,11 @@
 // The readers.
-ghost use Rattle.std.specs.Prelude.{◌≡◌, true, IfOk};
+ghost use Rattle.std.specs.Prelude.{◌≡◌, [], true, IfOk, OnOk};
 ghost use Rattle.star_grammar.specs.declared.start.Start.TheVariants as start;
 ghost use Rattle.star_grammar.specs.Parts.{expr_in, exprs_in};
 ghost use Rattle.star_grammar.specs.Reading as spec;
 ghost use Rattle.star_grammar.specs.Tokens.{ends, stop_of};
 ghost use Rattle.star_read.specs.Answers.{HasParts, HasRead, head_in, program_in, refusal_at, the_part, told};
-ghost use Rattle.star_read.specs.Passing.{Passes};
+ghost use Rattle.star_read.specs.Passing.{IsEmpty, Passes};
 ghost use Rattle.star_machine.specs.Pending.{begun};
 ghost use Rattle.star_machine.specs.Turns.{value_of};
 
@@ -35,73 +35,77 @@ fn rule_of(start: Start) -> Rule
     }
 }
 
-fn begun_pending(alloc: Global, start: Start) -> Result<Pending, Memory>
-    ensures { IfOk result (λ items. items ≡ begun start) }
+/// A whole text is still to be read.
+fn begin_pending(start: Start, pending: &mut Pending) -> Result<(), Memory>
+    requires { pending.old ≡ [] }
+    ensures { OnOk result (pending.new ≡ begun start) }
 {
-    let mut pending = Pending::new(alloc);
     pending.push(Item::Want(Symbol::Token(Terminal::Passed(Kind::TextEnd))))?;
-    pending.push(Item::Want(Symbol::Rule(rule_of(start))))?;
-    Ok(pending)
+    pending.push(Item::Want(Symbol::Rule(rule_of(start))))
 }
 
 /// The parts before a text, into which the parts of the text go.
-fn begun_parts(alloc: Global, start: Start) -> Result<Parts, Memory>
-    ensures { IfOk result (λ ps. ps ≡ (spec.empty_of start).parts) }
+fn begin_parts(alloc: Global, start: Start, parts: &mut Parts) -> Result<(), Memory>
+    requires { parts.old ≡ [] }
+    ensures { OnOk result (parts.new ≡ (spec.empty_of start).parts) }
 {
-    let mut parts = Parts::new(alloc);
     match start {
-        Start::Expr => {}
-        Start::Args => parts.push(Part::Exprs(0, Items::new(alloc)))?,
-        Start::Line | Start::Header | Start::File => {
-            parts.push(Part::Code(Items::new(alloc)))?;
-        }
+        Start::Expr => Ok(()),
+        Start::Args => parts.push(Part::Exprs(0, Items::new(alloc))),
+        Start::Line | Start::Header | Start::File => parts.push(Part::Code(Items::new(alloc))),
     }
-    Ok(parts)
 }
 
-fn begun_shapes(alloc: Global, start: Start) -> Result<Shapes, Memory>
-    ensures { IfOk result (λ xs. xs ≡ (spec.empty_of start).shapes) }
+fn begin_shapes(start: Start, shapes: &mut Shapes) -> Result<(), Memory>
+    requires { shapes.old ≡ [] }
+    ensures { OnOk result (shapes.new ≡ (spec.empty_of start).shapes) }
 {
-    let mut shapes = Shapes::new(alloc);
     match start {
-        Start::Expr => {}
+        Start::Expr => Ok(()),
         Start::Args => shapes.push(Shape {
             high: 0,
             target: true,
-        })?,
-        Start::Line | Start::Header | Start::File => {
-            shapes.push(Shape {
-                high: 0,
-                target: false,
-            })?;
-        }
+        }),
+        Start::Line | Start::Header | Start::File => shapes.push(Shape {
+            high: 0,
+            target: false,
+        }),
     }
-    Ok(shapes)
 }
 
 /// Around a comment's code any block may be open.
-fn begun_blocks(alloc: Global, start: Start) -> Result<Blocks, Memory>
-    ensures { IfOk result (λ bs. bs ≡ (spec.empty_of start).blocks) }
+fn begin_blocks(start: Start, blocks: &mut Blocks) -> Result<(), Memory>
+    requires { blocks.old ≡ [] }
+    ensures { OnOk result (blocks.new ≡ (spec.empty_of start).blocks) }
 {
-    let mut blocks = Blocks::new(alloc);
     match start {
-        Start::File => {}
-        _ => blocks.push(Block::Anywhere)?,
+        Start::File => Ok(()),
+        _ => blocks.push(Block::Anywhere),
     }
-    Ok(blocks)
+}
+
+/// A machine that has read nothing, and wants nothing. It takes no memory.
+fn empty_machine(alloc: Global) -> Machine
+    ensures { IsEmpty result }
+{
+    Machine {
+        pending: Pending::new(alloc),
+        parts: Parts::new(alloc),
+        shapes: Shapes::new(alloc),
+        blocks: Blocks::new(alloc),
+    }
 }
 
 /// The machine before a text.
-fn begin(alloc: Global, start: Start) -> Result<Machine, Memory>
-    ensures pending { IfOk result (λ m. m.pending ≡ begun start) }
-    ensures empty { IfOk result (λ m. value_of m ≡ spec.empty_of start) }
+fn begin(alloc: Global, start: Start, machine: &mut Machine) -> Result<(), Memory>
+    requires { IsEmpty machine.old }
+    ensures pending { OnOk result (machine.new.pending ≡ begun start) }
+    ensures empty { OnOk result (value_of machine.new ≡ spec.empty_of start) }
 {
-    Ok(Machine {
-        pending: begun_pending(alloc, start)?,
-        parts: begun_parts(alloc, start)?,
-        shapes: begun_shapes(alloc, start)?,
-        blocks: begun_blocks(alloc, start)?,
-    })
+    begin_pending(start, &mut machine.pending)?;
+    begin_parts(alloc, start, &mut machine.parts)?;
+    begin_shapes(start, &mut machine.shapes)?;
+    begin_blocks(start, &mut machine.blocks)
 }
 
 /// A fault on a line of a file.
@@ -148,7 +152,7 @@ fn read_token(
     Ok(next)
 }
 
-/// Reads all tokens, from the begin of a text on.
+/// Reads all tokens of a text.
 fn read_tokens(
     alloc: Global,
     start: Start,
@@ -156,10 +160,10 @@ fn read_tokens(
     machine: &mut Machine,
 ) -> Result<(), Stop>
     requires ended { ends tokens.now.tokens ≡ true }
-    requires pending { machine.old.pending ≡ begun start }
-    requires empty { value_of machine.old ≡ spec.empty_of start }
+    requires empty { IsEmpty machine.old }
     ensures { HasParts start tokens.now result machine.new.parts }
 {
+    begin(alloc, start, machine)?;
     let mut stand = at_first();
     let found = tokens.tokens.as_slice();
     for token in found {
@@ -176,7 +180,7 @@ fn read_part(alloc: Global, start: Start, tokens: &Tokens) -> Result<Part, Stop>
     requires ended { ends tokens.now.tokens ≡ true }
     ensures { HasRead start the_part tokens.now result }
 {
-    let mut machine = begin(alloc, start)?;
+    let mut machine = empty_machine(alloc);
     read_tokens(alloc, start, tokens, &mut machine)?;
     Ok(machine.parts.pop())
 }

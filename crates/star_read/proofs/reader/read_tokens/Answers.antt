@@ -8,10 +8,10 @@ use Rattle.star_read.proofs.reader.read_tokens.Goals as goal
 pub returns-in_err-stand : goal.returns-in_err-stand
 returns-in_err-stand c =
     let at = c.loop-token in
-    let stops : c.from_residual.result ≡ Err c.in_err-stand.field-0.0 = search rules in
+    let stops : c.from_residual-in_err-stand.result ≡ Err c.in_err-stand.field-0.0 = search rules in
     rw stops
-      (stopped (Unit {0}) c.args.start c.args.tokens.now c.as_slice-found.result.now at.token-index c.token-item.result at.machine c.read_token.new.machine at.stand c.in_err-stand.field-0.0 _ c.as_slice-found.ensures
-      c.loop-token-test.true c.token-item.is at.invariant.same at.invariant.stand_is c.in_err-stand.ensures)
+    (stopped (Unit {0}) c.args.start c.args.tokens.now c.as_slice-found.result.now at.token-index c.token-item.result at.machine c.read_token.new.machine at.stand c.in_err-stand.field-0.0 _ c.as_slice-found.ensures
+    c.loop-token-test.true c.token-item.is at.invariant.same at.invariant.stand_is c.in_err-stand.ensures)
 
 pub loop-token-preserved : goal.loop-token-preserved
 loop-token-preserved c =
