@@ -8,6 +8,36 @@ use star_grammar::Symbol::{Rule as The, Token};
 use star_grammar::Terminal::{Kept, Passed};
 use star_grammar::{Choice, Kind, Rule, Symbol};
 
+// The rows that edits change, so that little is proved anew.
+
+/// `or` and its right side, in which `and` binds tighter.
+fn or_step() -> &'static [Symbol]
+    ensures { result.now ≡ spec.body at.OrStep }
+{
+    &[Token(Kept(Kind::Or)), The(Rule::And)]
+}
+
+/// `and` and its right side, in which `not` binds tighter.
+fn and_step() -> &'static [Symbol]
+    ensures { result.now ≡ spec.body at.AndStep }
+{
+    &[Token(Kept(Kind::And)), The(Rule::Not)]
+}
+
+/// A comparison, behind which no other stands.
+fn compare() -> &'static [Symbol]
+    ensures { result.now ≡ spec.body at.Compare }
+{
+    &[Token(Kept(Kind::Compare)), The(Rule::Bar)]
+}
+
+/// A sign and its right side: a further sign takes all that stands before it.
+fn sign_step() -> &'static [Symbol]
+    ensures { result.now ≡ spec.body at.SignStep }
+{
+    &[Token(Kept(Kind::Sign)), The(Rule::Product)]
+}
+
 /// The symbols of an alternative from tests on, as far as operands.
 pub fn level_symbols(choice: Choice) -> &'static [Symbol]
     requires from { choice_place at.Test ≤ choice_place choice }
@@ -31,13 +61,13 @@ pub fn level_symbols(choice: Choice) -> &'static [Symbol]
         ],
         Choice::Or => &[The(Rule::And), The(Rule::OrMore)],
         Choice::OrMore => &[The(Rule::OrStep), The(Rule::OrMore)],
-        Choice::OrStep => &[Token(Kept(Kind::Or)), The(Rule::And)],
+        Choice::OrStep => or_step(),
         Choice::And => &[The(Rule::Not), The(Rule::AndMore)],
         Choice::AndMore => &[The(Rule::AndStep), The(Rule::AndMore)],
-        Choice::AndStep => &[Token(Kept(Kind::And)), The(Rule::Not)],
+        Choice::AndStep => and_step(),
         Choice::Not => &[Token(Kept(Kind::Not)), The(Rule::Not)],
         Choice::Comparison => &[The(Rule::Bar), The(Rule::CompareMore)],
-        Choice::Compare => &[Token(Kept(Kind::Compare)), The(Rule::Bar)],
+        Choice::Compare => compare(),
         Choice::CompareIn => &[Token(Kept(Kind::In)), The(Rule::Bar)],
         Choice::CompareNotIn => &[
             Token(Kept(Kind::Not)),
@@ -58,7 +88,7 @@ pub fn level_symbols(choice: Choice) -> &'static [Symbol]
         Choice::ShiftStep => &[Token(Kept(Kind::Shift)), The(Rule::Sum)],
         Choice::Sum => &[The(Rule::Product), The(Rule::SumMore)],
         Choice::SumMore => &[The(Rule::SumStep), The(Rule::SumMore)],
-        Choice::SignStep => &[Token(Kept(Kind::Sign)), The(Rule::Product)],
+        Choice::SignStep => sign_step(),
         Choice::Product => &[The(Rule::Unary), The(Rule::ProductMore)],
         Choice::ProductMore => &[The(Rule::ProductStep), The(Rule::ProductMore)],
         Choice::StarStep => &[Token(Kept(Kind::Star)), The(Rule::Unary)],

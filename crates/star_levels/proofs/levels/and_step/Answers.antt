@@ -1,0 +1,6 @@
+use Rattle.std.proofs.Common.{refl}
+use Rattle.star_levels.proofs.levels.and_step.Goals as goal
+
+-- answered, so that another row is refused at once
+pub returns : goal.returns
+returns c = refl
