@@ -8,9 +8,11 @@ mod ends;
 mod made;
 mod parts;
 mod stated;
+mod trees;
 mod values;
 
 pub use blocks::Blocks;
 pub use ends::{build, put_token};
 pub use parts::Parts;
-pub use values::{boxed_of, no_items};
+pub use trees::{args_of, code_of, header_in};
+pub use values::boxed_of;

@@ -1,5 +1,6 @@
 // The parts that were read.
 ghost use Rattle.std.specs.Prelude.{◌≡◌, ◌∷◌, [], MatchOption, OnOk, IfOk};
+ghost use Rattle.std.specs.Result.{result_map_both};
 ghost use Rattle.star_grammar.specs.Parts as spec;
 ghost use Rattle.star_grammar.specs.declared.part.Part.TheVariants as part;
 ghost use Rattle.star_params.specs.Parameters as asked;
@@ -57,6 +58,16 @@ impl Parts {
         match self.parts.pop() {
             Some(part) => part,
             None => Part::Missing,
+        }
+    }
+
+    /// The last part, `Missing` where there is none, unless something else stopped; the others fall.
+    pub fn last_if<E>(mut self, done: Result<(), E>) -> Result<Part, E>
+        ensures { result ≡ result_map_both (λ _. spec.top self) (λ stop. stop) done }
+    {
+        match done {
+            Ok(()) => Ok(self.pop()),
+            Err(stop) => Err(stop),
         }
     }
 

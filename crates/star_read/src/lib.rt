@@ -8,7 +8,6 @@
 mod laws;
 mod reader;
 mod standing;
-mod trees;
 
 pub use laws::{each_is_read, never_both, one_refusal, one_tree};
 pub use reader::{read_args, read_expr, read_file, read_header, read_simple};

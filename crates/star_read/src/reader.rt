@@ -10,10 +10,9 @@ ghost use Rattle.star_machine.specs.Pending.{begun};
 ghost use Rattle.star_machine.specs.Turns.{value_of};
 
 use crate::standing::{at_first, opens_too_many, stand_after};
-use crate::trees::{args_of, code_of, header_in};
 use ll::{Shape, Shapes};
 use sqlite_items::{Boxed, Items};
-use star_build::{Blocks, Parts, boxed_of};
+use star_build::{Blocks, Parts, args_of, boxed_of, code_of, header_in};
 use star_grammar::{Block, Kind, Part, Rule, Stand, Start, Symbol, Terminal, Token};
 use star_machine::{Item, Machine, Pending, is_low, step};
 use star_tables::kind_of;
@@ -181,8 +180,9 @@ fn read_part(alloc: Global, start: Start, tokens: &Tokens) -> Result<Part, Stop>
     ensures { HasRead start the_part tokens.now result }
 {
     let mut machine = empty_machine(alloc);
-    read_tokens(alloc, start, tokens, &mut machine)?;
-    Ok(machine.parts.pop())
+    let read = read_tokens(alloc, start, tokens, &mut machine);
+    let Machine { parts, .. } = machine;
+    parts.last_if(read)
 }
 
 /// The expression that tokens are; several without brackets are a tuple.

@@ -1,7 +1,7 @@
 use Rattle.std.proofs.Common.{◌≡◌, List, [], ◌∷◌, ◌++◌, refl, ap, ◌∙◌, sym}
 use Rattle.star_grammar.specs.Reading.{header_in, header_of}
 use Rattle.star_tree.specs.declared.code.Stmt.{Stmt}
-use Rattle.star_read.proofs.trees.header_in.Goals as goal
+use Rattle.star_build.proofs.trees.header_in.Goals as goal
 
 of_last : (xs : List Stmt) (x : Stmt) → header_in (xs ++ x ∷ []) ≡ header_of x
 of_last [] x = refl

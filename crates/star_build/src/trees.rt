@@ -3,8 +3,8 @@ ghost use Rattle.std.specs.Prelude.{◌≡◌};
 ghost use Rattle.star_grammar.specs.Parts.{exprs_in, code_in};
 ghost use Rattle.star_grammar.specs.Reading as spec;
 
+use crate::values::no_items;
 use sqlite_items::Items;
-use star_build::no_items;
 use star_grammar::Part;
 use star_tree::code::{Args, Header, Stmt};
 use std::alloc::Global;
