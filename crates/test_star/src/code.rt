@@ -185,6 +185,7 @@ lambda None: 1 => (lambda None : 1)
 lambda x: lambda y: x => (lambda x : (lambda y : x))
 lambda x: x if y else z => (lambda x : (if y x z))
 lambda x=lambda: 1: x => (lambda x=(lambda : 1) : x)
+lambda x=lambda x, y=1: x, y=2: x => (lambda x=(lambda x y=1 : x) y=2 : x)
 // attributes, calls, indices, slices
 a.b.c => (. (. a b) c)
 a.None => (. a None)
@@ -294,6 +295,10 @@ a⏎b => error: CodeForm at b.yml:1
 (lambda x=1, y⏎: x) => error: CodeForm at b.yml:2
 (lambda **k,⏎x: 1) => error: CodeForm at b.yml:2
 (lambda *a,⏎*b: 1) => error: CodeForm at b.yml:2
+(lambda *a, b,⏎a: 1) => error: CodeForm at b.yml:2
+(lambda x=1,⏎x=2: 1) => error: CodeForm at b.yml:2
+(lambda a, **⏎a: 1) => error: CodeForm at b.yml:2
+(lambda a=lambda b: b,⏎a: 1) => error: CodeForm at b.yml:2
 (lambda⏎(x): 1) => error: CodeForm at b.yml:2
 (a.⏎if) => error: CodeForm at b.yml:2
 (a.⏎1) => error: CodeForm at b.yml:2
