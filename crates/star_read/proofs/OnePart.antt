@@ -1,7 +1,9 @@
 -- A text is one part: each rule takes some of the parts that stand before it, mostly the last one, and leaves one for them.
 use Rattle.std.proofs.Common.{◌≡◌, ℕ, ◌+◌, ◌-◌, ◌≤◌, List, [], ◌∷◌, length, Option, Some, None, refl, ap, ◌∙◌, subst, arith, leb-true}
 use Rattle.std.proofs.lemmas.Bool.{eqb-true}
-use Rattle.std.specs.Prelude.{suc, Bool, true, false, nat_le, nat_eq, if◌then◌else◌}
+use Rattle.std.specs.Prelude.{zero, suc, Bool, true, false, nat_le, nat_eq, if◌then◌else◌}
+use Rattle.ll.specs.declared.shapes.Effect.{Effect}
+use Rattle.ll.specs.declared.shapes.Effect.TheVariants as gives
 use Rattle.ll.specs.Grammar.{terminal, rule, Symbols, done, token, node, Parts, IsWhole}
 use Rattle.ll.proofs.Check.{every, every_at}
 use Rattle.star_grammar.specs.declared.part.Part.{Part}
@@ -15,13 +17,15 @@ use Rattle.star_grammar.specs.declared.table.Choice.{Choice}
 use Rattle.star_grammar.specs.declared.table.Kind.TheVariants as kind
 use Rattle.star_grammar.specs.declared.table.Made.{Made}
 use Rattle.star_grammar.specs.declared.table.Made.TheVariants as made
+use Rattle.star_grammar.specs.declared.table.Opened.{Opened}
+use Rattle.star_grammar.specs.declared.table.Opened.TheVariants as opened
 use Rattle.star_grammar.specs.declared.table.Rule.{Rule}
-use Rattle.star_grammar.specs.declared.table.Rule.TheVariants as a_rule
 use Rattle.star_grammar.specs.declared.table.Stated.{Stated}
 use Rattle.star_grammar.specs.declared.table.Stated.TheVariants as stated
 use Rattle.star_grammar.specs.declared.table.Terminal.{Terminal}
 use Rattle.star_grammar.specs.declared.table.Terminal.TheVariants as a_terminal
 use Rattle.star_grammar.specs.declared.token.Token.{Token}
+use Rattle.star_grammar.specs.Effects.{effect_of, least}
 use Rattle.star_grammar.specs.Language.{language, Value, symbols_of, may_stand, taken, with_token}
 use Rattle.star_grammar.specs.Parts.{top, under}
 use Rattle.star_grammar.specs.Reading.{IsRead, rule_of, empty_of}
@@ -30,92 +34,25 @@ use Rattle.star_grammar.specs.Trees.{built, added_parts, made_parts, stated_part
 use Rattle.star_grammar.proofs.Checked.{all_choices}
 use Rattle.star_grammar.proofs.Numbers.{choices}
 
--- how many parts a rule takes
+-- how many parts an effect takes; it leaves one for them
+abbrev consumed : Effect → ℕ
+consumed (gives.Push h f) = 0
+consumed (gives.Node n f) = n
+consumed (gives.Beside n f) = n
+consumed e = 1
+
+-- how many some effects take of the parts before them, where so many of their own stand behind these
+abbrev reach : List Effect → ℕ → ℕ
+reach [] zero = 1
+reach [] (suc n) = 0
+reach (e ∷ es) n = (consumed e - n) + reach es (suc (n - consumed e))
+
+-- how many parts a rule takes, and the end of an alternative
 abbrev taken_by : Rule → ℕ
-taken_by a_rule.Ampersand = 0
-taken_by a_rule.And = 0
-taken_by a_rule.Arg = 0
-taken_by a_rule.Bar = 0
-taken_by a_rule.Caret = 0
-taken_by a_rule.ClausesOpen = 0
-taken_by a_rule.Dict = 0
-taken_by a_rule.EntriesMore = 3
-taken_by a_rule.EntriesOpen = 0
-taken_by a_rule.EntryJoined = 3
-taken_by a_rule.Expr = 0
-taken_by a_rule.ExprsOpen = 0
-taken_by a_rule.Group = 0
-taken_by a_rule.GroupAfter = 3
-taken_by a_rule.GroupClose = 3
-taken_by a_rule.GroupSubscript = 2
-taken_by a_rule.Index = 3
-taken_by a_rule.IndexMore = 3
-taken_by a_rule.Inside = 0
-taken_by a_rule.Joined = 2
-taken_by a_rule.List = 0
-taken_by a_rule.LoadsOpen = 0
-taken_by a_rule.MembersMore = 2
-taken_by a_rule.NoPart = 0
-taken_by a_rule.Not = 0
-taken_by a_rule.Operand = 0
-taken_by a_rule.OptionalTest = 0
-taken_by a_rule.Or = 0
-taken_by a_rule.ParamsOpen = 0
-taken_by a_rule.Product = 0
-taken_by a_rule.Result = 0
-taken_by a_rule.Shift = 0
-taken_by a_rule.Slice = 5
-taken_by a_rule.SliceRest = 3
-taken_by a_rule.SliceStep = 0
-taken_by a_rule.SmallMore = 2
-taken_by a_rule.Subscript = 2
-taken_by a_rule.Sum = 0
-taken_by a_rule.Target = 0
-taken_by a_rule.TargetAfter = 3
-taken_by a_rule.TargetSubscript = 2
-taken_by a_rule.Targets = 0
-taken_by a_rule.Test = 0
-taken_by a_rule.Unary = 0
-taken_by r = 1
-
--- how many parts the end of an alternative takes, and how many it leaves
-abbrev added_takes : Added → ℕ
-added_takes added.First = 1
-added_takes added.BareStar = 1
-added_takes added.EmptyList = 1
-added_takes added.ListFor = 3
-added_takes added.DictFor = 4
-added_takes added.Entry = 3
-added_takes added.ForClause = 3
-added_takes added.LoadAs = 3
-added_takes added.GroupIndex = 3
-added_takes a = 2
-
-abbrev made_takes : Made → ℕ
-made_takes made.Tuple = 1
-made_takes made.Binary = 3
-made_takes made.Conditional = 4
-made_takes made.Lambda = 3
-made_takes made.Dot = 3
-made_takes made.Call = 3
-made_takes made.Index = 3
-made_takes made.Slice = 5
-made_takes m = 2
-
-abbrev stated_takes : Stated → ℕ
-stated_takes stated.Word = 2
-stated_takes stated.Evaluate = 2
-stated_takes stated.WordExpr = 3
-stated_takes stated.Assign = 3
-stated_takes s = 4
+taken_by r = reach (least r) 0
 
 abbrev takes : Action → ℕ
-takes action.Keep = 1
-takes action.Floor = 1
-takes (action.Open o) = 0
-takes (action.Add a) = added_takes a
-takes (action.Make m) = made_takes m
-takes (action.State s) = stated_takes s
+takes a = consumed (effect_of a)
 
 -- ---- what an end leaves: one part for those that it takes
 
@@ -148,7 +85,7 @@ five (p ∷ ps) h = omega (arith, four ps (omega (arith, h)))
 same : (ps : List Part) → Leaves 1 ps ps
 same ps h = omega arith
 
-added_leaves : (a : Added) (ps : List Part) → Leaves (added_takes a) ps (added_parts a ps)
+added_leaves : (a : Added) (ps : List Part) → Leaves (takes (action.Add a)) ps (added_parts a ps)
 added_leaves added.First ps = one ps
 added_leaves added.BareStar ps = one ps
 added_leaves added.EmptyList ps = same ps
@@ -160,7 +97,7 @@ added_leaves added.LoadAs ps = three ps
 added_leaves added.GroupIndex ps = three ps
 added_leaves a ps = two ps
 
-made_leaves : (m : Made) (ps : List Part) → Leaves (made_takes m) ps (made_parts m ps)
+made_leaves : (m : Made) (ps : List Part) → Leaves (takes (action.Make m)) ps (made_parts m ps)
 made_leaves made.Tuple ps = same ps
 made_leaves made.Binary ps = three ps
 made_leaves made.Conditional ps = four ps
@@ -171,17 +108,21 @@ made_leaves made.Index ps = three ps
 made_leaves made.Slice ps = five ps
 made_leaves m ps = two ps
 
-stated_leaves : (s : Stated) (ps : List Part) → Leaves (stated_takes s) ps (stated_parts s ps)
+stated_leaves : (s : Stated) (ps : List Part) → Leaves (takes (action.State s)) ps (stated_parts s ps)
 stated_leaves stated.Word ps = two ps
 stated_leaves stated.Evaluate ps = two ps
 stated_leaves stated.WordExpr ps = three ps
 stated_leaves stated.Assign ps = three ps
 stated_leaves s ps = four ps
 
+opened_takes : (o : Opened) → takes (action.Open o) ≡ 0
+opened_takes opened.Missing = refl
+opened_takes o = refl
+
 leaves : (a : Action) (ps : List Part) → Leaves (takes a) ps (built a ps)
 leaves action.Keep ps = same ps
 leaves action.Floor ps = same ps
-leaves (action.Open o) ps = λ h. omega arith
+leaves (action.Open o) ps = λ h. omega (arith, opened_takes o)
 leaves (action.Add a) ps = added_leaves a ps
 leaves (action.Make m) ps = made_leaves m ps
 leaves (action.State s) ps = stated_leaves s ps

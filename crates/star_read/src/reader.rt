@@ -61,13 +61,9 @@ fn begin_shapes(start: Start, shapes: &mut Shapes) -> Result<(), Memory>
 {
     match start {
         Start::Expr => Ok(()),
-        Start::Args => shapes.push(Shape {
+        _ => shapes.push(Shape {
             high: 0,
-            target: true,
-        }),
-        Start::Line | Start::Header | Start::File => shapes.push(Shape {
-            high: 0,
-            target: false,
+            target: matches!(start, Start::Args),
         }),
     }
 }
