@@ -1,7 +1,6 @@
 -- The reader's loop, a token at a time.
-use Rattle.std.proofs.Common.{◌≡◌, ℕ, ◌+◌, ◌<◌, ◌≤◌, List, [], ◌∷◌, ◌++◌, length, get_or, drop, take, Some, None, refl, sym, ap, ◌∙◌, subst, inl, inr, arith, leb, add-one, drop-cons}
-use Rattle.std.specs.Prelude.{suc, Bool, true, false, if◌then◌else◌, IsTrue}
-use Rattle.std.proofs.lemmas.Bool.{leb-true, leb-false}
+use Rattle.std.proofs.Common.{◌≡◌, ℕ, ◌+◌, ◌<◌, ◌≤◌, List, [], ◌∷◌, ◌++◌, length, get_or, drop, take, Some, None, refl, sym, ap, ◌∙◌, subst, inl, inr, arith, add-one, drop-cons}
+use Rattle.std.specs.Prelude.{suc, Bool, true, false, if◌then◌else◌}
 use Rattle.std.proofs.lemmas.List.{drop_all, take_more, take-append-drop, append_cancel_right}
 use Rattle.ll.specs.Grammar.{Parses, Front}
 use Rattle.ll.specs.Machine as ll
@@ -43,17 +42,6 @@ judge s ts = judged language tables looks consistent risen completes (entry_of s
 pub reads : (s : Start) (ts : List Token) (w : Value) → Parses language (entry_of s) max_height ts w → read_all s ts ≡ Whole w
 reads s ts w p = reads_text language tables looks consistent risen completes (entry_of s) (ended s) max_height ts w p
 
--- what isn't low is high
-pub not_low : (b : Bool) (n m : ℕ) → b ≡ false → (n ≤ m → IsTrue b) → m < n
-not_low b n m e h = on (leb n m) refl
-  where
-    never : false ≡ true → m < n
-    never f = cc
-
-    on : (l : Bool) → leb n m ≡ l → m < n
-    on true f = never (sym e ∙ h (leb-true n m f))
-    on false f = leb-false n m f
-
 -- ---- where a reader stands
 
 stands_more : (s : Start) (st : Stand) (before : List Token) (k : Token) → stands s st (before ++ k ∷ []) ≡ stand_after s (stands s st before) (kind_of_token k.kind) k.line
@@ -82,7 +70,7 @@ up_to xs i k lt e = take_more xs i k lt ∙ ap (λ x. take i xs ++ x ∷ []) (sy
 around : (xs : List Token) (i : ℕ) (k : Token) → i < length xs → k ≡ get_or xs i k → xs ≡ take i xs ++ k ∷ drop (i + 1) xs
 around xs i k lt e = sym (take-append-drop i xs) ∙ ap (λ l. take i xs ++ l) (from_here xs i k lt e)
 
-same_head : (a b : Token) (xs ys : List Token) → a ∷ xs ≡ b ∷ ys → (a ≡ b) × (xs ≡ ys)
+pub same_head : (a b : Token) (xs ys : List Token) → a ∷ xs ≡ b ∷ ys → (a ≡ b) × (xs ≡ ys)
 same_head a b xs ys e = (cc, cc)
 
 module _ (s : Start) (ts : List Token) (i : ℕ) (k : Token) (items : List Item) (v : Value) (lt : i < length ts) (is : k ≡ get_or ts i k) (r : read (drop i ts) items v ≡ read_all s ts) where

@@ -7,6 +7,7 @@ use Rattle.star_grammar.specs.declared.token.Token.{Token}
 use Rattle.star_grammar.specs.Language.{language}
 use Rattle.star_grammar.specs.Reading.{max_height, entry_of, IsFormAt, IsDeepAt, Refusal, code_form, too_deep, Refuses, opens_more, outer_line}
 use Rattle.star_read.specs.Answers.{OneRefusal}
+use Rattle.star_read.proofs.Answering.{same_head}
 
 -- what is refused is the least token with which nothing low enough begins
 record Least (s : Start) (ts before : List Token) (k : Token) : Type 0 where
@@ -18,15 +19,12 @@ record Least (s : Start) (ts before : List Token) (k : Token) : Type 0 where
 abbrev Apart : (b : List Token) (k : Token) (c : List Token) → Type 0
 Apart b k c = (more : List Token) × (c ≡ b ++ k ∷ more)
 
-cut : (k j : Token) (xs ys : List Token) → k ∷ xs ≡ j ∷ ys → (k ≡ j) × (xs ≡ ys)
-cut k j xs ys e = (cc, cc)
-
 meet : (b c : List Token) (k j : Token) (xs ys : List Token) → b ++ k ∷ xs ≡ c ++ j ∷ ys → ((b ≡ c) × (k ≡ j)) ⊎ (Apart b k c ⊎ Apart c j b)
-meet [] [] k j xs ys e = inl (refl, (cut k j xs ys e).0)
-meet [] (t ∷ c) k j xs ys e = inr (inl (c, ap (λ x. x ∷ c) (sym (cut k t xs (c ++ j ∷ ys) e).0)))
-meet (t ∷ b) [] k j xs ys e = inr (inr (b, ap (λ x. x ∷ b) (cut t j (b ++ k ∷ xs) ys e).0))
+meet [] [] k j xs ys e = inl (refl, (same_head k j xs ys e).0)
+meet [] (t ∷ c) k j xs ys e = inr (inl (c, ap (λ x. x ∷ c) (sym (same_head k t xs (c ++ j ∷ ys) e).0)))
+meet (t ∷ b) [] k j xs ys e = inr (inr (b, ap (λ x. x ∷ b) (same_head t j (b ++ k ∷ xs) ys e).0))
 meet (t ∷ b) (u ∷ c) k j xs ys e =
-    let q = cut t u (b ++ k ∷ xs) (c ++ j ∷ ys) e in
+    let q = same_head t u (b ++ k ∷ xs) (c ++ j ∷ ys) e in
     ⊎_elim
     (λ h. inl (ap (λ l. t ∷ l) h.0 ∙ ap (λ x. x ∷ c) q.0, h.1))
     (λ h. inr (⊎_elim

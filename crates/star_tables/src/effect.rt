@@ -2,17 +2,18 @@
 ghost use Rattle.std.specs.Prelude.{◌≡◌};
 ghost use Rattle.star_grammar.specs.Effects as spec;
 
-use ll::{Effect, Flag};
+use ll::Effect::{self, Beside, Floor, Keep, Node, Push};
+use ll::Flag::{self, All, Always, Never};
 use star_grammar::{Action, Added, Kind, Made, Opened, Rule, Stated, Terminal};
 
 fn opened_effect(action: Opened) -> Effect
     ensures { result ≡ spec.opened_effect action }
 {
     match action {
-        Opened::Exprs => Effect::Push(0, Flag::Always),
+        Opened::Exprs => Push(0, Always),
         Opened::Entries | Opened::Clauses | Opened::Params | Opened::Loads | Opened::Missing =>
-            Effect::Push(0, Flag::Never),
-        Opened::NoResult | Opened::EmptyTuple => Effect::Push(1, Flag::Never),
+            Push(0, Never),
+        Opened::NoResult | Opened::EmptyTuple => Push(1, Never),
     }
 }
 
@@ -20,22 +21,19 @@ fn added_effect(action: Added) -> Effect
     ensures { result ≡ spec.added_effect action }
 {
     match action {
-        Added::First => Effect::Beside(1, Flag::All),
-        Added::Item => Effect::Beside(2, Flag::All),
-        Added::EmptyList => Effect::Beside(1, Flag::Never),
-        Added::ListFor | Added::Entry | Added::ForClause | Added::LoadAs => Effect::Beside(
-            3,
-            Flag::Never,
-        ),
-        Added::DictFor => Effect::Beside(4, Flag::Never),
+        Added::First => Beside(1, All),
+        Added::Item => Beside(2, All),
+        Added::EmptyList => Beside(1, Never),
+        Added::ListFor | Added::Entry | Added::ForClause | Added::LoadAs => Beside(3, Never),
+        Added::DictFor => Beside(4, Never),
         Added::IfClause
         | Added::Required
         | Added::Default
         | Added::Star
         | Added::Stars
-        | Added::Load => Effect::Beside(2, Flag::Never),
-        Added::BareStar => Effect::Floor,
-        Added::GroupIndex => Effect::Beside(3, Flag::Always),
+        | Added::Load => Beside(2, Never),
+        Added::BareStar => Floor,
+        Added::GroupIndex => Beside(3, Always),
     }
 }
 
@@ -43,13 +41,13 @@ fn made_effect(action: Made) -> Effect
     ensures { result ≡ spec.made_effect action }
 {
     match action {
-        Made::Tuple => Effect::Node(1, Flag::All),
-        Made::Group | Made::List => Effect::Node(2, Flag::All),
-        Made::Dict | Made::Unary | Made::Named | Made::Starred => Effect::Node(2, Flag::Never),
-        Made::Binary | Made::Lambda | Made::Dot | Made::Call => Effect::Node(3, Flag::Never),
-        Made::Conditional => Effect::Node(4, Flag::Never),
-        Made::Index => Effect::Node(3, Flag::Always),
-        Made::Slice => Effect::Node(5, Flag::Never),
+        Made::Tuple => Node(1, All),
+        Made::Group | Made::List => Node(2, All),
+        Made::Dict | Made::Unary | Made::Named | Made::Starred => Node(2, Never),
+        Made::Binary | Made::Lambda | Made::Dot | Made::Call => Node(3, Never),
+        Made::Conditional => Node(4, Never),
+        Made::Index => Node(3, Always),
+        Made::Slice => Node(5, Never),
     }
 }
 
@@ -57,12 +55,9 @@ fn stated_effect(action: Stated) -> Effect
     ensures { result ≡ spec.stated_effect action }
 {
     match action {
-        Stated::Word | Stated::Evaluate => Effect::Beside(2, Flag::Never),
-        Stated::WordExpr | Stated::Assign => Effect::Beside(3, Flag::Never),
-        Stated::Load | Stated::Augment | Stated::For | Stated::Def => Effect::Beside(
-            4,
-            Flag::Never,
-        ),
+        Stated::Word | Stated::Evaluate => Beside(2, Never),
+        Stated::WordExpr | Stated::Assign => Beside(3, Never),
+        Stated::Load | Stated::Augment | Stated::For | Stated::Def => Beside(4, Never),
     }
 }
 
@@ -71,8 +66,8 @@ pub fn effect_of(action: Action) -> Effect
     ensures { result ≡ spec.effect_of action }
 {
     match action {
-        Action::Keep => Effect::Keep,
-        Action::Floor => Effect::Floor,
+        Action::Keep => Keep,
+        Action::Floor => Floor,
         Action::Open(opened) => opened_effect(opened),
         Action::Add(added) => added_effect(added),
         Action::Make(made) => made_effect(made),
@@ -84,8 +79,8 @@ fn leaf_flag(kind: Kind) -> Flag
     ensures { result ≡ spec.leaf_flag kind }
 {
     match kind {
-        Kind::Name => Flag::Always,
-        _ => Flag::Never,
+        Kind::Name => Always,
+        _ => Never,
     }
 }
 
@@ -94,11 +89,11 @@ pub fn given(terminal: Terminal) -> Effect
     ensures { result ≡ spec.given terminal }
 {
     match terminal {
-        Terminal::Kept(_) | Terminal::Enter(_) | Terminal::Leave => Effect::Push(0, Flag::Always),
-        Terminal::Passed(_) => Effect::Keep,
-        Terminal::Leaf(kind) => Effect::Push(1, leaf_flag(kind)),
-        Terminal::Word => Effect::Push(0, Flag::Never),
-        Terminal::Param => Effect::Push(1, Flag::Never),
+        Terminal::Kept(_) | Terminal::Enter(_) | Terminal::Leave => Push(0, Always),
+        Terminal::Passed(_) => Keep,
+        Terminal::Leaf(kind) => Push(1, leaf_flag(kind)),
+        Terminal::Word => Push(0, Never),
+        Terminal::Param => Push(1, Never),
     }
 }
 
@@ -146,56 +141,39 @@ pub fn least(rule: Rule) -> &'static [Effect]
         | Rule::Header
         | Rule::Line
         | Rule::Simple
-        | Rule::Small => &[
-            Effect::Push(0, Flag::Always),
-            Effect::Beside(2, Flag::Never),
-        ],
+        | Rule::Small => &[Push(0, Always), Beside(2, Never)],
         Rule::DefHead => &[
-            Effect::Push(0, Flag::Always),
-            Effect::Push(0, Flag::Never),
-            Effect::Push(0, Flag::Never),
-            Effect::Beside(4, Flag::Never),
+            Push(0, Always),
+            Push(0, Never),
+            Push(0, Never),
+            Beside(4, Never),
         ],
-        Rule::IfHead | Rule::ElifHead => &[
-            Effect::Push(0, Flag::Always),
-            Effect::Push(1, Flag::Always),
-            Effect::Beside(3, Flag::Never),
-        ],
+        Rule::IfHead | Rule::ElifHead => &[Push(0, Always), Push(1, Always), Beside(3, Never)],
         Rule::ForHead => &[
-            Effect::Push(0, Flag::Always),
-            Effect::Push(1, Flag::Always),
-            Effect::Push(1, Flag::Always),
-            Effect::Beside(4, Flag::Never),
+            Push(0, Always),
+            Push(1, Always),
+            Push(1, Always),
+            Beside(4, Never),
         ],
-        Rule::Result | Rule::Inside => &[Effect::Push(1, Flag::Never)],
-        Rule::SmallMore => &[Effect::Beside(2, Flag::Never)],
+        Rule::Result | Rule::Inside => &[Push(1, Never)],
+        Rule::SmallMore => &[Beside(2, Never)],
         Rule::LoadsOpen
         | Rule::ParamsOpen
         | Rule::OptionalTest
         | Rule::SliceStep
         | Rule::NoPart
         | Rule::EntriesOpen
-        | Rule::ClausesOpen => &[Effect::Push(0, Flag::Never)],
-        Rule::LoadOne | Rule::ParamName | Rule::StarsName => &[
-            Effect::Push(1, Flag::Never),
-            Effect::Beside(2, Flag::Never),
-        ],
-        Rule::LoadAs => &[
-            Effect::Push(0, Flag::Never),
-            Effect::Push(1, Flag::Never),
-            Effect::Beside(3, Flag::Never),
-        ],
+        | Rule::ClausesOpen => &[Push(0, Never)],
+        Rule::LoadOne | Rule::ParamName | Rule::StarsName => &[Push(1, Never), Beside(2, Never)],
+        Rule::LoadAs => &[Push(0, Never), Push(1, Never), Beside(3, Never)],
         Rule::Param => &[
-            Effect::Push(1, Flag::Never),
-            Effect::Beside(2, Flag::Never),
-            Effect::Push(1, Flag::Always),
-            Effect::Beside(2, Flag::Never),
+            Push(1, Never),
+            Beside(2, Never),
+            Push(1, Always),
+            Beside(2, Never),
         ],
-        Rule::Default | Rule::IfClause => &[
-            Effect::Push(1, Flag::Always),
-            Effect::Beside(2, Flag::Never),
-        ],
-        Rule::StarName => &[Effect::Floor],
+        Rule::Default | Rule::IfClause => &[Push(1, Always), Beside(2, Never)],
+        Rule::StarName => &[Floor],
         Rule::Expr
         | Rule::Test
         | Rule::Or
@@ -211,16 +189,10 @@ pub fn least(rule: Rule) -> &'static [Effect]
         | Rule::Operand
         | Rule::Arg
         | Rule::Targets
-        | Rule::Target => &[Effect::Push(1, Flag::Always)],
-        Rule::TupleRest | Rule::TargetsRest => &[
-            Effect::Beside(1, Flag::All),
-            Effect::Node(1, Flag::All),
-        ],
-        Rule::TupleOpen => &[Effect::Beside(1, Flag::All)],
-        Rule::Item | Rule::Argument | Rule::TargetItem => &[
-            Effect::Push(1, Flag::Always),
-            Effect::Beside(2, Flag::All),
-        ],
+        | Rule::Target => &[Push(1, Always)],
+        Rule::TupleRest | Rule::TargetsRest => &[Beside(1, All), Node(1, All)],
+        Rule::TupleOpen => &[Beside(1, All)],
+        Rule::Item | Rule::Argument | Rule::TargetItem => &[Push(1, Always), Beside(2, All)],
         Rule::OrStep
         | Rule::AndStep
         | Rule::BarStep
@@ -228,75 +200,36 @@ pub fn least(rule: Rule) -> &'static [Effect]
         | Rule::AmpersandStep
         | Rule::ShiftStep
         | Rule::SumStep
-        | Rule::ProductStep => &[
-            Effect::Push(0, Flag::Always),
-            Effect::Push(1, Flag::Always),
-            Effect::Node(3, Flag::Never),
-        ],
-        Rule::Suffix | Rule::Dot => &[
-            Effect::Push(0, Flag::Always),
-            Effect::Push(0, Flag::Never),
-            Effect::Node(3, Flag::Never),
-        ],
-        Rule::Call => &[
-            Effect::Push(0, Flag::Always),
-            Effect::Push(0, Flag::Always),
-            Effect::Node(3, Flag::Never),
-        ],
+        | Rule::ProductStep => &[Push(0, Always), Push(1, Always), Node(3, Never)],
+        Rule::Suffix | Rule::Dot => &[Push(0, Always), Push(0, Never), Node(3, Never)],
+        Rule::Call => &[Push(0, Always), Push(0, Always), Node(3, Never)],
         Rule::Subscript => &[
-            Effect::Push(0, Flag::Never),
-            Effect::Push(0, Flag::Never),
-            Effect::Push(0, Flag::Never),
-            Effect::Node(5, Flag::Never),
+            Push(0, Never),
+            Push(0, Never),
+            Push(0, Never),
+            Node(5, Never),
         ],
-        Rule::IndexMore | Rule::Index | Rule::TargetAfter => &[Effect::Node(3, Flag::Always)],
-        Rule::SliceRest => &[
-            Effect::Push(0, Flag::Never),
-            Effect::Push(0, Flag::Never),
-            Effect::Node(5, Flag::Never),
-        ],
-        Rule::Slice => &[Effect::Node(5, Flag::Never)],
-        Rule::Group => &[
-            Effect::Push(0, Flag::Always),
-            Effect::Push(1, Flag::Never),
-            Effect::Node(2, Flag::All),
-        ],
-        Rule::ExprsOpen => &[Effect::Push(0, Flag::Always)],
+        Rule::IndexMore | Rule::Index | Rule::TargetAfter => &[Node(3, Always)],
+        Rule::SliceRest => &[Push(0, Never), Push(0, Never), Node(5, Never)],
+        Rule::Slice => &[Node(5, Never)],
+        Rule::Group => &[Push(0, Always), Push(1, Never), Node(2, All)],
+        Rule::ExprsOpen => &[Push(0, Always)],
         Rule::List => &[
-            Effect::Push(0, Flag::Always),
-            Effect::Push(0, Flag::Always),
-            Effect::Beside(1, Flag::Never),
-            Effect::Node(2, Flag::All),
+            Push(0, Always),
+            Push(0, Always),
+            Beside(1, Never),
+            Node(2, All),
         ],
-        Rule::Members => &[Effect::Beside(1, Flag::Never)],
-        Rule::MembersMore | Rule::Joined => &[Effect::Beside(2, Flag::All)],
-        Rule::Dict => &[
-            Effect::Push(0, Flag::Always),
-            Effect::Push(0, Flag::Never),
-            Effect::Node(2, Flag::Never),
-        ],
-        Rule::EntriesMore | Rule::EntryJoined => &[Effect::Beside(3, Flag::Never)],
-        Rule::Pair | Rule::ForClause => &[
-            Effect::Push(1, Flag::Always),
-            Effect::Push(1, Flag::Always),
-            Effect::Beside(3, Flag::Never),
-        ],
-        Rule::MustIndex => &[
-            Effect::Push(0, Flag::Always),
-            Effect::Push(1, Flag::Always),
-            Effect::Node(3, Flag::Always),
-        ],
-        Rule::TargetSubscript => &[Effect::Push(1, Flag::Always), Effect::Node(3, Flag::Always)],
-        Rule::GroupMore => &[
-            Effect::Push(0, Flag::Always),
-            Effect::Push(1, Flag::Always),
-            Effect::Beside(3, Flag::Always),
-        ],
-        Rule::GroupSubscript => &[
-            Effect::Push(1, Flag::Always),
-            Effect::Beside(3, Flag::Always),
-        ],
-        Rule::GroupAfter | Rule::GroupClose => &[Effect::Beside(3, Flag::Always)],
+        Rule::Members => &[Beside(1, Never)],
+        Rule::MembersMore | Rule::Joined => &[Beside(2, All)],
+        Rule::Dict => &[Push(0, Always), Push(0, Never), Node(2, Never)],
+        Rule::EntriesMore | Rule::EntryJoined => &[Beside(3, Never)],
+        Rule::Pair | Rule::ForClause => &[Push(1, Always), Push(1, Always), Beside(3, Never)],
+        Rule::MustIndex => &[Push(0, Always), Push(1, Always), Node(3, Always)],
+        Rule::TargetSubscript => &[Push(1, Always), Node(3, Always)],
+        Rule::GroupMore => &[Push(0, Always), Push(1, Always), Beside(3, Always)],
+        Rule::GroupSubscript => &[Push(1, Always), Beside(3, Always)],
+        Rule::GroupAfter | Rule::GroupClose => &[Beside(3, Always)],
         _ => &[],
     }
 }
