@@ -13,7 +13,7 @@ use Rattle.star_grammar.specs.Standing.{stands, at_first}
 use Rattle.star_token.specs.declared.found.Tokens.{Tokens}
 use Rattle.star_machine.specs.declared.machine.Machine.{Machine}
 use Rattle.star_machine.specs.Turns.{value_of}
-use Rattle.star_read.specs.Answers.{HasParts, HasRead, refusal_at, the_part, told}
+use Rattle.star_read.specs.Answers.{HasParts, HasRead, refusal_at, told}
 use Rattle.star_read.specs.Passing.{IsRefused, IsTooHigh, stand_behind}
 use Rattle.star_read.proofs.Answering.{read, read_all, refused_form, refused_deep}
 use Rattle.star_read.proofs.OnePart.{one_read}
@@ -32,7 +32,7 @@ module _ (A : Type 0) (s : Start) (ts : Tokens) (found : List Token) (i : ℕ) (
   stopped (inr (inr e)) = rw e tt
 
 -- the last part is the one that the tokens are
-pub part_read : (A : Type 0) (s : Start) (ts : Tokens) (done : Result A Stop) (ps : List Part) (x : Result Part Stop) → HasParts s ts done ps → x ≡ result_map_both (λ _. top ps) (λ stop. stop) done → HasRead s the_part ts x
+pub part_read : (A : Type 0) (s : Start) (ts : Tokens) (done : Result A Stop) (ps : List Part) (x : Result Part Stop) → HasParts s ts done ps → x ≡ result_map_both (λ _. top ps) (λ stop. stop) done → HasRead s (λ p. p) ts x
 part_read A s ts (Ok u) ps x h e = rw e (one_read s ts.tokens ps (top ps) h refl)
 part_read A s ts (Err (stop.Fault f)) ps x h e = rw e h
 part_read A s ts (Err stop.Memory) ps x h e = rw e tt

@@ -31,9 +31,6 @@ told file (too_deep line) = stop_of file kind.TooDeep line
 abbrev pub refusal_at : Stand → Token → Refusal
 refusal_at s k = if opens_too_many s (kind_of_token k.kind) then too_deep k.line else code_form k.line
 
-abbrev pub the_part : Part → Part
-the_part p = p
-
 -- The tokens are one part, in which this stands; or why they are refused. Want of memory says nothing.
 abbrev pub HasRead : {A : Type 0} → Start → (Part → A) → Tokens → Result A Stop → Type 0
 HasRead s view ts (Ok x) = (p : Part) × (x ≡ view p) × IsRead s ts.tokens (p ∷ [])

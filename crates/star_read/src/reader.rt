@@ -4,7 +4,7 @@ ghost use Rattle.star_grammar.specs.declared.start.Start.TheVariants as start;
 ghost use Rattle.star_grammar.specs.Parts.{expr_in, exprs_in};
 ghost use Rattle.star_grammar.specs.Reading as spec;
 ghost use Rattle.star_grammar.specs.Tokens.{ends, stop_of};
-ghost use Rattle.star_read.specs.Answers.{HasParts, HasRead, head_in, program_in, refusal_at, the_part, told};
+ghost use Rattle.star_read.specs.Answers.{HasParts, HasRead, head_in, program_in, refusal_at, told};
 ghost use Rattle.star_read.specs.Passing.{IsEmpty, Passes};
 ghost use Rattle.star_machine.specs.Pending.{begun};
 ghost use Rattle.star_machine.specs.Turns.{value_of};
@@ -32,15 +32,6 @@ fn rule_of(start: Start) -> Rule
         Start::Header => Rule::Header,
         Start::File => Rule::Top,
     }
-}
-
-/// A whole text is still to be read.
-fn begin_pending(start: Start, pending: &mut Pending) -> Result<(), Memory>
-    requires { pending.old ≡ [] }
-    ensures { OnOk result (pending.new ≡ begun start) }
-{
-    pending.push(Item::Want(Symbol::Token(Terminal::Passed(Kind::TextEnd))))?;
-    pending.push(Item::Want(Symbol::Rule(rule_of(start))))
 }
 
 /// The parts before a text, into which the parts of the text go.
@@ -91,13 +82,15 @@ fn empty_machine(alloc: Global) -> Machine
     }
 }
 
-/// The machine before a text.
+/// The machine before a text, which is still to be read whole.
 fn begin(alloc: Global, start: Start, machine: &mut Machine) -> Result<(), Memory>
     requires { IsEmpty machine.old }
     ensures pending { OnOk result (machine.new.pending ≡ begun start) }
     ensures empty { OnOk result (value_of machine.new ≡ spec.empty_of start) }
 {
-    begin_pending(start, &mut machine.pending)?;
+    let pending = &mut machine.pending;
+    pending.push(Item::Want(Symbol::Token(Terminal::Passed(Kind::TextEnd))))?;
+    pending.push(Item::Want(Symbol::Rule(rule_of(start))))?;
     begin_parts(alloc, start, &mut machine.parts)?;
     begin_shapes(start, &mut machine.shapes)?;
     begin_blocks(start, &mut machine.blocks)
@@ -173,7 +166,7 @@ fn read_tokens(
 /// The one part that tokens are.
 fn read_part(alloc: Global, start: Start, tokens: &Tokens) -> Result<Part, Stop>
     requires ended { ends tokens.now.tokens ≡ true }
-    ensures { HasRead start the_part tokens.now result }
+    ensures { HasRead start (λ part. part) tokens.now result }
 {
     let mut machine = empty_machine(alloc);
     let read = read_tokens(alloc, start, tokens, &mut machine);
