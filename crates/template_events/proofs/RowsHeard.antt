@@ -11,9 +11,9 @@ use Rattle.template_spec.specs.Events.{Event, events, heard, gathered, nothing, 
 use Rattle.template_pass.specs.Flat.{flat_text}
 use Rattle.template_pass.specs.Rows.{Bare, bare_event, bare_row, Row, flat_started}
 use Rattle.template_events.specs.declared.event.Row as code_row
-use Rattle.template_events.specs.Heard.{HasRows}
+use Rattle.template_events.specs.Heard.{Goes, HasRows, kept}
 use Rattle.template_events.specs.Hearing.{rows_from}
-use Rattle.template_events.specs.Levels.{Part, parts_in}
+use Rattle.template_events.specs.Levels.{parts_in}
 use Rattle.template_events.specs.View.{rows_of}
 use Rattle.template_events.proofs.Alike.{bare_events, bare_rows, rows_alike}
 use Rattle.template_events.proofs.ByLevel.{all_by_level, parts_by_level}
@@ -23,27 +23,32 @@ use Rattle.template_events.proofs.Started.{Starts, rows_start}
 err_same : (f g : Fault) → ◌≡◌ {A = Outcome (List Bare)} (Err f) (Err g) → ◌≡◌ {A = Outcome (List Event)} (Err f) (Err g)
 err_same f g e = cc
 
-has_rows : (file : ℕ) (ds : Documents) (res : Result (List code_row.Row) Stop) (es : Outcome (List Event)) (rs : Outcome (List Row)) → bare_events es ≡ bare_rows rs → Starts rs (flat_started (flat_text ds))
-    → Gives (rows_of file) res rs → HasRows file ds res es
-has_rows file ds (Ok out) (Ok es) rs e s g = (
-  es,
-  refl,
-  record {
-    bare = sym (ok_same Fault (each bare_event es) (each bare_row (rows_of file out)) (e ∙ ap bare_rows g));
-    items = subst (λ o. Starts o (flat_started (flat_text ds))) g s;
-  },
-)
-has_rows file ds (Ok out) (Err f) rs e s g = let h : ◌≡◌ {A = Outcome (List Bare)} (Err f) (Ok (each bare_row (rows_of file out))) = e ∙ ap bare_rows g in cc
-has_rows file ds (Err (stop.Fault f)) (Ok es) rs e s g = let h : ◌≡◌ {A = Outcome (List Bare)} (Ok (each bare_event es)) (Err f) = e ∙ ap bare_rows g in cc
-has_rows file ds (Err (stop.Fault f)) (Err h) rs e s g = err_same h f (e ∙ ap bare_rows g)
-has_rows file ds (Err stop.Memory) es rs e s g = tt
+module _ {A : Type 0} (rows : A → List code_row.Row) (file : ℕ) (ds : Documents) where
+  has_rows : (res : Result A Stop) (es : Outcome (List Event)) (rs : Outcome (List Row)) → bare_events es ≡ bare_rows rs → Starts rs (flat_started (flat_text ds))
+      → Gives (λ x. rows_of file (rows x)) res rs → HasRows rows file ds res es
+  has_rows (Ok out) (Ok es) rs e s g = (
+    es,
+    refl,
+    record {
+      bare = sym (ok_same Fault (each bare_event es) (each bare_row (rows_of file (rows out))) (e ∙ ap bare_rows g));
+      items = subst (λ o. Starts o (flat_started (flat_text ds))) g s;
+    },
+  )
+  has_rows (Ok out) (Err f) rs e s g = let h : ◌≡◌ {A = Outcome (List Bare)} (Err f) (Ok (each bare_row (rows_of file (rows out)))) = e ∙ ap bare_rows g in cc
+  has_rows (Err (stop.Fault f)) (Ok es) rs e s g = let h : ◌≡◌ {A = Outcome (List Bare)} (Ok (each bare_event es)) (Err f) = e ∙ ap bare_rows g in cc
+  has_rows (Err (stop.Fault f)) (Err h) rs e s g = err_same h f (e ∙ ap bare_rows g)
+  has_rows (Err stop.Memory) es rs e s g = tt
 
-pub rows_are_heard : (r : CodeReader) (ignore : Bool) (file : ℕ) (ds : Documents) (ps : List Part) (res : Result (List code_row.Row) Stop) → ps ≡ parts_in ds → Gives (rows_of file) res (rows_from r ignore file None ps)
-    → HasRows file ds res (events r ignore file ds)
-unfolding events
-rows_are_heard r ignore file ds ps res e g =
-    let parts : all_by_level (flat_text ds) ≡ ps = parts_by_level ds ∙ sym e in
-    has_rows file ds res (heard r ignore file (gathered r file nothing (raw_text ds))) (rows_from r ignore file None ps)
-    (ap (λ l. bare_events (heard r ignore file (gathered r file nothing l))) (sym (raws_are ds)) ∙ rows_alike r ignore file nothing (flat_text ds) ∙ ap (λ l. bare_rows (rows_from r ignore file None l)) parts)
-    (subst (λ l. Starts (rows_from r ignore file None l) (flat_started (flat_text ds))) parts (rows_start r ignore file None (flat_text ds)))
-    g
+  pub kept_gives : (res : Result (Unit {0}) Stop) (x : A) (o : Outcome (List Row)) → Goes o res (Ok (rows_of file (rows x))) → Gives (λ y. rows_of file (rows y)) (kept res x) o
+  kept_gives (Ok u) x o e = e
+  kept_gives (Err (stop.Fault f)) x o e = e
+  kept_gives (Err stop.Memory) x o e = tt
+
+  pub rows_are_heard : (r : CodeReader) (ignore : Bool) (res : Result A Stop) → Gives (λ x. rows_of file (rows x)) res (rows_from r ignore file None (parts_in ds))
+      → HasRows rows file ds res (events r ignore file ds)
+  unfolding events
+  rows_are_heard r ignore res g =
+      has_rows res (heard r ignore file (gathered r file nothing (raw_text ds))) (rows_from r ignore file None (parts_in ds))
+      (ap (λ l. bare_events (heard r ignore file (gathered r file nothing l))) (sym (raws_are ds)) ∙ rows_alike r ignore file nothing (flat_text ds) ∙ ap (λ l. bare_rows (rows_from r ignore file None l)) (parts_by_level ds))
+      (subst (λ l. Starts (rows_from r ignore file None l) (flat_started (flat_text ds))) (parts_by_level ds) (rows_start r ignore file None (flat_text ds)))
+      g

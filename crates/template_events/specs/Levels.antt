@@ -48,8 +48,9 @@ abbrev mutual
   parts_below d (noted_list is) = parts_among element_item (d + 1) is
   parts_below d (noted_map is) = parts_among pair_item (d + 1) is
 
-abbrev pub parts_of_item : ItemKind → (level : ℕ) → Note → Content → List Part
-parts_of_item k d i x = loose_all i.before ++ start d k i x ∷ inside (is_flow x) (trailing (owner d k x) i.trailing) (parts_below d x)
+-- what an item of this kind and level holds, and the comment on its line
+abbrev pub inside_item : ItemKind → (level : ℕ) → Note → Content → List Part
+inside_item k d i x = inside (is_flow x) (trailing (owner d k x) i.trailing) (parts_below d x)
 
 abbrev pub parts_in : Documents → List Part
 parts_in ds = parts_among document_item 0 ds.items ++ loose_all ds.after

@@ -5,10 +5,9 @@ use Rattle.yaml_noted.specs.View.{comment_of}
 use Rattle.star_tree.specs.View.{item_kind_of}
 use Rattle.notes_read.specs.View.{said_of}
 use Rattle.template_events.specs.declared.event.Owner.{Owner}
-use Rattle.template_events.specs.declared.event.Part.{Part}
-use Rattle.template_events.specs.declared.event.Part.TheVariants as part
 use Rattle.template_events.specs.declared.event.Row.{Row}
 use Rattle.template_events.specs.declared.event.Row.TheVariants as row
+use Rattle.template_events.specs.declared.event.Start.{Start}
 use Rattle.template_events.specs.declared.event.Written.{Written}
 use Rattle.template_events.specs.declared.event.Written.TheVariants as written
 use Rattle.template_events.specs.declared.hear.Held.{Held}
@@ -25,12 +24,8 @@ shape_of written.List = a_list
 abbrev pub owner_of : Owner → level.Owner
 owner_of o = record { level = o.level; kind = item_kind_of o.kind; is_collection = o.is_collection }
 
-abbrev pub part_of : Part → level.Part
-part_of (part.Starts s) = level.starts s.level (item_kind_of s.kind) s.line (option_map key_of s.key) (shape_of s.written)
-part_of (part.Comment o c) = level.comment (option_map owner_of o) (comment_of c)
-
-abbrev pub parts_of : List Part → List level.Part
-parts_of ps = each part_of ps
+abbrev pub start_of : Start → level.Part
+start_of s = level.starts s.level (item_kind_of s.kind) s.line (option_map key_of s.key) (shape_of s.written)
 
 abbrev pub held_by : Held → hearing.Held
 held_by h = record { owner = option_map owner_of h.owner; comment = comment_of h.comment; last = h.last }

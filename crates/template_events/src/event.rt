@@ -1,9 +1,7 @@
-// Items and comments one after another, and what the comments say.
+// Items one after another, and what the comments between them say.
 
 use notes_read::Comment;
-use sqlite_items::Items;
 use star_tree::ItemKind;
-use yaml_noted::RawComment;
 use ytt_base::tree::{Key, Tree};
 
 /// What is written in an item: a scalar, or a map or a list, whose items follow.
@@ -35,16 +33,6 @@ pub struct Owner {
     pub is_collection: bool,
 }
 
-/// An item as it begins, or a comment with the item to which it belongs, if there is one.
-#[derive(Drop)]
-pub enum Part {
-    Starts(Start),
-    Comment(Option<Owner>, RawComment),
-}
-
-/// Items and comments in text order.
-pub type Parts = Items<Part>;
-
 /// One of the rows of a template's text.
 #[derive(Drop)]
 pub enum Row {
@@ -58,4 +46,4 @@ pub enum Row {
 }
 
 /// Rows in text order.
-pub type Rows = Items<Row>;
+pub type Rows = Vec<Row>;

@@ -1,26 +1,21 @@
-// The items and comments of documents, one after another.
-ghost use Rattle.std.specs.Prelude.{◌≡◌, ◌+◌, [], ◌∷◌, ◌++◌, IfOk, OnOk, option_map};
+// The items and comments of documents, which are heard one after another.
+ghost use Rattle.std.specs.Prelude.{◌≡◌, ◌+◌, ◌++◌, [], ◌∷◌, IfOk, None, OnOk, option_map};
 ghost use Rattle.star_tree.specs.View.{item_kind_of};
+ghost use Rattle.template_events.specs.Heard.{AreHeard, AreKnown, Hears, HearsWhole, kept};
 ghost use Rattle.template_events.specs.Levels as spec;
-ghost use Rattle.template_events.specs.View.{owner_of, parts_of, shape_of};
+ghost use Rattle.template_events.specs.View.{owner_of, shape_of, start_of};
 ghost use Rattle.template_pass.specs.Flat.{first_is_flow, shape};
 ghost use Rattle.template_spec.specs.Events.{is_collection, is_flow};
 ghost use Rattle.yaml_noted.specs.View.{comment_of, comments_of, content_of, documents_of, items_of, note_of};
 
-use crate::event::{Owner, Part, Parts, Start, Written};
-use sqlite_items::Items;
+use crate::event::{Owner, Rows, Start, Written};
+use crate::hear::{Hearing, Setting, hear_comment, hear_start, let_go};
 use star_tree::ItemKind;
 use std::alloc::Global;
 use yaml_noted::{Comments, Content, NotedDocs, NotedItem, NotedItems, RawComment};
+use ytt_base::fault::Stop;
 use ytt_base::text::Memory;
 use ytt_base::tree::Key;
-
-fn push(parts: &mut Parts, part: Part) -> Result<(), Memory>
-    ensures { OnOk result (parts.new ≡ parts.old ++ part ∷ []) }
-{
-    parts.push(part)?;
-    Ok(())
-}
 
 fn copy_comment(comment: &RawComment) -> Result<RawComment, Memory>
     ensures { IfOk result (λ c. c ≡ comment.now) }
@@ -84,33 +79,16 @@ fn is_flow(content: &Content) -> bool
     }
 }
 
-fn add_loose(comments: &Comments, parts: &mut Parts) -> Result<(), Memory>
-    ensures { OnOk result (parts_of parts.new ≡ parts_of parts.old ++ spec.loose_all (comments_of comments.now)) }
+fn start(alloc: Global, item: &NotedItem, kind: ItemKind, level: usize) -> Result<Start, Memory>
+    ensures { IfOk result (λ s. start_of s ≡ spec.start level (item_kind_of kind) (note_of item.now) (content_of item.now.content)) }
 {
-    for comment in comments.as_slice() {
-        let comment = copy_comment(comment)?;
-        push(parts, Part::Comment(None, comment))?;
-    }
-    Ok(())
-}
-
-fn add_start(
-    alloc: Global,
-    item: &NotedItem,
-    kind: ItemKind,
-    level: usize,
-    parts: &mut Parts,
-) -> Result<(), Memory>
-    ensures { OnOk result (parts_of parts.new ≡ parts_of parts.old ++ spec.start level (item_kind_of kind) (note_of item.now) (content_of item.now.content) ∷ []) }
-{
-    let start = Start {
+    Ok(Start {
         level,
         kind,
         line: item.place.line,
         key: copy_key(&item.key)?,
         written: written(alloc, &item.content)?,
-    };
-    push(parts, Part::Starts(start))
+    })
 }
 
 fn owner(item: &NotedItem, kind: ItemKind, level: usize) -> Owner
@@ -123,93 +101,178 @@ fn owner(item: &NotedItem, kind: ItemKind, level: usize) -> Owner
     }
 }
 
-fn add_trailing(
+fn hear_loose(setting: Setting, comments: &Comments, hearing: &mut Hearing) -> Result<(), Stop>
+    requires known { AreKnown hearing.old.held }
+    ensures hears { Hears setting (spec.loose_all (comments_of comments.now)) hearing.old hearing.new result }
+    ensures known { OnOk result (AreKnown hearing.new.held) }
+{
+    for comment in comments.as_slice() {
+        let comment = copy_comment(comment)?;
+        hear_comment(setting, None, comment, hearing)?;
+    }
+    Ok(())
+}
+
+/// The item begins, behind the comments before it.
+fn hear_begin(
+    setting: Setting,
     item: &NotedItem,
     kind: ItemKind,
     level: usize,
-    parts: &mut Parts,
-) -> Result<(), Memory>
-    ensures { OnOk result (parts_of parts.new ≡ parts_of parts.old ++ spec.trailing (spec.owner level (item_kind_of kind) (content_of item.now.content)) (option_map comment_of item.now.trailing)) }
+    hearing: &mut Hearing,
+) -> Result<(), Stop>
+    requires known { AreKnown hearing.old.held }
+    ensures hears { Hears setting (spec.loose_all (comments_of item.now.before) ++ spec.start level (item_kind_of kind) (note_of item.now) (content_of item.now.content) ∷ []) hearing.old hearing.new result }
+    ensures known { OnOk result (AreKnown hearing.new.held) }
+{
+    hear_loose(setting, &item.before, hearing)?;
+    let start = start(setting.alloc, item, kind, level)?;
+    hear_start(setting, start, hearing)
+}
+
+fn hear_trailing(
+    setting: Setting,
+    item: &NotedItem,
+    kind: ItemKind,
+    level: usize,
+    hearing: &mut Hearing,
+) -> Result<(), Stop>
+    requires known { AreKnown hearing.old.held }
+    ensures hears { Hears setting (spec.trailing (spec.owner level (item_kind_of kind) (content_of item.now.content)) (option_map comment_of item.now.trailing)) hearing.old hearing.new result }
+    ensures known { OnOk result (AreKnown hearing.new.held) }
 {
     match &item.trailing {
         Some(comment) => {
             let comment = copy_comment(comment)?;
-            push(
-                parts,
-                Part::Comment(Some(owner(item, kind, level)), comment),
-            )
+            let owner = owner(item, kind, level);
+            hear_comment(setting, Some(owner), comment, hearing)
         }
         None => Ok(()),
     }
 }
 
-/// Adds an item with the comments that belong to it, and then what it holds; a collection in brackets ends before the comment on its
-/// line.
+/// Hears the comment of an item and what the item holds; a collection in brackets ends before the comment on its line.
 #[cycle(flat)]
-fn add_item(
-    alloc: Global,
+fn hear_inside(
+    setting: Setting,
     item: &NotedItem,
     kind: ItemKind,
     level: usize,
-    parts: &mut Parts,
-) -> Result<(), Memory>
-    ensures { OnOk result (parts_of parts.new ≡ parts_of parts.old ++ spec.parts_of_item (item_kind_of kind) level (note_of item.now) (content_of item.now.content)) }
+    hearing: &mut Hearing,
+) -> Result<(), Stop>
+    requires known { AreKnown hearing.old.held }
+    ensures hears { Hears setting (spec.inside_item (item_kind_of kind) level (note_of item.now) (content_of item.now.content)) hearing.old hearing.new result }
+    ensures known { OnOk result (AreKnown hearing.new.held) }
 {
-    add_loose(&item.before, parts)?;
-    add_start(alloc, item, kind, level, parts)?;
     if is_flow(&item.content) {
-        add_below(alloc, &item.content, level, parts)?;
-        add_trailing(item, kind, level, parts)
+        hear_below(setting, &item.content, level, hearing)?;
+        hear_trailing(setting, item, kind, level, hearing)
     } else {
-        add_trailing(item, kind, level, parts)?;
-        add_below(alloc, &item.content, level, parts)
+        hear_trailing(setting, item, kind, level, hearing)?;
+        hear_below(setting, &item.content, level, hearing)
     }
 }
 
-/// Adds what an item of this level holds.
+/// Hears what an item of this level holds.
 #[cycle(flat)]
 #[tactic(auto, using(yaml_noted::proofs::Views::views))]
-fn add_below(
-    alloc: Global,
+fn hear_below(
+    setting: Setting,
     content: &Content,
     level: usize,
-    parts: &mut Parts,
-) -> Result<(), Memory>
-    ensures { OnOk result (parts_of parts.new ≡ parts_of parts.old ++ spec.parts_below level (content_of content.now)) }
+    hearing: &mut Hearing,
+) -> Result<(), Stop>
+    requires known { AreKnown hearing.old.held }
+    ensures hears { Hears setting (spec.parts_below level (content_of content.now)) hearing.old hearing.new result }
+    ensures known { OnOk result (AreKnown hearing.new.held) }
 {
     let Some(inner) = level.checked_add(1) else {
-        return Err(Memory);
+        return Err(Stop::Memory);
     };
     match content {
         Content::Scalar(_) => Ok(()),
-        Content::Map(items) => add_items(alloc, items, ItemKind::Pair, inner, parts),
-        Content::List(items) => add_items(alloc, items, ItemKind::Element, inner, parts),
+        Content::Map(items) => hear_items(setting, items, ItemKind::Pair, inner, hearing),
+        Content::List(items) => hear_items(setting, items, ItemKind::Element, inner, hearing),
     }
 }
 
+/// Hears items, each behind the comments before it, an outer one before an inner one.
 #[cycle(flat)]
-fn add_items(
-    alloc: Global,
+fn hear_items(
+    setting: Setting,
     items: &NotedItems,
     kind: ItemKind,
     level: usize,
-    parts: &mut Parts,
-) -> Result<(), Memory>
-    ensures { OnOk result (parts_of parts.new ≡ parts_of parts.old ++ spec.parts_among (item_kind_of kind) level (items_of items.now)) }
+    hearing: &mut Hearing,
+) -> Result<(), Stop>
+    requires known { AreKnown hearing.old.held }
+    ensures hears { Hears setting (spec.parts_among (item_kind_of kind) level (items_of items.now)) hearing.old hearing.new result }
+    ensures known { OnOk result (AreKnown hearing.new.held) }
 {
     for item in items.as_slice() {
-        add_item(alloc, item, kind, level, parts)?;
+        hear_begin(setting, item, kind, level, hearing)?;
+        hear_inside(setting, item, kind, level, hearing)?;
     }
     Ok(())
 }
 
-/// The items and comments of documents in text order: each item behind the comments before it, an outer one before an inner one, and
-/// the comments behind the last item at the end. The only error is want of memory.
-pub fn flatten(alloc: Global, docs: &NotedDocs) -> Result<Parts, Memory>
-    ensures { IfOk result (λ ps. parts_of ps ≡ spec.parts_in (documents_of docs.now)) }
+/// Hears documents, and the comments behind the last item.
+fn hear_all(setting: Setting, docs: &NotedDocs, hearing: &mut Hearing) -> Result<(), Stop>
+    requires known { AreKnown hearing.old.held }
+    ensures hears { Hears setting (spec.parts_in (documents_of docs.now)) hearing.old hearing.new result }
 {
-    let mut parts: Parts = Items::new(alloc);
-    add_items(alloc, &docs.items, ItemKind::Document, 0, &mut parts)?;
-    add_loose(&docs.after, &mut parts)?;
-    Ok(parts)
+    hear_items(setting, &docs.items, ItemKind::Document, 0, hearing)?;
+    hear_loose(setting, &docs.after, hearing)
+}
+
+/// Hears documents from their begin, and lets go of what is held at their end.
+fn hear_whole(setting: Setting, docs: &NotedDocs, hearing: &mut Hearing) -> Result<(), Stop>
+    requires rows { hearing.old.rows.items ≡ [] }
+    requires held { hearing.old.held ≡ None }
+    ensures { HearsWhole setting (documents_of docs.now) hearing.new result }
+{
+    hear_all(setting, docs, hearing)?;
+    let_go(setting, hearing)
+}
+
+/// The rows that were heard, or why not all were.
+fn rows_of(heard: Result<(), Stop>, hearing: Hearing) -> Result<Rows, Stop>
+    ensures { result ≡ kept heard hearing.rows }
+{
+    let Hearing { rows, .. } = hearing;
+    match heard {
+        Ok(()) => Ok(rows),
+        Err(stop) => {
+            drop(rows);
+            Err(stop)
+        }
+    }
+}
+
+/// The rows of documents in text order: each item as it begins, and what the comments say.
+///
+/// `file` is the number of the documents' file, which faults and places name. A comment of code whose brackets are open at its end goes
+/// on with the code on a line of its own directly below; ignored comments, such as those that begin with `#!`, and under
+/// `ignore_unknown` those that don't begin with `#@`, are no rows.
+///
+/// A fault is the first one of a comment in text order, as `read_comment` of `notes_read` tells it. Want of memory is `Stop::Memory`.
+pub fn read_events(
+    alloc: Global,
+    docs: &NotedDocs,
+    file: u32,
+    ignore_unknown: bool,
+) -> Result<Rows, Stop>
+    ensures events { AreHeard (λ rows. rows.items) ignore_unknown file (documents_of docs.now) result }
+{
+    let setting = Setting {
+        alloc,
+        file,
+        ignore_unknown,
+    };
+    let mut hearing = Hearing {
+        rows: Vec::new(alloc),
+        held: None,
+    };
+    let heard = hear_whole(setting, docs, &mut hearing);
+    rows_of(heard, hearing)
 }

@@ -1,29 +1,36 @@
 // What comments say, each together with those that continue it.
-ghost use Rattle.std.specs.Prelude.{◌≡◌, ◌==◌, ◌&&◌, List, ◌++◌, [], ◌∷◌, ℕ, suc, true, false, IfOk, OnOk, MatchOption, None, option_map, reverse};
+ghost use Rattle.std.specs.Prelude.{◌≡◌, ◌==◌, ◌&&◌, List, ◌++◌, [], ◌∷◌, ℕ, suc, true, false, IfOk, OnOk, MatchOption, None, option_map};
 ghost use Rattle.notes_read.specs.Depths as depths;
 ghost use Rattle.notes_read.specs.View.{said_of};
 ghost use Rattle.star_grammar.specs.CodeReaders.{GivesCode, IsCodeReader};
 ghost use Rattle.code_spec.specs.CodeReading.{CodeReader};
-ghost use Rattle.template_events.specs.declared.event.Part.TheVariants as part;
+ghost use Rattle.star_tree.specs.View.{item_kind_of};
 ghost use Rattle.template_events.specs.Hearing as spec;
-ghost use Rattle.template_events.specs.Heard.{AreHeard, AreKnown, Continues, IsKnown, Takes};
+ghost use Rattle.template_events.specs.Heard.{AreKnown, Continues, Hears, IsKnown};
 ghost use Rattle.template_events.specs.Levels as level;
 ghost use Rattle.template_events.specs.View as view;
-ghost use Rattle.template_events.specs.View.{held_by, held_of, owner_of, part_of, parts_of, rows_of};
+ghost use Rattle.template_events.specs.View.{held_by, held_of, owner_of, rows_of, start_of};
 ghost use Rattle.template_spec.specs.Comments.{without_end};
 ghost use Rattle.template_spec.specs.Events.{continues_it};
-ghost use Rattle.yaml_noted.specs.View.{comment_of, documents_of};
+ghost use Rattle.yaml_noted.specs.View.{comment_of};
 ghost use Rattle.yaml_spec.specs.Noted.{code_in, is_code};
 ghost use Rattle.ytt_base.specs.Outcomes.{place_at};
 
-use crate::event::{Owner, Part, Parts, Row, Rows, Start};
-use crate::flat::flatten;
+use crate::event::{Owner, Row, Rows, Start};
 use notes_read::{Comment, depth_behind_code, depth_of, read_comment};
-use sqlite_items::Items;
 use std::alloc::Global;
-use yaml_noted::{NotedDocs, RawComment};
+use std::mem;
+use yaml_noted::RawComment;
 use ytt_base::fault::Stop;
 use ytt_base::text::{Memory, Text};
+
+/// How a template's text is heard: where memory comes from, the number of its file, and whether comments of no known form say nothing.
+#[derive(Clone, Copy)]
+pub struct Setting {
+    pub alloc: Global,
+    pub file: u32,
+    pub ignore_unknown: bool,
+}
 
 /// A comment that may go on.
 #[derive(Drop)]
@@ -33,24 +40,19 @@ pub struct Held {
     pub comment: RawComment,
     /// The line of its last part.
     pub last: u32,
-    /// How many brackets are open at its end, if it is code.
-    pub depth: Option<u32>,
+    /// How many brackets are open at its end, if it is code, once that was counted.
+    pub depth: Option<Option<u32>>,
 }
 
-/// The parts in the opposite order.
-fn turned(alloc: Global, parts: Parts) -> Result<Parts, Memory>
-    ensures { IfOk result (λ ps. ps ≡ reverse parts) }
-{
-    let mut left = parts;
-    let mut turned: Parts = Items::new(alloc);
-    while let Some(part) = left.pop() {
-        turned.push(part)?;
-    }
-    Ok(turned)
+/// What was heard so far: rows, and the comment behind them that may go on.
+#[derive(Drop)]
+pub struct Hearing {
+    pub rows: Rows,
+    pub held: Option<Held>,
 }
 
 fn push(rows: &mut Rows, row: Row) -> Result<(), Memory>
-    ensures { OnOk result (rows.new ≡ rows.old ++ row ∷ []) }
+    ensures { OnOk result (rows.new.items ≡ rows.old.items ++ row ∷ []) }
 {
     rows.push(row)?;
     Ok(())
@@ -83,36 +85,61 @@ fn some_open(depth: Option<u32>) -> bool
     }
 }
 
-/// Whether a comment is code that may go on.
-fn may_go_on(held: &Held) -> bool
+/// How many brackets are open at its end, if it is code. That is counted where something is asked of it: most comments go on nowhere.
+fn depth_now(alloc: Global, held: &Held) -> Result<Option<u32>, Memory>
     requires { IsKnown held.now }
-    ensures { (r : CodeReader) → IsCodeReader r → (file : ℕ) → result ≡ (is_code held.now.comment.text && r.is_open (place_at file held.now.comment.line) (without_end (code_in held.now.comment.text))) }
+    ensures { IfOk result (λ d. d ≡ depths.depth_of held.now.comment.text) }
 {
-    some_open(held.depth)
+    match held.depth {
+        Some(depth) => Ok(depth),
+        None => depth_of(alloc, &held.comment),
+    }
+}
+
+/// Whether a comment is code that may go on.
+fn may_go_on(alloc: Global, held: &Held) -> Result<bool, Memory>
+    requires { IsKnown held.now }
+    ensures { (r : CodeReader) → IsCodeReader r → (file : ℕ) → IfOk result (λ b. b ≡ (is_code held.now.comment.text && r.is_open (place_at file held.now.comment.line) (without_end (code_in held.now.comment.text)))) }
+{
+    let depth = depth_now(alloc, held)?;
+    Ok(some_open(depth))
 }
 
 /// The code with which a comment of no item continues this one, or `None` where it doesn't.
-fn continuation<'a>(held: &Held, below: &'a RawComment) -> Option<&'a str>
+fn continuation<'a>(
+    alloc: Global,
+    held: &Held,
+    below: &'a RawComment,
+) -> Result<Option<&'a str>, Memory>
     requires { IsKnown held.now }
-    ensures { (r : CodeReader) → IsCodeReader r → (file : ℕ) → Continues (continues_it r file (comment_of held.now.comment) held.now.last (comment_of below.now)) below.now.text result }
+    ensures { (r : CodeReader) → IsCodeReader r → (file : ℕ) → IfOk result (Continues (continues_it r file (comment_of held.now.comment) held.now.last (comment_of below.now)) below.now.text) }
 {
     if !below.own_line || !is_below(below.line, held.last) {
-        return None;
+        return Ok(None);
     }
     let Some(code) = code_in(below.text.as_str()) else {
-        return None;
+        return Ok(None);
     };
-    if may_go_on(held) { Some(code) } else { None }
+    if may_go_on(alloc, held)? {
+        Ok(Some(code))
+    } else {
+        Ok(None)
+    }
 }
 
 /// The code with which a comment continues what is held. The comment of an item continues none.
-fn going_on<'a>(held: &Option<Held>, owner: Option<Owner>, below: &'a RawComment) -> Option<&'a str>
+fn going_on<'a>(
+    alloc: Global,
+    held: &Option<Held>,
+    owner: Option<Owner>,
+    below: &'a RawComment,
+) -> Result<Option<&'a str>, Memory>
     requires { AreKnown held.now }
-    ensures { (r : CodeReader) → IsCodeReader r → (file : ℕ) → Continues (spec.goes_on r file (held_of held.now) (option_map owner_of owner) (comment_of below.now)) below.now.text result }
+    ensures { (r : CodeReader) → IsCodeReader r → (file : ℕ) → IfOk result (Continues (spec.goes_on r file (held_of held.now) (option_map owner_of owner) (comment_of below.now)) below.now.text) }
 {
     match (held, owner) {
-        (Some(held), None) => continuation(held, below),
-        _ => None,
+        (Some(held), None) => continuation(alloc, held, below),
+        _ => Ok(None),
     }
 }
 
@@ -147,17 +174,18 @@ fn grown_by(alloc: Global, held: Held, code: &str, line: u32) -> Result<Held, Me
     ensures grown { IfOk result (λ h. held_by h ≡ spec.grown_by (held_by held) code.now line) }
     ensures known { IfOk result (λ h. IsKnown h) }
 {
+    let before = depth_now(alloc, &held)?;
     let comment = RawComment {
         line: held.comment.line,
         own_line: held.comment.own_line,
         text: joined(alloc, held.comment.text.as_str(), code)?,
     };
-    let depth = depth_behind(alloc, held.depth, code, &comment)?;
+    let depth = depth_behind(alloc, before, code, &comment)?;
     Ok(Held {
         owner: held.owner,
         comment,
         last: line,
-        depth,
+        depth: Some(depth),
     })
 }
 
@@ -173,18 +201,17 @@ fn grown(alloc: Global, held: Option<Held>, code: &str, line: u32) -> Result<Opt
 }
 
 /// A comment that is held from now on.
-fn hold(alloc: Global, owner: Option<Owner>, comment: RawComment) -> Result<Held, Memory>
-    ensures held { IfOk result (λ h. held_by h ≡ spec.held_from (option_map owner_of owner) (comment_of comment)) }
-    ensures known { IfOk result (λ h. IsKnown h) }
+fn held_from(owner: Option<Owner>, comment: RawComment) -> Held
+    ensures held { held_by result ≡ spec.held_from (option_map owner_of owner) (comment_of comment) }
+    ensures known { IsKnown result }
 {
-    let depth = depth_of(alloc, &comment)?;
     let last = comment.line;
-    Ok(Held {
+    Held {
         owner,
         comment,
         last,
-        depth,
-    })
+        depth: None,
+    }
 }
 
 fn row_of(owner: Option<Owner>, line: u32, said: Comment) -> Row
@@ -207,16 +234,21 @@ fn spoken(owner: Option<Owner>, line: u32, said: Comment) -> Option<Row>
 }
 
 /// The row of a comment.
-fn heard(alloc: Global, held: Held, file: u32, ignore_unknown: bool) -> Result<Option<Row>, Stop>
-    ensures { GivesCode (view.rows_in file) result (λ r. spec.heard r ignore_unknown file (held_by held)) }
+fn heard(setting: Setting, held: Held) -> Result<Option<Row>, Stop>
+    ensures { GivesCode (view.rows_in setting.file) result (λ r. spec.heard r setting.ignore_unknown setting.file (held_by held)) }
 {
-    let said = read_comment(alloc, &held.comment, file, ignore_unknown)?;
+    let said = read_comment(
+        setting.alloc,
+        &held.comment,
+        setting.file,
+        setting.ignore_unknown,
+    )?;
     Ok(spoken(held.owner, held.comment.line, said))
 }
 
 /// Adds a row, if there is one.
 fn add(row: Option<Row>, rows: &mut Rows) -> Result<(), Memory>
-    ensures { (file : ℕ) → OnOk result (rows_of file rows.new ≡ rows_of file rows.old ++ view.rows_in file row) }
+    ensures { (file : ℕ) → OnOk result (rows_of file rows.new.items ≡ rows_of file rows.old.items ++ view.rows_in file row) }
 {
     match row {
         Some(row) => push(rows, row),
@@ -225,18 +257,12 @@ fn add(row: Option<Row>, rows: &mut Rows) -> Result<(), Memory>
 }
 
 /// Adds the row of what is held.
-fn let_go(
-    alloc: Global,
-    held: Option<Held>,
-    rows: &mut Rows,
-    file: u32,
-    ignore_unknown: bool,
-) -> Result<(), Stop>
-    ensures { GivesCode (λ _. rows_of file rows.new) result (λ r. spec.behind (rows_of file rows.old) (spec.let_go r ignore_unknown file (held_of held))) }
+fn add_held(setting: Setting, held: Option<Held>, rows: &mut Rows) -> Result<(), Stop>
+    ensures { GivesCode (λ _. rows_of setting.file rows.new.items) result (λ r. spec.behind (rows_of setting.file rows.old.items) (spec.let_go r setting.ignore_unknown setting.file (held_of held))) }
 {
     match held {
         Some(held) => {
-            let row = heard(alloc, held, file, ignore_unknown)?;
+            let row = heard(setting, held)?;
             add(row, rows)?;
             Ok(())
         }
@@ -244,95 +270,52 @@ fn let_go(
     }
 }
 
-/// Takes a comment: it continues what is held, or is held from now on.
-fn take_comment(
-    alloc: Global,
+/// Lets go of what is held, and adds its row.
+pub fn let_go(setting: Setting, hearing: &mut Hearing) -> Result<(), Stop>
+    ensures rows { GivesCode (λ _. rows_of setting.file hearing.new.rows.items) result (λ r. spec.behind (rows_of setting.file hearing.old.rows.items) (spec.let_go r setting.ignore_unknown setting.file (held_of hearing.old.held))) }
+    ensures held { hearing.new.held ≡ None }
+{
+    let held = mem::replace(&mut hearing.held, None);
+    add_held(setting, held, &mut hearing.rows)
+}
+
+/// Holds a comment from now on, where none is held.
+fn hold(owner: Option<Owner>, comment: RawComment, hearing: &mut Hearing)
+    requires { hearing.old.held ≡ None }
+    ensures held { held_of hearing.new.held ≡ Some (spec.held_from (option_map owner_of owner) (comment_of comment)) }
+    ensures rows { hearing.new.rows ≡ hearing.old.rows }
+    ensures known { AreKnown hearing.new.held }
+{
+    hearing.held = Some(held_from(owner, comment));
+}
+
+/// Hears a comment: it continues what is held, or is held from now on.
+pub fn hear_comment(
+    setting: Setting,
     owner: Option<Owner>,
     comment: RawComment,
-    held: Option<Held>,
-    rows: &mut Rows,
-    file: u32,
-    ignore_unknown: bool,
-) -> Result<Option<Held>, Stop>
-    requires { AreKnown held }
-    ensures takes { Takes ignore_unknown file held (level.comment (option_map owner_of owner) (comment_of comment)) rows.old rows.new result }
-    ensures known { IfOk result (λ h. AreKnown h) }
+    hearing: &mut Hearing,
+) -> Result<(), Stop>
+    requires known { AreKnown hearing.old.held }
+    ensures hears { Hears setting (level.comment (option_map owner_of owner) (comment_of comment) ∷ []) hearing.old hearing.new result }
+    ensures known { OnOk result (AreKnown hearing.new.held) }
 {
-    if let Some(code) = going_on(&held, owner, &comment) {
-        return Ok(grown(alloc, held, code, comment.line)?);
+    if let Some(code) = going_on(setting.alloc, &hearing.held, owner, &comment)? {
+        let held = mem::replace(&mut hearing.held, None);
+        hearing.held = grown(setting.alloc, held, code, comment.line)?;
+        return Ok(());
     }
-    let_go(alloc, held, rows, file, ignore_unknown)?;
-    Ok(Some(hold(alloc, owner, comment)?))
+    let_go(setting, hearing)?;
+    hold(owner, comment, hearing);
+    Ok(())
 }
 
-/// Takes an item: what is held ends before it.
-fn take_start(
-    alloc: Global,
-    start: Start,
-    held: Option<Held>,
-    rows: &mut Rows,
-    file: u32,
-    ignore_unknown: bool,
-) -> Result<Option<Held>, Stop>
-    requires { AreKnown held }
-    ensures takes { Takes ignore_unknown file held (part_of (part.Starts start)) rows.old rows.new result }
-    ensures known { IfOk result (λ h. AreKnown h) }
+/// Hears an item that begins: what is held ends before it.
+pub fn hear_start(setting: Setting, start: Start, hearing: &mut Hearing) -> Result<(), Stop>
+    ensures hears { Hears setting (start_of start ∷ []) hearing.old hearing.new result }
+    ensures known { OnOk result (AreKnown hearing.new.held) }
 {
-    let_go(alloc, held, rows, file, ignore_unknown)?;
-    push(rows, Row::Begins(start))?;
-    Ok(None)
-}
-
-/// Takes what comes next, and gives what is held behind it.
-fn take(
-    alloc: Global,
-    part: Part,
-    held: Option<Held>,
-    rows: &mut Rows,
-    file: u32,
-    ignore_unknown: bool,
-) -> Result<Option<Held>, Stop>
-    requires { AreKnown held }
-    ensures takes { Takes ignore_unknown file held (part_of part) rows.old rows.new result }
-    ensures known { IfOk result (λ h. AreKnown h) }
-{
-    match part {
-        Part::Starts(start) => take_start(alloc, start, held, rows, file, ignore_unknown),
-        Part::Comment(owner, comment) => {
-            take_comment(alloc, owner, comment, held, rows, file, ignore_unknown)
-        }
-    }
-}
-
-/// The rows of items and comments.
-fn hear(alloc: Global, parts: Parts, file: u32, ignore_unknown: bool) -> Result<Rows, Stop>
-    ensures { GivesCode (rows_of file) result (λ r. spec.rows_from r ignore_unknown file None (parts_of parts)) }
-{
-    let mut left = turned(alloc, parts)?;
-    let mut rows: Rows = Items::new(alloc);
-    let mut held: Option<Held> = None;
-    while let Some(part) = left.pop() {
-        held = take(alloc, part, held, &mut rows, file, ignore_unknown)?;
-    }
-    let_go(alloc, held, &mut rows, file, ignore_unknown)?;
-    Ok(rows)
-}
-
-/// The rows of documents in text order: each item as it begins, and what the comments say.
-///
-/// `file` is the number of the documents' file, which faults and places name. A comment of code whose brackets are open at its end goes
-/// on with the code on a line of its own directly below; ignored comments, such as those that begin with `#!`, and under
-/// `ignore_unknown` those that don't begin with `#@`, are no rows.
-///
-/// A fault is the first one of a comment in text order, as `read_comment` of `notes_read` tells it. Want of memory is `Stop::Memory`.
-pub fn read_events(
-    alloc: Global,
-    docs: &NotedDocs,
-    file: u32,
-    ignore_unknown: bool,
-) -> Result<Rows, Stop>
-    ensures events { AreHeard ignore_unknown file (documents_of docs.now) result }
-{
-    let parts = flatten(alloc, docs)?;
-    hear(alloc, parts, file, ignore_unknown)
+    let_go(setting, hearing)?;
+    push(&mut hearing.rows, Row::Begins(start))?;
+    Ok(())
 }

@@ -9,4 +9,4 @@ mod flat;
 mod hear;
 
 pub use event::{Row, Rows, Start, Written};
-pub use hear::read_events;
+pub use flat::read_events;
