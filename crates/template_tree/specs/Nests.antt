@@ -29,8 +29,8 @@ front_of file is = items_of file (reverse is)
 
 abbrev pub nested_step : (file : ℕ) → Nested-F nesting.Nested → nesting.Nested
 nested_step file Nested-F.Broken = broken
-nested_step file (Nested-F.AtTop is) = at_top (front_of file is)
-nested_step file (Nested-F.Inside is more outer) = inside (front_of file is) (branches_of file more) outer
+nested_step file (Nested-F.AtTop is) = at_top (front_of file is.items)
+nested_step file (Nested-F.Inside is more outer) = inside (front_of file is.items) (branches_of file more) outer
 
 abbrev pub nested_of : (file : ℕ) → Nested → nesting.Nested
 nested_of file = fold-Nested nesting.Nested (nested_step file)

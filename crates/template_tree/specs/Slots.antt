@@ -8,7 +8,7 @@ use Rattle.template_tree.specs.Nests.{parts_of}
 use Rattle.template_tree.specs.View.{notes_of}
 
 abbrev pub slot_of : (file : ℕ) → Slot → build.Slot
-slot_of file s = record { parts = parts_of file s.parts; value = option_map (expr_of file) s.value; notes = notes_of file s.notes }
+slot_of file s = record { parts = parts_of file s.parts.items; value = option_map (expr_of file) s.value; notes = notes_of file s.notes }
 
 abbrev pub slots_of : (file : ℕ) → List Slot → List build.Slot
 slots_of file ss = each (slot_of file) ss

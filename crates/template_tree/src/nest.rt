@@ -27,42 +27,26 @@ pub enum Part {
 }
 
 /// Parts of a collection, the first one last.
-pub type Parts = Items<Part>;
+pub type Parts = Vec<Part>;
 
 /// What was read from the end of a collection: the items so far, the first one last, in the blocks that are closed further on.
 #[derive(Drop)]
 pub enum Nested {
     Broken,
-    AtTop(TItems),
-    Inside(TItems, TBranches, Boxed<Nested>),
-}
-
-// ---- lists
-
-/// The items in the opposite order.
-fn turned_items(alloc: Global, items: TItems) -> Result<TItems, Memory>
-    ensures { IfOk result (λ is. is ≡ reverse items) }
-{
-    let mut left = items;
-    let mut turned: TItems = Items::new(alloc);
-    while let Some(item) = left.pop() {
-        turned.push(item)?;
-    }
-    Ok(turned)
-}
-
-fn turned_parts(alloc: Global, parts: Parts) -> Result<Parts, Memory>
-    ensures { IfOk result (λ ps. ps ≡ reverse parts) }
-{
-    let mut left = parts;
-    let mut turned: Parts = Items::new(alloc);
-    while let Some(part) = left.pop() {
-        turned.push(part)?;
-    }
-    Ok(turned)
+    AtTop(Vec<TItem>),
+    Inside(Vec<TItem>, TBranches, Boxed<Nested>),
 }
 
 // ---- items
+
+/// The items in the opposite order.
+fn turned(items: Vec<TItem>) -> TItems
+    ensures { result ≡ reverse items.items }
+{
+    let mut items = items;
+    items.reverse();
+    Items::from_vec(items)
+}
 
 /// The blocks aren't closed in order, so nothing is what was read.
 fn break_off(nested: &mut Nested)
@@ -71,8 +55,8 @@ fn break_off(nested: &mut Nested)
     drop(std::mem::replace(nested, Nested::Broken));
 }
 
-fn push_item(items: &mut TItems, item: TItem) -> Result<(), Memory>
-    ensures { OnOk result (items.new ≡ items.old ++ item ∷ []) }
+fn push_item(items: &mut Vec<TItem>, item: TItem) -> Result<(), Memory>
+    ensures { OnOk result (items.new.items ≡ items.old.items ++ item ∷ []) }
 {
     items.push(item)?;
     Ok(())
@@ -209,7 +193,6 @@ fn put_block(block: Option<TItem>, nested: &mut Nested) -> Result<(), Memory>
 
 #[tactic(auto, using(crate::proofs::Nesting::nests))]
 fn open_block(
-    alloc: Global,
     kind: ItemKind,
     place: Place,
     header: Header,
@@ -220,14 +203,7 @@ fn open_block(
     match std::mem::replace(nested, Nested::Broken) {
         Nested::Inside(items, more, outer) => {
             drop(std::mem::replace(nested, outer.into_inner()));
-            match turned_items(alloc, items) {
-                Ok(body) => put_block(block_of(kind, place, header, body, more), nested),
-                Err(memory) => {
-                    drop(header);
-                    drop(more);
-                    Err(memory)
-                }
-            }
+            put_block(block_of(kind, place, header, turned(items), more), nested)
         }
         Nested::Broken | Nested::AtTop(_) => {
             drop(header);
@@ -297,7 +273,7 @@ fn next_branch(
 {
     match nested {
         Nested::Inside(items, more, _) => {
-            let body = turned_items(alloc, std::mem::replace(items, Items::new(alloc)))?;
+            let body = turned(std::mem::replace(items, Vec::new(alloc)));
             let rest = Boxed::new(alloc, std::mem::replace(more, TBranches::Nothing))?;
             drop(std::mem::replace(more, TBranches::Elif(place, test, body, rest)));
             Ok(())
@@ -310,23 +286,19 @@ fn next_branch(
 }
 
 #[tactic(auto, using(crate::proofs::Nesting::nests))]
-fn last_branch(alloc: Global, place: Place, nested: &mut Nested) -> Result<(), Memory>
-    ensures { (file : ℕ) → OnOk result (nested_of file nested.new ≡ nesting.last_branch (place_at file place.line) (nested_of file nested.old)) }
+fn last_branch(alloc: Global, place: Place, nested: &mut Nested)
+    ensures { (file : ℕ) → nested_of file nested.new ≡ nesting.last_branch (place_at file place.line) (nested_of file nested.old) }
 {
     match nested {
         Nested::Inside(items, more, _outer) => {
             if is_nothing(more) {
-                let body = turned_items(alloc, std::mem::replace(items, Items::new(alloc)))?;
+                let body = turned(std::mem::replace(items, Vec::new(alloc)));
                 drop(std::mem::replace(more, TBranches::Else(place, body)));
-                return Ok(());
+                return;
             }
             break_off(nested);
-            Ok(())
         }
-        Nested::Broken | Nested::AtTop(_) => {
-            break_off(nested);
-            Ok(())
-        }
+        Nested::Broken | Nested::AtTop(_) => break_off(nested),
     }
 }
 
@@ -337,7 +309,7 @@ fn close_block(alloc: Global, nested: &mut Nested) -> Result<(), Memory>
     let outer = Boxed::new(alloc, std::mem::replace(nested, Nested::Broken))?;
     drop(std::mem::replace(
         nested,
-        Nested::Inside(Items::new(alloc), TBranches::Nothing, outer),
+        Nested::Inside(Vec::new(alloc), TBranches::Nothing, outer),
     ));
     Ok(())
 }
@@ -360,10 +332,13 @@ fn nest_said(
             if for_one {
                 return around_one(alloc, kind, place, header, nested);
             }
-            open_block(alloc, kind, place, header, nested)
+            open_block(kind, place, header, nested)
         }
         Comment::Elif(test) => next_branch(alloc, place, test, nested),
-        Comment::Else => last_branch(alloc, place, nested),
+        Comment::Else => {
+            last_branch(alloc, place, nested);
+            Ok(())
+        }
         Comment::End => close_block(alloc, nested),
         Comment::Value(_) | Comment::Note(_, _) | Comment::Ignored => {
             drop(comment);
@@ -389,10 +364,11 @@ fn nest_part(
 
 /// What parts of a collection of such items are, in their blocks.
 fn nest(alloc: Global, file: u32, kind: ItemKind, parts: Parts) -> Result<Nested, Memory>
-    ensures { IfOk result (λ n. nested_of file n ≡ nesting.nest file (item_kind_of kind) (parts_of file parts)) }
+    ensures { IfOk result (λ n. nested_of file n ≡ nesting.nest file (item_kind_of kind) (parts_of file parts.items)) }
 {
-    let mut left = turned_parts(alloc, parts)?;
-    let mut nested = Nested::AtTop(Items::new(alloc));
+    let mut left = parts;
+    left.reverse();
+    let mut nested = Nested::AtTop(Vec::new(alloc));
     while let Some(part) = left.pop() {
         nest_part(alloc, file, kind, part, &mut nested)?;
     }
@@ -400,20 +376,19 @@ fn nest(alloc: Global, file: u32, kind: ItemKind, parts: Parts) -> Result<Nested
 }
 
 #[tactic(auto, using(crate::proofs::Nesting::nests))]
-fn whole(alloc: Global, nested: Nested) -> Result<TItems, Memory>
-    ensures { (file : ℕ) → IfOk result (λ is. items_of file is ≡ nesting.whole (nested_of file nested)) }
+fn whole(alloc: Global, nested: Nested) -> TItems
+    ensures { (file : ℕ) → items_of file result ≡ nesting.whole (nested_of file nested) }
 {
     match nested {
-        Nested::AtTop(items) => turned_items(alloc, items),
-        Nested::Broken | Nested::Inside(_, _, _) => Ok(Items::new(alloc)),
+        Nested::AtTop(items) => turned(items),
+        Nested::Broken | Nested::Inside(_, _, _) => Items::new(alloc),
     }
 }
 
 /// The items of a collection of such items, with the statements and blocks between them.
 pub fn items_in(alloc: Global, file: u32, kind: ItemKind, parts: Parts) -> Result<TItems, Memory>
-    ensures { IfOk result (λ is. items_of file is ≡ nesting.whole (nesting.nest file (item_kind_of kind) (parts_of file parts))) }
+    ensures { IfOk result (λ is. items_of file is ≡ nesting.whole (nesting.nest file (item_kind_of kind) (parts_of file parts.items))) }
 {
     let nested = nest(alloc, file, kind, parts)?;
-    let items = whole(alloc, nested)?;
-    Ok(items)
+    Ok(whole(alloc, nested))
 }

@@ -38,7 +38,7 @@ fn fresh(alloc: Global) -> Slot
     ensures { (file : ℕ) → slot_of file result ≡ build.fresh }
 {
     Slot {
-        parts: Items::new(alloc),
+        parts: Vec::new(alloc),
         value: None,
         notes: Items::new(alloc),
     }
@@ -179,7 +179,7 @@ fn scalar_of(tree: Tree) -> Key
 /// What is written in an item in whose collection these parts stand.
 #[tactic(auto, using(crate::proofs::Views::templates))]
 fn content_of(alloc: Global, file: u32, written: Written, parts: Parts) -> Result<TContent, Memory>
-    ensures { IfOk result (λ c. content_of file c ≡ build.content_of file (shape_of written) (parts_of file parts)) }
+    ensures { IfOk result (λ c. content_of file c ≡ build.content_of file (shape_of written) (parts_of file parts.items)) }
 {
     match written {
         Written::Scalar(tree) => Ok(TContent::Scalar(scalar_of(tree))),

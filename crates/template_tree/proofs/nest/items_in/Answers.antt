@@ -3,4 +3,4 @@ use Rattle.template_spec.specs.Nesting.{whole}
 use Rattle.template_tree.proofs.nest.items_in.Goals as goal
 
 pub returns : goal.returns
-returns c = c.in_ok-items.ensures c.args.file ∙ ap whole c.in_ok-nested.ensures
+returns c = c.whole.ensures c.args.file ∙ ap whole c.in_ok-nested.ensures

@@ -19,7 +19,7 @@ pub returns-in-Elif : goal.returns-in-Elif
 returns-in-Elif c = λ file. done_same _ _ _ _ (c.next_branch.ensures file) (said_same file (item_kind_of c.args.kind) (place_at file c.args.place.line) (nested_of file c.args.nested.now) c.args.comment _ c.in-Elif.is)
 
 pub returns-in-Else : goal.returns-in-Else
-returns-in-Else c = λ file. done_same _ _ _ _ (c.last_branch.ensures file) (said_same file (item_kind_of c.args.kind) (place_at file c.args.place.line) (nested_of file c.args.nested.now) c.args.comment _ c.in-Else.is)
+returns-in-Else c = λ file. c.last_branch.ensures file ∙ said_same file (item_kind_of c.args.kind) (place_at file c.args.place.line) (nested_of file c.args.nested.now) c.args.comment _ c.in-Else.is
 
 pub returns-in-End : goal.returns-in-End
 returns-in-End c = λ file. done_same _ _ _ _ (c.close_block.ensures file) (said_same file (item_kind_of c.args.kind) (place_at file c.args.place.line) (nested_of file c.args.nested.now) c.args.comment _ c.in-End.is)
