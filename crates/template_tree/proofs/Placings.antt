@@ -1,5 +1,5 @@
 -- Placing is what the passes by levels give.
-use Rattle.std.proofs.Common.{◌≡◌, ℕ, Bool, List, Option, Some, None, Result, Ok, Err, IfOk, refl, ap, sym, ◌∙◌, subst}
+use Rattle.std.proofs.Common.{◌≡◌, ℕ, Bool, List, Option, Some, None, Result, Ok, Err, IfOk, Vec, Global, refl, ap, sym, ◌∙◌, subst}
 use Rattle.ytt_base.specs.declared.fault.Fault.{Fault}
 use Rattle.ytt_base.specs.Outcomes.{Gives, Outcome, ◌>>=◌}
 use Rattle.ytt_base.specs.declared.fault.Stop.{Stop}
@@ -46,12 +46,12 @@ fault_places r ignore file ds f e = ap (λ (o : Outcome (List Event)). o >>= (λ
 -- ---- what the calls give
 
 -- rows that were read are placed as the documents are
-pub gives_placed : (r : CodeReader) (ignore : Bool) (file : ℕ) (ds : Documents) (rows : List code.Row) (result : Result Template Stop) → HasRows file ds (Ok rows) (events r ignore file ds)
-    → Gives template_of result (placed_by_levels file (rows_of file rows)) → Gives template_of result (placed_whole r ignore file ds)
-gives_placed r ignore file ds rows result h g = subst (Gives template_of result) (sym (rows_place r ignore file ds h.0 (rows_of file rows) h.1 h.2)) g
+pub gives_placed : (r : CodeReader) (ignore : Bool) (file : ℕ) (ds : Documents) (rows : Vec code.Row Global) (result : Result Template Stop) → HasRows (λ (v : Vec code.Row Global). v.items) file ds (Ok rows) (events r ignore file ds)
+    → Gives template_of result (placed_by_levels file (rows_of file rows.items)) → Gives template_of result (placed_whole r ignore file ds)
+gives_placed r ignore file ds rows result h g = subst (Gives template_of result) (sym (rows_place r ignore file ds h.0 (rows_of file rows.items) h.1 h.2)) g
 
 -- a stop of reading them is one of placing
-pub gives_unread : (r : CodeReader) (ignore : Bool) (file : ℕ) (ds : Documents) (s : Stop) → HasRows file ds (Err s) (events r ignore file ds) → Gives template_of (Err s) (placed_whole r ignore file ds)
+pub gives_unread : (r : CodeReader) (ignore : Bool) (file : ℕ) (ds : Documents) (s : Stop) → HasRows (λ (v : Vec code.Row Global). v.items) file ds (Err s) (events r ignore file ds) → Gives template_of (Err s) (placed_whole r ignore file ds)
 gives_unread r ignore file ds (stop.Fault f) h = fault_places r ignore file ds f h
 gives_unread r ignore file ds stop.Memory h = tt
 

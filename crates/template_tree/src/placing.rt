@@ -26,7 +26,7 @@ use ytt_base::fault::Stop;
 /// name. A statement, a block, an item or a note that doesn't stand where it may is a fault at its line, and of several the one at the
 /// least line; a block that is open at the end is one only where nothing else is wrong. Want of memory is `Stop::Memory`.
 fn place_rows(alloc: Global, rows: Rows, file: u32) -> Result<Template, Stop>
-    ensures template { Gives template_of result (placed_by_levels file (rows_of file rows)) }
+    ensures template { Gives template_of result (placed_by_levels file (rows_of file rows.items)) }
     ensures file { IfOk result (λ t. t.file ≡ file) }
 {
     let Checked { wrong, levels } = first_fault(alloc, file, rows.as_slice())?;

@@ -1,5 +1,5 @@
 // What each row puts where.
-ghost use Rattle.std.specs.Prelude.{◌≡◌, ℕ, [], ◌∷◌, ◌++◌, IfOk, OnOk, reverse};
+ghost use Rattle.std.specs.Prelude.{◌≡◌, ℕ, [], ◌∷◌, ◌++◌, IfOk, OnOk};
 ghost use Rattle.notes_read.specs.View.{said_of};
 ghost use Rattle.star_tree.specs.Whole.{exprs_of};
 ghost use Rattle.template_events.specs.View.{row_of, rows_of};
@@ -116,18 +116,6 @@ fn put_row(
     }
 }
 
-/// The rows in the opposite order.
-fn turned(alloc: Global, rows: Rows) -> Result<Rows, Memory>
-    ensures { IfOk result (λ rs. rs ≡ reverse rows) }
-{
-    let mut left = rows;
-    let mut turned: Rows = Items::new(alloc);
-    while let Some(row) = left.pop() {
-        turned.push(row)?;
-    }
-    Ok(turned)
-}
-
 /// What the next row puts, whose mark goes to this level.
 fn put_next(
     alloc: Global,
@@ -136,7 +124,7 @@ fn put_next(
     waiting: TNotes,
     puts: &mut Puts,
 ) -> Result<TNotes, Memory>
-    ensures { IfOk result (λ ns. PutNext level left.old left.new waiting ns puts.old puts.new) }
+    ensures { IfOk result (λ ns. PutNext level left.old.items left.new.items waiting ns puts.old puts.new) }
 {
     match left.pop() {
         Some(row) => {
@@ -149,9 +137,10 @@ fn put_next(
 
 /// What rows put whose marks go to these levels.
 pub fn puts(alloc: Global, rows: Rows, levels: &[usize]) -> Result<Puts, Memory>
-    ensures { (file : ℕ) → IfOk result (λ ps. puts_of file ps ≡ puts_at levels.now [] (rows_of file rows)) }
+    ensures { (file : ℕ) → IfOk result (λ ps. puts_of file ps ≡ puts_at levels.now [] (rows_of file rows.items)) }
 {
-    let mut left = turned(alloc, rows)?;
+    let mut left = rows;
+    left.reverse();
     let mut waiting: TNotes = Items::new(alloc);
     let mut puts: Puts = Items::new(alloc);
     for level in levels {

@@ -6,4 +6,4 @@ use Rattle.template_tree.proofs.put.puts.Given as goal
 
 abbrev pub invariant-loop-level : goal.invariant-loop-level
 invariant-loop-level l =
-    (file : ℕ) → puts_of file l.puts ++ puts_at (drop l.level-index l.levels) (befores_of file l.waiting) (rows_of file (reverse l.left)) ≡ puts_at l.levels [] (rows_of file (reverse l.initial.left))
+    (file : ℕ) → puts_of file l.puts ++ puts_at (drop l.level-index l.levels) (befores_of file l.waiting) (rows_of file (reverse l.left.items)) ≡ puts_at l.levels [] (rows_of file (reverse l.initial.left.items))
