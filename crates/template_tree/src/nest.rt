@@ -40,10 +40,9 @@ pub enum Nested {
 // ---- items
 
 /// The items in the opposite order.
-fn turned(items: Vec<TItem>) -> TItems
+fn turned(mut items: Vec<TItem>) -> TItems
     ensures { result ≡ reverse items.items }
 {
-    let mut items = items;
     items.reverse();
     Items::from_vec(items)
 }
