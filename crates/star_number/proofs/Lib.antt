@@ -1,4 +1,2 @@
-pub mod AllowedNames
 pub mod Formed
-pub mod Nested
 pub mod Rows

@@ -157,7 +157,7 @@ pub(crate) fn number_expr(
 
 /// The same in a box.
 #[cycle(number)]
-pub(crate) fn number_boxed(
+pub fn number_boxed(
     alloc: Global,
     file: u32,
     expr: &Boxed<Expr>,
@@ -171,7 +171,7 @@ pub(crate) fn number_boxed(
 
 /// Expressions, in their order.
 #[cycle(number)]
-pub(crate) fn number_exprs(
+pub fn number_exprs(
     alloc: Global,
     file: u32,
     exprs: &Items<Expr>,
@@ -322,7 +322,7 @@ fn number_param(alloc: Global, file: u32, param: &Param, next: &mut usize) -> Re
 
 /// Parameters, in their order.
 #[cycle(number)]
-pub(crate) fn number_params(
+pub fn number_params(
     alloc: Global,
     file: u32,
     params: &Params,

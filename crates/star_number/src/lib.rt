@@ -1,12 +1,13 @@
-//! The numbers of functions: each `def` and each lambda of a program gets its own, in text order.
+//! Copies of code with the numbers of its functions: each lambda gets its own, in text order.
 //!
-//! `numbered` gives the program that the definition numbers. A program stays as well nested as it was (`numbers_keep_programs`).
+//! Each call gives code that equals what it is given but for the numbers of its lambdas, which begin with `next`, and leaves the number
+//! behind them in `next` (`Numbers`). `take` gives a `def` its number.
 #![tactic(auto)]
 
 mod exprs;
-mod laws;
 mod next;
-mod program;
+mod statements;
 
-pub use laws::numbers_keep_programs;
-pub use program::numbered;
+pub use exprs::{number_boxed, number_exprs, number_params};
+pub use next::take;
+pub use statements::number_simple;

@@ -5,7 +5,7 @@ use ytt_base::text::Memory;
 
 /// The next number, which is taken then. Where there is none, there can't have been room for so many
 /// functions.
-pub(crate) fn take(next: &mut usize) -> Result<usize, Memory>
+pub fn take(next: &mut usize) -> Result<usize, Memory>
     ensures number { IfOk result (λ number. number ≡ next.old) }
     ensures next { OnOk result (next.new ≡ suc next.old) }
 {

@@ -11,15 +11,14 @@ use Rattle.star_resolve.specs.Variables.{IfFault, fault_of_use, program_fault}
 use Rattle.template_spec.specs.Compiled.{compiled}
 use Rattle.template_spec.specs.Names.{items_names}
 use Rattle.code_spec.specs.Names.{language_names}
-use Rattle.template_spec.specs.Numbered.{numbered, numbered_program}
+use Rattle.template_spec.specs.Numbered.{numbered}
 use Rattle.template_spec.specs.Passes.{bound, unless_unknown}
 use Rattle.template_spec.specs.Template.{Items}
 use Rattle.template_spec.specs.Uses.{items_uses}
 use Rattle.template_spec.proofs.NamesAgree.{same_names}
 use Rattle.template_spec.proofs.Nested.{compiled_blocks, items_ops}
-use Rattle.template_spec.proofs.Numbers.{numbered_compiled}
-use Rattle.template_spec.proofs.NumbersKeep.{numbered_names}
 use Rattle.template_spec.proofs.UsesAgree.{same_uses}
+use Rattle.template_program.proofs.NamesKeep.{names_same, uses_same}
 
 blocks_of : (t : Items) → blocks (compiled t) ≡ Some (items_ops t no_ops)
 blocks_of t = ap whole (compiled_blocks t)
@@ -28,19 +27,12 @@ blocks_of t = ap whole (compiled_blocks t)
 pub has_blocks : (t : Items) (is : List Instruction) → is ≡ compiled t → IsSome (blocks is)
 has_blocks t is e = subst IsSome (sym (ap blocks e ∙ blocks_of t)) refl
 
-pub names_of : (t : Items) → program_names (compiled t) ≡ items_names t
-names_of t = ap names_of_file (blocks_of t) ∙ same_names t
+-- numbers change none of its names
+names_of : (t : Items) → program_names (compiled (numbered t)) ≡ items_names t
+names_of t = ap names_of_file (blocks_of (numbered t)) ∙ same_names (numbered t) ∙ names_same t
 
--- numbers change none of them
-pub numbers_compile : (t : Items) (is js : List Instruction) → is ≡ compiled t → js ≡ numbered_program is → js ≡ compiled (numbered t)
-numbers_compile t is js e n = n ∙ ap numbered_program e ∙ numbered_compiled t
-
-pub numbers_name : (t : Items) (is js : List Instruction) → is ≡ compiled t → js ≡ numbered_program is → program_names is ≡ program_names js
-numbers_name t is js e n =
-    ap program_names e ∙ names_of t ∙ sym (ap program_names (numbers_compile t is js e n) ∙ names_of (numbered t) ∙ numbered_names t)
-
-uses_of : (t : Items) → program_uses (compiled t) ≡ items_uses [] t
-uses_of t = ap uses_of_file (blocks_of t) ∙ same_uses t
+uses_of : (t : Items) → program_uses (compiled (numbered t)) ≡ items_uses [] t
+uses_of t = ap uses_of_file (blocks_of (numbered t)) ∙ same_uses (numbered t) ∙ uses_same t
 
 -- what is told of a name that is bound nowhere
 abbrev told : Items → Option Fault → Outcome Items
@@ -52,16 +44,16 @@ told_of_use t None = refl
 told_of_use t (Some u) = refl
 
 -- what resolving the program tells is what is said of the template's names
-told_of : (t : Items) (is : List Instruction) (names : List (List ℕ)) → is ≡ compiled t → names ≡ language_names → told t (program_fault names is) ≡ bound t
+told_of : (t : Items) (is : List Instruction) (names : List (List ℕ)) → is ≡ compiled (numbered t) → names ≡ language_names → told t (program_fault names is) ≡ bound t
 told_of t is names e n =
     (λ i. told t (program_fault (n i) (e i)))
     ∙ (λ i. told t (fault_of_use (unknown_first (names_of t i) language_names (uses_of t i))))
     ∙ told_of_use t (unknown_first (items_names t) language_names (items_uses [] t))
 
-pub all_bound : (t : Items) (is : List Instruction) (names : List (List ℕ)) → is ≡ compiled t → names ≡ language_names → program_fault names is ≡ None → bound t ≡ Ok t
+pub all_bound : (t : Items) (is : List Instruction) (names : List (List ℕ)) → is ≡ compiled (numbered t) → names ≡ language_names → program_fault names is ≡ None → bound t ≡ Ok t
 all_bound t is names e n k = sym (told_of t is names e n) ∙ ap (told t) k
 
-pub one_unknown : (X : Type 0) (t : Items) (is : List Instruction) (names : List (List ℕ)) (s : Stop) → is ≡ compiled t → names ≡ language_names →
+pub one_unknown : (X : Type 0) (t : Items) (is : List Instruction) (names : List (List ℕ)) (s : Stop) → is ≡ compiled (numbered t) → names ≡ language_names →
     IfFault s (λ f. program_fault names is ≡ Some f) → Gives {X = X} (λ r. t) (Err s) (bound t)
 one_unknown X t is names (stop.Fault f) e n k = sym (told_of t is names e n) ∙ ap (told t) k
 one_unknown X t is names stop.Memory e n k = tt

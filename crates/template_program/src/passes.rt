@@ -1,5 +1,5 @@
-// The passes over a template: its program with the variables of its names, what of it isn't built, and then the numbers of its
-// functions.
+// The passes over a template: its program with the variables of its names and the numbers of its functions, and
+// then what of it isn't built.
 ghost use Rattle.std.specs.Prelude.{◌≡◌, [], IfOk};
 ghost use Rattle.star_resolve.specs.Variables.{each_once};
 ghost use Rattle.star_spec.specs.Calls.{Host};
@@ -17,20 +17,19 @@ ghost use Rattle.ytt_base.specs.Outcomes.{Gives, and_then};
 
 use crate::program::program;
 use crate::unbuilt::first_unbuilt;
-use star_number::numbered;
 use star_resolve::{Resolved, resolve};
 use star_tree::names::language_names;
 use std::alloc::Global;
 use template_tree::Template;
 use ytt_base::fault::{Fault, FaultKind, Stop};
-use ytt_base::text::{Memory, Text};
+use ytt_base::text::Text;
 
-/// The program of a template with the variable of each of its names, where each is bound, in the template
-/// or by the language. The first in text order that is not is a fault of the kind NameUnknown at its place,
-/// with the name as the detail.
+/// The program of a template with the variable of each of its names and the number of each of its functions,
+/// where each name is bound, in the template or by the language. The first in text order that is not is a fault
+/// of the kind NameUnknown at its place, with the name as the detail.
 fn bound(alloc: Global, template: &Template) -> Result<Resolved, Stop>
     ensures passes { Gives (λ r. template_of template.now) result (bound (template_of template.now)) }
-    ensures code { IfOk result (λ r. program_of r.program ≡ compiled (template_of template.now)) }
+    ensures code { IfOk result (λ r. program_of r.program ≡ compiled (numbered (template_of template.now))) }
     ensures globals { IfOk result (λ r. r.globals ≡ each_once (program_names (program_of r.program))) }
     ensures file { IfOk result (λ r. r.program.file ≡ template.now.file) }
 {
@@ -38,23 +37,6 @@ fn bound(alloc: Global, template: &Template) -> Result<Resolved, Stop>
     let builtins = language_names(alloc)?;
     let resolved = resolve(alloc, program, &builtins)?;
     Ok(resolved)
-}
-
-/// The program of a template with the number of each of its functions. Numbers change none of the names.
-fn with_numbers(alloc: Global, template: &Template, resolved: Resolved) -> Result<Resolved, Memory>
-    requires compiles { program_of resolved.program ≡ compiled (template_of template.now) }
-    requires names { resolved.globals ≡ each_once (program_names (program_of resolved.program)) }
-    ensures code { IfOk result (λ r. program_of r.program ≡ compiled (numbered (template_of template.now))) }
-    ensures globals { IfOk result (λ r. r.globals ≡ each_once (program_names (program_of r.program))) }
-    ensures file { IfOk result (λ r. r.program.file ≡ resolved.program.file) }
-{
-    let program = numbered(alloc, &resolved.program)?;
-    Ok(Resolved {
-        program,
-        variables: resolved.variables,
-        globals: resolved.globals,
-        functions: resolved.functions,
-    })
 }
 
 /// The program of a template, in the template's file: its statements, the heads and ends of its blocks, and
@@ -74,7 +56,7 @@ pub fn compile(alloc: Global, template: &Template) -> Result<Resolved, Stop>
 {
     let resolved = bound(alloc, template)?;
     match first_unbuilt(template) {
-        None => Ok(with_numbers(alloc, template, resolved)?),
+        None => Ok(resolved),
         Some(place) => Err(Stop::Fault(Fault {
             kind: FaultKind::NotBuilt,
             place: Some(place),

@@ -1,13 +1,19 @@
-use Rattle.std.proofs.Common.{◌∷◌, sym}
+use Rattle.std.proofs.Common.{◌∙◌}
 use Rattle.std.specs.Option.{option_map}
 use Rattle.ytt_base.specs.Outcomes.{place_at}
+use Rattle.code_spec.specs.Numbering.{number_parameters, over_one}
 use Rattle.code_spec.specs.Program.{begin_def}
 use Rattle.star_tree.specs.View.{item_kind_of}
 use Rattle.star_tree.specs.Whole.{parameters_of}
-use Rattle.template_program.proofs.Emitting.{on_ok_same}
+use Rattle.star_number.proofs.Formed.{one_part}
 use Rattle.template_program.proofs.parts.put_def.Goals as goal
 
 pub returns : goal.returns
-returns c = λ file.
-    on_ok_same c.put.result file c.args.code.now c.put.new.code _ _ (c.put.ensures file)
-    (λ i is. begin_def (place_at file c.args.line) 0 (option_map item_kind_of c.args.fragment) (sym c.in_ok-copied.ensures i) (parameters_of file (sym c.in_ok-parameters.ensures i)) ∷ is)
+returns c =
+    let file = c.args.file in
+    let place = place_at file c.args.line in
+    let builds = option_map item_kind_of c.args.fragment in
+    let params = parameters_of file c.args.params.now in
+    c.put.ensures file c.args.next.now c.number_params.new.next (begin_def place 0 builds c.args.name.now params)
+    (one_part (begin_def place c.in_ok-number.number builds c.in_ok-copied.copied) (number_parameters params) _ _ _ c.in_ok-params.ensures
+    ∙ (λ i. over_one (begin_def place (c.in_ok-number.ensures.number i) builds (c.in_ok-copied.ensures i)) (number_parameters params) (c.in_ok-number.ensures.next i)))

@@ -1,11 +1,12 @@
-use Rattle.std.proofs.Common.{◌∷◌, sym}
 use Rattle.ytt_base.specs.Outcomes.{place_at}
+use Rattle.code_spec.specs.Numbering.{number_expr}
 use Rattle.code_spec.specs.Program.{begin_elif}
 use Rattle.star_tree.specs.Whole.{expr_of}
-use Rattle.template_program.proofs.Emitting.{on_ok_same}
+use Rattle.star_number.proofs.Formed.{one_part}
 use Rattle.template_program.proofs.parts.put_elif.Goals as goal
 
 pub returns : goal.returns
-returns c = λ file.
-    on_ok_same c.put.result file c.args.code.now c.put.new.code _ _ (c.put.ensures file)
-    (λ i is. begin_elif (place_at file c.args.line) (expr_of file (sym c.in_ok-copy_boxed.ensures i)) ∷ is)
+returns c =
+    let file = c.args.file in
+    c.put.ensures file c.args.next.now c.number_boxed.new.next (begin_elif (place_at file c.args.line) (expr_of file c.args.test.now))
+    (one_part (begin_elif (place_at file c.args.line)) (number_expr (expr_of file c.args.test.now)) _ _ _ c.in_ok-test.ensures)

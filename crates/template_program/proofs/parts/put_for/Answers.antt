@@ -1,11 +1,14 @@
-use Rattle.std.proofs.Common.{◌∷◌, sym}
 use Rattle.ytt_base.specs.Outcomes.{place_at}
+use Rattle.code_spec.specs.Numbering.{number_expr}
 use Rattle.code_spec.specs.Program.{begin_for}
 use Rattle.star_tree.specs.Whole.{expr_of}
-use Rattle.template_program.proofs.Emitting.{on_ok_same}
+use Rattle.star_number.proofs.Formed.{two_parts}
 use Rattle.template_program.proofs.parts.put_for.Goals as goal
 
 pub returns : goal.returns
-returns c = λ file.
-    on_ok_same c.put.result file c.args.code.now c.put.new.code _ _ (c.put.ensures file)
-    (λ i is. begin_for (place_at file c.args.line) (expr_of file (sym c.in_ok-bound.ensures i)) (expr_of file (sym c.in_ok-copy_boxed.ensures i)) ∷ is)
+returns c =
+    let file = c.args.file in
+    let target = expr_of file c.args.target.now in
+    let members = expr_of file c.args.members.now in
+    c.put.ensures file c.args.next.now c.number_boxed-2.new.next (begin_for (place_at file c.args.line) target members)
+    (two_parts (begin_for (place_at file c.args.line)) (number_expr target) (number_expr members) _ _ _ _ _ c.in_ok-target.ensures c.in_ok-members.ensures)

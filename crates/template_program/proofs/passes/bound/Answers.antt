@@ -1,11 +1,12 @@
 use Rattle.std.proofs.lemmas.Result.{err_from_is_err_and}
 use Rattle.star_resolve.specs.declared.binding.Resolved.{Resolved}
+use Rattle.template_spec.specs.Numbered.{numbered}
 use Rattle.template_tree.specs.View.{template_of}
 use Rattle.template_program.proofs.Resolving.{all_bound, has_blocks, one_unknown}
 use Rattle.template_program.proofs.passes.bound.Goals as goal
 
 pub resolve-requires : goal.resolve-requires
-resolve-requires c = has_blocks (template_of c.args.template.now) _ c.in_ok-program.ensures.code
+resolve-requires c = has_blocks (numbered (template_of c.args.template.now)) _ c.in_ok-program.ensures.code
 
 pub returns-in_err-resolved-clause-passes : goal.returns-in_err-resolved-clause-passes
 returns-in_err-resolved-clause-passes c =

@@ -15,18 +15,18 @@ returns-in_err-resolved-clause-passes c =
     let p = err_from_is_err_and c.from_residual.result c.from_residual.ensures.1 in
     rw (p.1, p.2) (refused_first Resolved (template_of c.args.template.now) c.in_err-resolved.field-0.0 c.in_err-resolved.ensures.passes)
 
-pub returns-in_ok-with_numbers-in-None-clause-passes : goal.returns-in_ok-with_numbers-in-None-clause-passes
-returns-in_ok-with_numbers-in-None-clause-passes c =
+pub returns-in-None-clause-passes : goal.returns-in-None-clause-passes
+returns-in-None-clause-passes c =
     built_whole (template_of c.args.template.now) c.first_unbuilt.result c.first_unbuilt.ensures c.in_ok-resolved.ensures.passes c.in-None.is
 
-pub returns-in_ok-with_numbers-in-None-clause-runs : goal.returns-in_ok-with_numbers-in-None-clause-runs
-returns-in_ok-with_numbers-in-None-clause-runs c =
+pub returns-in-None-clause-runs : goal.returns-in-None-clause-runs
+returns-in-None-clause-runs c =
     let t = template_of c.args.template.now in
-    λ host stand. agrees starlark host (program_of c.in_ok-with_numbers-in-None.field-0.program) (numbered t) c.in_ok-with_numbers-in-None.ensures.code (numbered_stands t stand)
+    λ host stand. agrees starlark host (program_of c.in_ok-resolved.resolved.program) (numbered t) c.in_ok-resolved.ensures.code (numbered_stands t stand)
 
-pub returns-in_ok-with_numbers-in-None-clause-loads : goal.returns-in_ok-with_numbers-in-None-clause-loads
-returns-in_ok-with_numbers-in-None-clause-loads c =
-    nothing_loaded (template_of c.args.template.now) (program_of c.in_ok-with_numbers-in-None.field-0.program) c.in_ok-with_numbers-in-None.ensures.code
+pub returns-in-None-clause-loads : goal.returns-in-None-clause-loads
+returns-in-None-clause-loads c =
+    nothing_loaded (template_of c.args.template.now) (program_of c.in_ok-resolved.resolved.program) c.in_ok-resolved.ensures.code
     (none_unbuilt (template_of c.args.template.now) c.first_unbuilt.result c.first_unbuilt.ensures c.in-None.is)
 
 pub returns-in-Some-clause-passes : goal.returns-in-Some-clause-passes
