@@ -1,6 +1,7 @@
 -- What is read of a program from its end.
-use Rattle.std.specs.Prelude.{◌≡◌, ℕ, List, [], ◌∷◌, Option, Some, None, Result, Ok, Err, reverse}
-use Rattle.ytt_base.specs.declared.text.Memory.{Memory}
+use Rattle.std.specs.Prelude.{◌≡◌, ℕ, List, [], ◌∷◌, Option, Some, None, reverse}
+use Rattle.std.specs.declared.alloc.Global.{Global}
+use Rattle.std.specs.declared.vec.Vec.{Vec}
 use Rattle.code_spec.specs.Blocks as blocks
 use Rattle.code_spec.specs.Blocks.{Ops, no_ops, Arms, no_arm, Parsed, broken, at_top, inside, put, open_if, next_arm, last_arm, open_block, op_part, op_statement, op_for, op_def}
 use Rattle.code_spec.specs.Program.{Instruction, part, statement, begin_if, begin_elif, begin_else, begin_for, begin_def, close}
@@ -10,14 +11,14 @@ use Rattle.star_blocks.specs.declared.level.Level.{Level}
 use Rattle.star_blocks.specs.declared.level.Reading.{Reading}
 
 -- what stands in no block
-abbrev pub top_of : (file : ℕ) → Option (List Op) → Parsed
+abbrev pub top_of : (file : ℕ) → Option (Vec Op Global) → Parsed
 top_of file None = broken
-top_of file (Some os) = at_top (ops_of file (reverse os))
+top_of file (Some os) = at_top (ops_of file (reverse os.items))
 
 -- the blocks that are closed further on, the innermost first, and what stands in none
-abbrev pub inner_of : (file : ℕ) → Option (List Op) → List Level → Parsed
+abbrev pub inner_of : (file : ℕ) → Option (Vec Op Global) → List Level → Parsed
 inner_of file top [] = top_of file top
-inner_of file top (l ∷ ls) = inside (ops_of file (reverse l.ops)) (arms_of file (reverse l.arms)) (inner_of file top ls)
+inner_of file top (l ∷ ls) = inside (ops_of file (reverse l.ops.items)) (arms_of file (reverse l.arms.items)) (inner_of file top ls)
 
 -- as the program holds it, with what is first here at the end
 abbrev pub parsed_of : (file : ℕ) → Reading → Parsed
@@ -41,7 +42,6 @@ pub record Refused (old new : Parsed) : Type 0 where
   pub branch : last_arm old ≡ broken
 
 -- the innermost block, if no branch stands behind it
-abbrev pub Taken : (file : ℕ) → Result (Option (List Op)) Memory → (old new : Parsed) → Type 0
-Taken file (Ok (Some os)) old new = old ≡ inside (ops_of file os) no_arm new
-Taken file (Ok None) old new = Refused old new
-Taken file (Err m) old new = Unit
+abbrev pub Taken : (file : ℕ) → Option (List Op) → (old new : Parsed) → Type 0
+Taken file (Some os) old new = old ≡ inside (ops_of file os) no_arm new
+Taken file None old new = Refused old new

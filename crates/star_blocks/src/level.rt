@@ -1,5 +1,5 @@
 // What is read of a program from its end: the blocks that are closed further on.
-ghost use Rattle.std.specs.Prelude.{◌≡◌, ℕ, reverse, IfOk, OnOk};
+ghost use Rattle.std.specs.Prelude.{◌≡◌, ℕ, reverse, OnOk};
 ghost use Rattle.ytt_base.specs.Outcomes.{place_at};
 ghost use Rattle.code_spec.specs.Blocks.{broken, inside, last_arm, next_arm, no_arm, no_ops, open_if, put};
 ghost use Rattle.star_tree.specs.Whole.{expr_of};
@@ -9,7 +9,6 @@ ghost use Rattle.star_blocks.specs.Reading.{Taken, parsed_of};
 use crate::block::{Arm, Block, Op, Statement};
 use sqlite_items::{Boxed, Items};
 use star_tree::code::Expr;
-use star_tree::copies::copy_boxed;
 use std::alloc::Global;
 use ytt_base::text::Memory;
 
@@ -17,28 +16,25 @@ use ytt_base::text::Memory;
 /// of an `if`, each from its end.
 #[derive(Drop)]
 pub struct Level {
-    pub ops: Items<Op>,
-    pub arms: Items<Arm>,
+    pub ops: Vec<Op>,
+    pub arms: Vec<Arm>,
 }
 
 /// What is read: what stands in no block, from its end, or `None` once a block isn't closed where it
 /// should be; and the blocks that are closed further on, the innermost last.
 #[derive(Drop)]
 pub struct Reading {
-    pub top: Option<Items<Op>>,
+    pub top: Option<Vec<Op>>,
     pub inner: Items<Level>,
 }
 
-/// Moves these to a new list, the last one first.
-pub(crate) fn reversed<T: Drop>(alloc: Global, items: Items<T>) -> Result<Items<T>, Memory>
-    ensures { IfOk result (λ xs. xs ≡ reverse items) }
+/// These, the last one first. It takes no memory.
+pub(crate) fn reversed<T: Drop>(items: Vec<T>) -> Items<T>
+    ensures { result ≡ reverse items.items }
 {
-    let mut left = items;
-    let mut moved = Items::new(alloc);
-    while let Some(item) = left.pop() {
-        moved.push(item)?;
-    }
-    Ok(moved)
+    let mut items = items;
+    items.reverse();
+    Items::from_vec(items)
 }
 
 /// A block isn't closed where it should be.
@@ -72,8 +68,8 @@ pub(crate) fn close(alloc: Global, reading: &mut Reading) -> Result<(), Memory>
     ensures { (file : ℕ) → OnOk result (parsed_of file reading.new ≡ inside no_ops no_arm (parsed_of file reading.old)) }
 {
     reading.inner.push(Level {
-        ops: Items::new(alloc),
-        arms: Items::new(alloc),
+        ops: Vec::new(alloc),
+        arms: Vec::new(alloc),
     })?;
     Ok(())
 }
@@ -82,18 +78,16 @@ pub(crate) fn close(alloc: Global, reading: &mut Reading) -> Result<(), Memory>
 pub(crate) fn open_if(
     alloc: Global,
     line: u32,
-    test: &Boxed<Expr>,
+    test: Boxed<Expr>,
     reading: &mut Reading,
 ) -> Result<(), Memory>
-    ensures { (file : ℕ) → OnOk result (parsed_of file reading.new ≡ open_if (place_at file line) (expr_of file test.now) (parsed_of file reading.old)) }
+    ensures { (file : ℕ) → OnOk result (parsed_of file reading.new ≡ open_if (place_at file line) (expr_of file test) (parsed_of file reading.old)) }
 {
     match reading.inner.pop() {
         Some(level) => {
             let mut arms = level.arms;
-            let block = reversed(alloc, level.ops)?;
-            arms.push(Arm::Test(copy_boxed(alloc, test)?, block))?;
-            let branches = reversed(alloc, arms)?;
-            put(Op::Code(Statement::If(line, branches)), reading)
+            arms.push(Arm::Test(test, reversed(level.ops)))?;
+            put(Op::Code(Statement::If(line, reversed(arms))), reading)
         }
         None => {
             break_off(alloc, reading);
@@ -106,17 +100,16 @@ pub(crate) fn open_if(
 #[tactic(auto, using(crate::proofs::Forms::forms))]
 pub(crate) fn next_arm(
     alloc: Global,
-    test: &Boxed<Expr>,
+    test: Boxed<Expr>,
     reading: &mut Reading,
 ) -> Result<(), Memory>
-    ensures { (file : ℕ) → OnOk result (parsed_of file reading.new ≡ next_arm (expr_of file test.now) (parsed_of file reading.old)) }
+    ensures { (file : ℕ) → OnOk result (parsed_of file reading.new ≡ next_arm (expr_of file test) (parsed_of file reading.old)) }
 {
     match reading.inner.pop() {
         Some(level) => {
             let mut arms = level.arms;
-            let block = reversed(alloc, level.ops)?;
-            arms.push(Arm::Test(copy_boxed(alloc, test)?, block))?;
-            let ops = Items::new(alloc);
+            arms.push(Arm::Test(test, reversed(level.ops)))?;
+            let ops = Vec::new(alloc);
             reading.inner.push(Level { ops, arms })?;
         }
         None => break_off(alloc, reading),
@@ -129,9 +122,9 @@ pub(crate) fn next_arm(
 pub(crate) fn last_arm(alloc: Global, reading: &mut Reading) -> Result<(), Memory>
     ensures { (file : ℕ) → OnOk result (parsed_of file reading.new ≡ last_arm (parsed_of file reading.old)) }
 {
-    if let Some(block) = take_block(alloc, reading)? {
-        let ops = Items::new(alloc);
-        let mut arms = Items::new(alloc);
+    if let Some(block) = take_block(alloc, reading) {
+        let ops = Vec::new(alloc);
+        let mut arms = Vec::new(alloc);
         arms.push(Arm::Else(block))?;
         reading.inner.push(Level { ops, arms })?;
     }
@@ -139,14 +132,14 @@ pub(crate) fn last_arm(alloc: Global, reading: &mut Reading) -> Result<(), Memor
 }
 
 /// Takes the innermost block. Where branches of an `if` stand behind it, or there is none, all is broken.
-pub(crate) fn take_block(alloc: Global, reading: &mut Reading) -> Result<Option<Block>, Memory>
+pub(crate) fn take_block(alloc: Global, reading: &mut Reading) -> Option<Block>
     ensures { (file : ℕ) → Taken file result (parsed_of file reading.old) (parsed_of file reading.new) }
 {
     if let Some(level) = reading.inner.pop() {
         if level.arms.is_empty() {
-            return Ok(Some(reversed(alloc, level.ops)?));
+            return Some(reversed(level.ops));
         }
     }
     break_off(alloc, reading);
-    Ok(None)
+    None
 }

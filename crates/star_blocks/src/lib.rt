@@ -9,7 +9,6 @@
 mod block;
 mod level;
 mod nesting;
-mod part;
 
 pub use block::{Arm, Block, Op, Statement};
 pub use nesting::nest;

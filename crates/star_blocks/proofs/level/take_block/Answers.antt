@@ -1,5 +1,4 @@
-use Rattle.std.proofs.Common.{◌≡◌, [], ◌∷◌, ◌++◌}
-use Rattle.std.proofs.lemmas.Bool.{false≢true}
+use Rattle.std.proofs.Common.{◌≡◌, [], ◌∷◌, ◌++◌, rules}
 use Rattle.star_blocks.proofs.FromEnd.{refused_branch, refused_outside}
 use Rattle.star_blocks.proofs.level.take_block.Goals.{in-Some+else-is_empty, in_default}
 use Rattle.star_blocks.proofs.level.take_block.Goals as goal
@@ -9,6 +8,6 @@ returns c = λ file. elim c.match-pop.branch [
   | in-Some+else-is_empty w ↦
       let shape : c.args.reading.now.inner ≡ c.pop.new.self ++ (w.in-Some.level ∷ []) = w.in-Some.ensures in
       refused_branch file c.args.reading.now.top c.args.reading.now.inner c.pop.new.self w.in-Some.level _ shape
-      (λ none. false≢true (rw w.if-is_empty.false at (w.is_empty.ensures.1 none))) (c.break_off.ensures file)
+      (λ none. search rules) (c.break_off.ensures file)
   | in_default w ↦ refused_outside file c.args.reading.now.top c.args.reading.now.inner _ w.in_default.ensures.0 (c.break_off.ensures file)
 ]
