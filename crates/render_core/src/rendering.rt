@@ -26,8 +26,8 @@ use ytt_base::tree::Trees;
 use ytt_words::Budget;
 
 /// The documents of a program within a budget, in a session of its own, or the fault that it ends with.
-fn run_within(alloc: Global, program: &Resolved, budget: Budget) -> Result<Trees, Stop>
-    ensures { (t : TemplateItems) → IsProgramOf t program.now → Gives trees_of result (built (budget_of budget) t) }
+fn run_within(alloc: Global, program: Resolved, budget: Budget) -> Result<Trees, Stop>
+    ensures { (t : TemplateItems) → IsProgramOf t program → Gives trees_of result (built (budget_of budget) t) }
 {
     let mut session = Session::new(alloc, budget.steps, budget.depth);
     let loaded = Items::new(alloc);
@@ -47,7 +47,9 @@ fn build(
     ensures { GivesCode trees_of result (λ r. and_then (built (budget_of budget)) (template_passed r ignore_unknown 1 (documents_of documents))) }
 {
     let passed = pass_template(alloc, &documents, ignore_unknown)?;
-    run_within(alloc, &passed.program, budget)
+    drop(documents);
+    drop(passed.template);
+    run_within(alloc, passed.program, budget)
 }
 
 /// What noted documents mean: with code they are a template, which is built, and without they are

@@ -180,7 +180,8 @@ fn file_block(alloc: Global, file: u32, block: Block) -> Result<FileBlock, Memor
 /// stays what it was, after a fault too. All that the file made is frozen at its end, but not where it ends with a fault.
 ///
 /// Names that were loaded are bound before the first item, a later one over an earlier one. No file that ran in the session should have
-/// the number of this one, since its functions aren't found any more.
+/// the number of this one, since its functions aren't found any more. The program is taken, since its statements become the blocks that
+/// the session keeps.
 ///
 /// A pair whose key stands already is `KeyTwice` with the key, a name that has no value yet `NameUnset` with the
 /// name, a value that an operator, a loop or a target isn't for `ValueKind`, an integer outside 128 bits
@@ -189,21 +190,30 @@ fn file_block(alloc: Global, file: u32, block: Block) -> Result<FileBlock, Memor
 /// should be, or that doesn't bind a name that was loaded, is `CodeForm` at no place. After want of memory the session is of no use.
 pub fn run_file<H: Host>(
     alloc: Global,
-    resolved: &Resolved,
+    resolved: Resolved,
     loaded: &NamedValues,
     session: &mut Session,
     host: &mut H,
 ) -> Result<FileResult, Stop>
     requires { OwnsFields (arena_of session.old) loaded.now }
-    ensures runs { RunsFile H.answers resolved.now loaded.now result session.new session.old host.new host.old }
-    ensures knows { UnlessMemory result ((file k : ℕ) → known_in session.new file k ≡ known_with resolved.now session.old file k) }
+    ensures runs { RunsFile H.answers resolved loaded.now result session.new session.old host.new host.old }
+    ensures knows { UnlessMemory result ((file k : ℕ) → known_in session.new file k ≡ known_with resolved session.old file k) }
     ensures depth { session.new.work.depth ≡ session.old.work.depth }
 {
-    let block = match nest(alloc, &resolved.program.code)? {
+    let Resolved {
+        program,
+        variables,
+        globals,
+        functions,
+    } = resolved;
+    drop(variables);
+    drop(functions);
+    let file = program.file;
+    let block = match nest(alloc, program.code)? {
         Some(block) => block,
         None => return Err(ill_formed(alloc)),
     };
-    let program = file_block(alloc, resolved.program.file, block)?;
+    let program = file_block(alloc, file, block)?;
     let copy = program.shared()?;
     let others = mem::replace(&mut session.programs, Items::new(alloc));
     let programs = in_front(alloc, copy, others)?;
@@ -212,7 +222,7 @@ pub fn run_file<H: Host>(
         alloc,
         &program,
         programs.as_slice(),
-        &resolved.globals,
+        &globals,
         loaded.as_slice(),
         session,
         host,

@@ -17,21 +17,21 @@ use Rattle.star_eval.proofs.file.run_file.Goals as goal
 
 pub returns-in-None-clause-runs : goal.returns-in-None-clause-runs
 returns-in-None-clause-runs g c = λ globals.
-    let p = c.args.resolved.now.program in
+    let p = c.args.resolved.program in
     let before = c.args.session.now in
     let none : blocks (program_of p) ≡ None = sym (c.in_ok-block.ensures p.file) ∙ ap (option_map (ops_of p.file)) c.in-None.is in
-    broken_runs g.H.Host.answers (known_with c.args.resolved.now before) (globals_of (arena_of before) c.args.loaded.now) before.work.depth before c.args.host.now c.ill_formed.result (blocks (program_of p)) c.ill_formed.ensures none
+    broken_runs g.H.Host.answers (known_with c.args.resolved before) (globals_of (arena_of before) c.args.loaded.now) before.work.depth before c.args.host.now c.ill_formed.result (blocks (program_of p)) c.ill_formed.ensures none
 
 pub returns-in-None-clause-knows : goal.returns-in-None-clause-knows
 returns-in-None-clause-knows g c =
-    let p = c.args.resolved.now.program in
+    let p = c.args.resolved.program in
     let none : blocks (program_of p) ≡ None = sym (c.in_ok-block.ensures p.file) ∙ ap (option_map (ops_of p.file)) c.in-None.is in
     let refused : Result FileResult Stop = Err c.ill_formed.result in
     holds_unless refused (λ f k i. with_blocks p.file (sym none i) (known_in c.args.session.now) f k)
 
 pub returns-clause-runs : goal.returns-clause-runs
 returns-clause-runs g c = λ globals.
-    let r = c.args.resolved.now in
+    let r = c.args.resolved in
     let p = r.program in
     let before = c.args.session.now in
     let block = c.in-Some.block in
@@ -51,7 +51,7 @@ returns-clause-runs g c = λ globals.
 
 pub returns-clause-knows : goal.returns-clause-knows
 returns-clause-knows g c =
-    let r = c.args.resolved.now in
+    let r = c.args.resolved in
     let p = r.program in
     let before = c.args.session.now in
     let block = c.in-Some.block in
