@@ -1,12 +1,14 @@
 // The machine, which takes one token at a time.
 ghost use Rattle.std.specs.Prelude.{◌≡◌, OnOk};
+ghost use Rattle.star_grammar.specs.Language.{kind_of_token};
+ghost use Rattle.star_grammar.specs.declared.token.Token.{Token};
 ghost use Rattle.star_machine.specs.Pending.{wants_token, wants_rule};
 ghost use Rattle.star_machine.specs.Turns.{Steps, Turned, finished, taken};
 
 use crate::pending::{Item, Pending};
 use ll::Shapes;
 use star_build::{Blocks, Parts, build, put_token};
-use star_grammar::{Choice, Rule, Symbol, Terminal, Token};
+use star_grammar::{Choice, Kind, Rule, Symbol, Terminal, Token};
 use star_guards::{allows, may_stand};
 use star_tables::{action_of, choice_at, effect_of, given, kind_of};
 use std::alloc::Global;
@@ -67,10 +69,10 @@ fn turn_token(
     Ok(Turn::Taken)
 }
 
-fn turn_rule(rule: Rule, token: &Token, machine: &mut Machine) -> Result<Turn, Memory>
-    ensures { Turned result token.now (wants_rule rule) machine.old machine.new }
+fn turn_rule(rule: Rule, kind: Kind, machine: &mut Machine) -> Result<Turn, Memory>
+    ensures { (token : Token) → kind ≡ kind_of_token token.kind → Turned result token (wants_rule rule) machine.old machine.new }
 {
-    let choice = choice_at(rule, kind_of(&token.kind));
+    let choice = choice_at(rule, kind);
     if !allows(choice, &machine.parts, &machine.shapes, &machine.blocks) {
         return Ok(Turn::Refused);
     }
@@ -79,7 +81,16 @@ fn turn_rule(rule: Rule, token: &Token, machine: &mut Machine) -> Result<Turn, M
 }
 
 /// One turn: an alternative ends, a token is taken, or an alternative is opened.
-fn go(alloc: Global, item: Item, token: &Token, machine: &mut Machine) -> Result<Turn, Memory>
+///
+/// `kind` is the token's.
+fn go(
+    alloc: Global,
+    item: Item,
+    token: &Token,
+    kind: Kind,
+    machine: &mut Machine,
+) -> Result<Turn, Memory>
+    requires { kind ≡ kind_of_token token.now.kind }
     ensures { Turned result token.now item machine.old machine.new }
 {
     match item {
@@ -88,7 +99,7 @@ fn go(alloc: Global, item: Item, token: &Token, machine: &mut Machine) -> Result
             Ok(Turn::On)
         }
         Item::Want(Symbol::Token(terminal)) => turn_token(alloc, terminal, token, machine),
-        Item::Want(Symbol::Rule(rule)) => turn_rule(rule, token, machine),
+        Item::Want(Symbol::Rule(rule)) => turn_rule(rule, kind, machine),
     }
 }
 
@@ -96,8 +107,9 @@ fn go(alloc: Global, item: Item, token: &Token, machine: &mut Machine) -> Result
 pub fn step(alloc: Global, token: &Token, machine: &mut Machine) -> Result<bool, Memory>
     ensures { Steps result token.now machine.old machine.new }
 {
+    let kind = kind_of(&token.kind);
     'items: while let Some(item) = machine.pending.pop() {
-        match go(alloc, item, token, machine)? {
+        match go(alloc, item, token, kind, machine)? {
             Turn::On => {}
             Turn::Taken => return Ok(true),
             Turn::Refused => return Ok(false),

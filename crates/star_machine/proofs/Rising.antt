@@ -1,0 +1,76 @@
+-- No tree becomes higher than all before it are and what effects can raise them by.
+use Rattle.std.proofs.Common.{◌≡◌, ℕ, ◌+◌, ◌≤◌, max, List, [], ◌∷◌, length, subst, sym, arith}
+use Rattle.std.specs.Prelude.{zero, suc}
+use Rattle.ll.specs.declared.shapes.Effect.{Effect}
+use Rattle.ll.specs.declared.shapes.Effect.TheVariants as effect
+use Rattle.ll.specs.declared.shapes.Shape.{Shape}
+use Rattle.ll.specs.Shapes.{apply, highest, past, run, top, under}
+use Rattle.star_grammar.specs.declared.table.Symbol.TheVariants as symbol
+use Rattle.star_grammar.specs.Effects as made
+use Rattle.star_grammar.specs.Effects.{given, least}
+use Rattle.star_grammar.specs.Reading.{max_height}
+use Rattle.star_machine.specs.declared.pending.Item.{Item}
+use Rattle.star_machine.specs.declared.pending.Item.TheVariants as item
+use Rattle.star_machine.specs.Rises.{rise, rises, rises_along, rises_of}
+use Rattle.star_machine.specs.Turns.{along, passed, weigh}
+use Rattle.star_machine.proofs.Lists.{one}
+
+-- none is higher than this
+abbrev Under : ℕ → List Shape → Type 0
+Under b [] = Unit {0}
+Under b (x ∷ xs) = (x.high ≤ b) × Under b xs
+
+under_more : (b c : ℕ) (xs : List Shape) → b ≤ c → Under b xs → Under c xs
+under_more b c [] le h = tt
+under_more b c (x ∷ xs) le h = let k = h.0 in (omega (arith, le, k), under_more b c xs le h.1)
+
+top_under : (b : ℕ) (xs : List Shape) → Under b xs → (top xs).high ≤ b
+top_under b [] h = omega arith
+top_under b (x ∷ xs) h = h.0
+
+rest_under : (b : ℕ) (xs : List Shape) → Under b xs → Under b (under xs)
+rest_under b [] h = tt
+rest_under b (x ∷ xs) h = h.1
+
+past_under : (n b : ℕ) (xs : List Shape) → Under b xs → Under b (past n xs)
+past_under zero b xs h = h
+past_under (suc n) b xs h = past_under n b (under xs) (rest_under b xs h)
+
+highest_under : (n b : ℕ) (xs : List Shape) → Under b xs → highest n xs ≤ b
+highest_under zero b xs h = omega arith
+highest_under (suc n) b xs h =
+    let t = top_under b xs h in
+    let r = highest_under n b (under xs) (rest_under b xs h) in
+    omega (arith, t, r)
+
+under_highest : (xs : List Shape) → Under (highest (length xs) xs) xs
+under_highest [] = tt
+under_highest (x ∷ xs) = (omega arith, under_more (highest (length xs) xs) (max x.high (highest (length xs) xs)) xs (omega arith) (under_highest xs))
+
+apply_under : (e : Effect) (b : ℕ) (xs : List Shape) → Under b xs → Under (b + rise e) (apply e xs)
+apply_under effect.Keep b xs h = under_more b (b + 0) xs (omega arith) h
+apply_under (effect.Push n f) b xs h = (omega arith, under_more b (b + n) xs (omega arith) h)
+apply_under (effect.Node n f) b xs h = let k = highest_under n b xs h in (omega (arith, k), under_more b (b + 1) (past n xs) (omega arith) (past_under n b xs h))
+apply_under (effect.Beside n f) b xs h = let k = highest_under n b xs h in (omega (arith, k), under_more b (b + 0) (past n xs) (omega arith) (past_under n b xs h))
+apply_under effect.Floor b xs h = let k = top_under b xs h in (omega (arith, k), under_more b (b + 1) (under xs) (omega arith) (rest_under b xs h))
+
+run_under : (es : List Effect) (b : ℕ) (xs : List Shape) → Under b xs → Under (b + rises es) (run es xs)
+run_under [] b xs h = under_more b (b + 0) xs (omega arith) h
+run_under (e ∷ es) b xs h = under_more ((b + rise e) + rises es) (b + (rise e + rises es)) (run es (apply e xs)) (omega arith) (run_under es (b + rise e) (apply e xs) (apply_under e b xs h))
+
+passed_under : (x : Item) (b : ℕ) (xs : List Shape) → Under b xs → Under (b + rises_of x) (passed x xs)
+passed_under (item.Close c) b xs h = apply_under (made.effect c) b xs h
+passed_under (item.Want (symbol.Token a)) b xs h = apply_under (given a) b xs h
+passed_under (item.Want (symbol.Rule r)) b xs h = run_under (least r) b xs h
+
+along_under : (items : List Item) (b : ℕ) (xs : List Shape) → Under b xs → Under (b + rises_along items) (along items xs)
+along_under [] b xs h = under_more b (b + 0) xs (omega arith) h
+along_under (x ∷ rest) b xs h =
+    subst (Under (b + (rises_of x + rises_along rest))) (sym (one x rest xs))
+    (under_more ((b + rises_of x) + rises_along rest) (b + (rises_of x + rises_along rest)) (along rest (passed x xs)) (omega arith) (along_under rest (b + rises_of x) (passed x xs) (passed_under x b xs h)))
+
+pub plainly_low : (items : List Item) (shapes : List Shape) (room : ℕ) → room + highest (length shapes) shapes ≡ max_height → rises_along items ≤ room → weigh items shapes ≤ max_height
+plainly_low items shapes room e le =
+    let k : (top (along items shapes)).high ≤ highest (length shapes) shapes + rises_along items = top_under (highest (length shapes) shapes + rises_along items) (along items shapes) (along_under items (highest (length shapes) shapes) shapes (under_highest shapes)) in
+    let w : weigh items shapes ≤ highest (length shapes) shapes + rises_along items = k in
+    omega (arith, e, le, w)
