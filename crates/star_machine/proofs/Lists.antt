@@ -5,16 +5,11 @@ use Rattle.std.proofs.lemmas.List.{take_more, reverse-append}
 use Rattle.ll.specs.declared.shapes.Effect.{Effect}
 use Rattle.ll.specs.declared.shapes.Shape.{Shape}
 use Rattle.ll.specs.Shapes.{apply, run}
-use Rattle.star_grammar.specs.declared.table.Symbol.{Symbol}
 use Rattle.star_grammar.specs.declared.table.Symbol.TheVariants as symbol
 use Rattle.star_machine.specs.declared.pending.Item.{Item}
 use Rattle.star_machine.specs.declared.pending.Item.TheVariants as item
-use Rattle.star_machine.specs.Pending.{wanted}
 use Rattle.star_machine.specs.Rises.{rise, rises, rises_along, rises_of}
 use Rattle.star_machine.specs.Turns.{along, passed}
-
-pub one_more : (xs : List Symbol) (i left : ℕ) (d : Symbol) (rest : List Item) → i + 1 ≡ left → i < length xs → item.Want (get_or xs i d) ∷ wanted (drop left xs) rest ≡ wanted (drop i xs) rest
-one_more xs i left d rest e lt = rw (← e, add-one, drop-cons xs i d lt) refl
 
 pub run_more : (es : List Effect) (i : ℕ) (d : Effect) (xs : List Shape) → i < length es → run (drop i es) xs ≡ run (drop (i + 1) es) (apply (get_or es i d) xs)
 run_more es i d xs lt = rw (add-one, drop-cons es i d lt) refl

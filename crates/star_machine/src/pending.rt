@@ -40,6 +40,14 @@ impl Pending {
         }
     }
 
+    /// Makes room for so many more.
+    pub fn reserve(&mut self, more: usize) -> Result<(), Memory>
+        ensures { OnOk result (self.new ≡ self.old) }
+    {
+        self.items.reserve(more)?;
+        Ok(())
+    }
+
     pub fn push(&mut self, item: Item) -> Result<(), Memory>
         ensures { OnOk result (self.new ≡ item ∷ self.old) }
     {
@@ -75,12 +83,19 @@ impl Pending {
         ensures { OnOk result (self.new ≡ spec.opened choice self.old) }
     {
         self.end(choice)?;
-        let symbols = symbols_of(choice);
-        let mut left = symbols.len();
-        while left > 0 {
-            left -= 1;
-            self.push(Item::Want(symbols[left]))?;
-        }
-        Ok(())
+        put_wanted(&mut self.items, symbols_of(choice))
     }
+}
+
+/// Puts symbols that are wanted on items, the next one last.
+fn put_wanted(items: &mut Vec<Item>, symbols: &[Symbol]) -> Result<(), Memory>
+    ensures { OnOk result (reverse items.new.items ≡ spec.wanted symbols.now (reverse items.old.items)) }
+{
+    items.reserve(symbols.len())?;
+    let mut left = symbols.len();
+    while left > 0 {
+        left -= 1;
+        items.push_reserved(Item::Want(symbols[left]));
+    }
+    Ok(())
 }

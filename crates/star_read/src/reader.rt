@@ -22,6 +22,9 @@ use std::alloc::Global;
 use ytt_base::fault::{Fault, FaultKind, Place, Stop};
 use ytt_base::text::{Memory, Text};
 
+/// How many items are still to be read at once in most lines of code.
+const ROOM: usize = 32;
+
 fn rule_of(start: Start) -> Rule
     ensures { result ≡ spec.rule_of start }
 {
@@ -89,6 +92,7 @@ fn begin(alloc: Global, start: Start, machine: &mut Machine) -> Result<(), Memor
     ensures empty { OnOk result (value_of machine.new ≡ spec.empty_of start) }
 {
     let pending = &mut machine.pending;
+    pending.reserve(ROOM)?;
     pending.push(Item::Want(Symbol::Token(Terminal::Passed(Kind::TextEnd))))?;
     pending.push(Item::Want(Symbol::Rule(rule_of(start))))?;
     begin_parts(alloc, start, &mut machine.parts)?;
