@@ -12,7 +12,7 @@ returns-in_err-hear_comment-clause-hears c = λ r reads rest.
     let member : c.comment-item.result ≡ get_or c.args.comments.now c.loop-comment.comment-index c.comment-item.result = search rules in
     rw stops
     (hearing_stops c.args.setting (λ cs. loose_all (comments_of cs)) (λ k. comment None (comment_of k) ∷ []) (λ x xs. refl) c.args.comments.now c.args.hearing.now c.loop-comment.hearing c.loop-comment.comment-index c.comment-item.result within
-    member c.loop-comment.invariant c.hear_comment.new.hearing c.hear_comment.new.hearing c.in_err-hear_comment.field-0.0 
+    member c.loop-comment.invariant c.hear_comment.new.hearing c.hear_comment.new.hearing c.in_err-hear_comment.field-0.0
     (subst (λ k. Hears c.args.setting (comment None (comment_of k) ∷ []) c.loop-comment.hearing c.hear_comment.new.hearing (Err c.in_err-hear_comment.field-0.0)) c.in_ok-comment.ensures c.in_err-hear_comment.ensures.hears) r reads rest)
 
 pub loop-comment-preserved : goal.loop-comment-preserved
@@ -20,5 +20,5 @@ loop-comment-preserved c =
     let within : c.loop-comment.comment-index < length c.args.comments.now = search rules in
     let member : c.comment-item.result ≡ get_or c.args.comments.now c.loop-comment.comment-index c.comment-item.result = search rules in
     hearing_next c.args.setting (λ cs. loose_all (comments_of cs)) (λ k. comment None (comment_of k) ∷ []) (λ x xs. refl) c.args.comments.now c.args.hearing.now c.loop-comment.hearing c.loop-comment.comment-index c.comment-item.result within
-    member c.loop-comment.invariant c.hear_comment.new.hearing 
+    member c.loop-comment.invariant c.hear_comment.new.hearing
     (subst (λ k. Hears c.args.setting (comment None (comment_of k) ∷ []) c.loop-comment.hearing c.hear_comment.new.hearing (Ok tt)) c.in_ok-comment.ensures c.in_ok-hear_comment.ensures.hears) c.in_ok-hear_comment.ensures.known
