@@ -46,8 +46,7 @@ fn build(
     requires { KeyedDocuments (documents_of documents) }
     ensures { GivesCode trees_of result (λ r. and_then (built (budget_of budget)) (template_passed r ignore_unknown 1 (documents_of documents))) }
 {
-    let passed = pass_template(alloc, &documents, ignore_unknown)?;
-    drop(documents);
+    let passed = pass_template(alloc, documents, ignore_unknown)?;
     drop(passed.template);
     run_within(alloc, passed.program, budget)
 }

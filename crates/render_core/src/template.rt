@@ -25,11 +25,11 @@ pub struct Passed {
 /// what isn't built yet.
 pub fn pass_template(
     alloc: Global,
-    documents: &NotedDocs,
+    documents: NotedDocs,
     ignore_unknown: bool,
 ) -> Result<Passed, Stop>
-    requires { KeyedDocuments (documents_of documents.now) }
-    ensures template { GivesCode (λ p. template_of p.template) result (λ r. template_passed r ignore_unknown 1 (documents_of documents.now)) }
+    requires { KeyedDocuments (documents_of documents) }
+    ensures template { GivesCode (λ p. template_of p.template) result (λ r. template_passed r ignore_unknown 1 (documents_of documents)) }
     ensures program { IfOk result (λ p. IsProgramOf (template_of p.template) p.program) }
 {
     let template = place(alloc, documents, 1, ignore_unknown)?;

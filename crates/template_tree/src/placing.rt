@@ -49,15 +49,17 @@ fn place_rows(alloc: Global, rows: Rows, file: u32) -> Result<Template, Stop>
 /// kinds of their collections, pairs alone have keys, and each statement stands where it may.
 pub fn place(
     alloc: Global,
-    docs: &NotedDocs,
+    docs: NotedDocs,
     file: u32,
     ignore_unknown: bool,
 ) -> Result<Template, Stop>
-    ensures template { GivesCode template_of result (λ r. placed_whole r ignore_unknown file (documents_of docs.now)) }
-    ensures placed { KeyedDocuments (documents_of docs.now) → IfOk result (λ t. Placed (template_of t)) }
+    ensures template { GivesCode template_of result (λ r. placed_whole r ignore_unknown file (documents_of docs)) }
+    ensures placed { KeyedDocuments (documents_of docs) → IfOk result (λ t. Placed (template_of t)) }
     ensures file { IfOk result (λ t. t.file ≡ file) }
 {
     a_code_reader_exists();
-    let rows = read_events(alloc, docs, file, ignore_unknown)?;
+    let read = read_events(alloc, &docs, file, ignore_unknown);
+    drop(docs);
+    let rows = read?;
     place_rows(alloc, rows, file)
 }
