@@ -1,11 +1,19 @@
 -- No tree becomes higher than all before it are and what effects can raise them by.
-use Rattle.std.proofs.Common.{◌≡◌, ℕ, ◌+◌, ◌≤◌, max, List, [], ◌∷◌, length, subst, sym, arith}
-use Rattle.std.specs.Prelude.{zero, suc}
+use Rattle.std.proofs.Common.{◌≡◌, ℕ, ◌+◌, ◌*◌, ◌/◌, ◌≤◌, max, List, [], ◌∷◌, length, true, refl, subst, sym, arith}
+use Rattle.std.proofs.lemmas.Bool.{leb-true}
+use Rattle.std.proofs.lemmas.List.{length-reverse}
+use Rattle.std.specs.Prelude.{leb, reverse, zero, suc}
 use Rattle.ll.specs.declared.shapes.Effect.{Effect}
 use Rattle.ll.specs.declared.shapes.Effect.TheVariants as effect
 use Rattle.ll.specs.declared.shapes.Shape.{Shape}
 use Rattle.ll.specs.Shapes.{apply, highest, past, run, top, under}
+use Rattle.star_grammar.specs.declared.table.Choice.{Choice}
+use Rattle.star_grammar.specs.declared.table.Choice.TheVariants as choice
+use Rattle.star_grammar.specs.declared.table.Rule.{Rule}
+use Rattle.star_grammar.specs.declared.table.Rule.TheVariants as rule
 use Rattle.star_grammar.specs.declared.table.Symbol.TheVariants as symbol
+use Rattle.star_grammar.specs.declared.table.Terminal.{Terminal}
+use Rattle.star_grammar.specs.declared.table.Terminal.TheVariants as terminal
 use Rattle.star_grammar.specs.Effects as made
 use Rattle.star_grammar.specs.Effects.{given, least}
 use Rattle.star_grammar.specs.Reading.{max_height}
@@ -74,3 +82,33 @@ plainly_low items shapes room e le =
     let k : (top (along items shapes)).high ≤ highest (length shapes) shapes + rises_along items = top_under (highest (length shapes) shapes + rises_along items) (along items shapes) (along_under items (highest (length shapes) shapes) shapes (under_highest shapes)) in
     let w : weigh items shapes ≤ highest (length shapes) shapes + rises_along items = k in
     omega (arith, e, le, w)
+
+-- ---- by how much one item can raise a tree
+
+rule_rises : (r : Rule) → leb (rises (least r)) 3 ≡ true
+rule_rises rule.Top = refl
+rule_rises r = refl
+
+choice_rises : (c : Choice) → leb (rise (made.effect c)) 3 ≡ true
+choice_rises choice.Top = refl
+choice_rises c = refl
+
+terminal_rises : (a : Terminal) → leb (rise (given a)) 3 ≡ true
+terminal_rises terminal.Word = refl
+terminal_rises a = refl
+
+one_rises : (x : Item) → rises_of x ≤ 3
+one_rises (item.Close c) = leb-true (rise (made.effect c)) 3 (choice_rises c)
+one_rises (item.Want (symbol.Token a)) = leb-true (rise (given a)) 3 (terminal_rises a)
+one_rises (item.Want (symbol.Rule r)) = leb-true (rises (least r)) 3 (rule_rises r)
+
+all_rise : (items : List Item) → rises_along items ≤ 3 * length items
+all_rise [] = omega arith
+all_rise (x ∷ xs) = let e = one_rises x in let k = all_rise xs in omega (arith, e, k)
+
+-- few items can't raise one far
+pub few_rise : (items : List Item) (room : ℕ) → length items ≤ room / 3 → rises_along (reverse items) ≤ room
+few_rise items room le =
+    let e = all_rise (reverse items) in
+    let l : length (reverse items) ≡ length items = length-reverse items in
+    omega (arith, e, l, le)

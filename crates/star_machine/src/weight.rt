@@ -1,5 +1,5 @@
 // How high a text is at least that goes on from here.
-ghost use Rattle.std.specs.Prelude.{◌≡◌, ◌≤◌, ◌↔◌, ◌+◌, reverse, IsTrue, IfOk, IfSome, OnOk};
+ghost use Rattle.std.specs.Prelude.{◌≡◌, ◌≤◌, ◌↔◌, ◌+◌, length, reverse, IsTrue, IfOk, IfSome, OnOk};
 ghost use Rattle.ll.specs.Shapes as shape;
 ghost use Rattle.star_grammar.specs.Reading.{max_height};
 ghost use Rattle.star_machine.specs.Rises as spec;
@@ -98,12 +98,24 @@ fn has_room(items: &[Item], room: u32) -> bool
     true
 }
 
-/// Whether it is seen at once that a text that goes on so may be low: all trees together with all that they can rise are.
+/// Whether there are at most so many.
+fn is_short(items: &[Item], most: u32) -> bool
+    ensures { IsTrue result → length items.now ≤ most }
+{
+    items.len() <= most as usize
+}
+
+/// By how much one item can raise a tree at most.
+const MAX_RISE: u32 = 3;
+
+/// Whether it is seen at once that a text that goes on so may be low: the highest tree, and what all items can raise one by, are. Few
+/// items aren't looked at.
 fn is_plainly_low(pending: &Pending, shapes: &Shapes) -> bool
     ensures { IsTrue result → weigh pending.now shapes.now ≤ max_height }
 {
+    let items = pending.as_slice();
     match MAX_HEIGHT.checked_sub(shapes.highest()) {
-        Some(room) => has_room(pending.as_slice(), room),
+        Some(room) => is_short(items, room / MAX_RISE) || has_room(items, room),
         None => false,
     }
 }
