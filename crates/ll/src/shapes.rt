@@ -1,5 +1,5 @@
 // How high the trees on a stack are, and whether they are targets.
-ghost use Rattle.std.specs.Prelude.{◌≡◌, ◌&&◌, [], ◌∷◌, OnOk, IfOk, length, reverse};
+ghost use Rattle.std.specs.Prelude.{◌≡◌, ◌&&◌, [], ◌∷◌, OnOk, IfOk};
 ghost use Rattle.ll.specs.Shapes as spec;
 
 use std::alloc::Global;
@@ -52,19 +52,6 @@ fn flagged(high: u32, flag: Flag, parts: bool) -> Shape
         Flag::All => parts,
     };
     Shape { high, target }
-}
-
-/// The height of the highest of shapes, the innermost last.
-fn highest_in(shapes: &[Shape]) -> u32
-    ensures { result ≡ spec.highest (length shapes.now) (reverse shapes.now) }
-{
-    let mut high = 0;
-    let mut left = shapes.len();
-    while left > 0 {
-        left -= 1;
-        high = high.max(shapes[left].high);
-    }
-    high
 }
 
 /// Shapes, seen as their list, the innermost first.
@@ -132,13 +119,6 @@ impl Shapes {
                 target: false,
             },
         }
-    }
-
-    /// The height of the highest.
-    pub fn highest(&self) -> u32
-        ensures { result ≡ spec.highest (length self.now) self.now }
-    {
-        highest_in(self.shapes.as_slice())
     }
 
     /// Takes so many. It gives the height of the highest, and whether each is a target.

@@ -1,3 +1,2 @@
 pub mod Lists
-pub mod Rising
 pub mod Turning

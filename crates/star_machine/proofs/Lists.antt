@@ -8,13 +8,12 @@ use Rattle.ll.specs.Shapes.{apply, run}
 use Rattle.star_grammar.specs.declared.table.Symbol.TheVariants as symbol
 use Rattle.star_machine.specs.declared.pending.Item.{Item}
 use Rattle.star_machine.specs.declared.pending.Item.TheVariants as item
-use Rattle.star_machine.specs.Rises.{rise, rises, rises_along, rises_of}
 use Rattle.star_machine.specs.Turns.{along, passed}
 
 pub run_more : (es : List Effect) (i : ℕ) (d : Effect) (xs : List Shape) → i < length es → run (drop i es) xs ≡ run (drop (i + 1) es) (apply (get_or es i d) xs)
 run_more es i d xs lt = rw (add-one, drop-cons es i d lt) refl
 
-pub one : (x : Item) (rest : List Item) (xs : List Shape) → along (x ∷ rest) xs ≡ along rest (passed x xs)
+one : (x : Item) (rest : List Item) (xs : List Shape) → along (x ∷ rest) xs ≡ along rest (passed x xs)
 one (item.Close c) rest xs = refl
 one (item.Want (symbol.Token a)) rest xs = refl
 one (item.Want (symbol.Rule r)) rest xs = refl
@@ -22,12 +21,3 @@ one (item.Want (symbol.Rule r)) rest xs = refl
 pub one_less : (items : List Item) (i left : ℕ) (d : Item) (xs : List Shape) → i + 1 ≡ left → i < length items → along (reverse (take left items)) xs ≡ along (reverse (take i items)) (passed (get_or items i d) xs)
 one_less items i left d xs e lt =
     rw (← e) (ap (λ l. along (reverse l) xs) (take_more items i d lt) ∙ ap (λ l. along l xs) (reverse-append (take i items) (get_or items i d ∷ [])) ∙ one (get_or items i d) (reverse (take i items)) xs)
-
--- what items behind an index can raise
-pub rises_less : (items : List Item) (i left : ℕ) (d : Item) → i + 1 ≡ left → i < length items → rises_along (reverse (take left items)) ≡ rises_of (get_or items i d) + rises_along (reverse (take i items))
-rises_less items i left d e lt =
-    rw (← e) (ap (λ l. rises_along (reverse l)) (take_more items i d lt) ∙ ap rises_along (reverse-append (take i items) (get_or items i d ∷ [])))
-
--- what effects from an index on can raise
-pub rises_more : (es : List Effect) (i : ℕ) (d : Effect) → i < length es → rises (drop i es) ≡ rise (get_or es i d) + rises (drop (i + 1) es)
-rises_more es i d lt = rw (add-one, drop-cons es i d lt) refl

@@ -1,3 +1,2 @@
 pub mod Pending
-pub mod Rises
 pub mod Turns

@@ -80,9 +80,7 @@ fn turn_rule(rule: Rule, kind: Kind, machine: &mut Machine) -> Result<Turn, Memo
     Ok(Turn::On)
 }
 
-/// One turn: an alternative ends, a token is taken, or an alternative is opened.
-///
-/// `kind` is the token's.
+/// One turn: an alternative ends, a token of this kind is taken, or an alternative is opened.
 fn go(
     alloc: Global,
     item: Item,
