@@ -1,0 +1,2 @@
+pub mod AllowedNames
+pub mod Nested
