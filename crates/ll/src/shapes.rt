@@ -1,5 +1,5 @@
 // How high the trees on a stack are, and whether they are targets.
-ghost use Rattle.std.specs.Prelude.{◌≡◌, ◌&&◌, [], ◌∷◌, OnOk, IfOk};
+ghost use Rattle.std.specs.Prelude.{◌≡◌, ◌&&◌, [], ◌∷◌, OnOk, IfOk, length, reverse};
 ghost use Rattle.ll.specs.Shapes as spec;
 
 use std::alloc::Global;
@@ -54,6 +54,19 @@ fn flagged(high: u32, flag: Flag, parts: bool) -> Shape
     Shape { high, target }
 }
 
+/// The height of the highest of shapes, the innermost last.
+fn highest_in(shapes: &[Shape]) -> u32
+    ensures { result ≡ spec.highest (length shapes.now) (reverse shapes.now) }
+{
+    let mut high = 0;
+    let mut left = shapes.len();
+    while left > 0 {
+        left -= 1;
+        high = high.max(shapes[left].high);
+    }
+    high
+}
+
 /// Shapes, seen as their list, the innermost first.
 #[derive(Drop)]
 pub struct Shapes {
@@ -85,6 +98,14 @@ impl Shapes {
         Ok(Shapes {
             shapes: Vec::from_slice(alloc, &self.shapes)?,
         })
+    }
+
+    /// Makes room for so many more.
+    pub fn reserve(&mut self, more: usize) -> Result<(), Memory>
+        ensures { OnOk result (self.new ≡ self.old) }
+    {
+        self.shapes.reserve(more)?;
+        Ok(())
     }
 
     pub fn push(&mut self, shape: Shape) -> Result<(), Memory>
@@ -119,6 +140,13 @@ impl Shapes {
                 target: false,
             },
         }
+    }
+
+    /// The height of the highest.
+    pub fn highest(&self) -> u32
+        ensures { result ≡ spec.highest (length self.now) self.now }
+    {
+        highest_in(self.shapes.as_slice())
     }
 
     /// Takes so many. It gives the height of the highest, and whether each is a target.

@@ -3,7 +3,7 @@ ghost use Rattle.std.specs.Prelude.{◌≤◌, ◌↔◌, IsTrue};
 ghost use Rattle.star_grammar.specs.Reading.{max_height};
 
 /// How high an expression may be.
-const MAX_HEIGHT: u32 = 100;
+pub const MAX_HEIGHT: u32 = 100;
 
 /// Whether an expression may be so high.
 pub fn fits(high: u32) -> bool

@@ -8,4 +8,4 @@ mod guards;
 mod height;
 
 pub use guards::{allows, may_stand};
-pub use height::fits;
+pub use height::{MAX_HEIGHT, fits};

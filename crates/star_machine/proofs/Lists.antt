@@ -13,7 +13,7 @@ use Rattle.star_machine.specs.Turns.{along, passed}
 pub run_more : (es : List Effect) (i : ℕ) (d : Effect) (xs : List Shape) → i < length es → run (drop i es) xs ≡ run (drop (i + 1) es) (apply (get_or es i d) xs)
 run_more es i d xs lt = rw (add-one, drop-cons es i d lt) refl
 
-one : (x : Item) (rest : List Item) (xs : List Shape) → along (x ∷ rest) xs ≡ along rest (passed x xs)
+pub one : (x : Item) (rest : List Item) (xs : List Shape) → along (x ∷ rest) xs ≡ along rest (passed x xs)
 one (item.Close c) rest xs = refl
 one (item.Want (symbol.Token a)) rest xs = refl
 one (item.Want (symbol.Rule r)) rest xs = refl
