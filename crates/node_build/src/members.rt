@@ -23,7 +23,7 @@ impl Members {
     {
         Members {
             items: Vec::new(alloc),
-            keys: Seen::new(alloc),
+            keys: Seen::new(),
         }
     }
 

@@ -7,8 +7,8 @@ use Rattle.std.specs.Bool.{Decides}
 use Rattle.std.proofs.lemmas.Bool.Decides.{Decides-like, Decides-eqb, Decides-int_eq, same_from_decides}
 use Rattle.ytt_base.specs.Trees.{Scalar, null, boolean, integer, string, same_key, same_integer}
 use Rattle.ytt_laws.proofs.Lists.{bytes_eq-sym}
-use Rattle.yaml_keys.specs.declared.seen.Seen.{Seen}
-use Rattle.yaml_keys.specs.Seen.{is_seen}
+use Rattle.yaml_keys.specs.declared.seen.Kinds.{Kinds}
+use Rattle.yaml_keys.specs.Seen.{is_among}
 
 abbrev magnitude : ℤ → ℕ
 magnitude (pos n) = n
@@ -28,15 +28,15 @@ either true c x e = rw (← e) refl
 either false c x e = rw (← e) refl
 
 -- by what the set of texts is then, and by what that of integers is
-pub text_added : (s : Seen) (t : List ℕ) (n : HashSet (String Global) _) → ((u : List ℕ) → contains_text n u ≡ cond (bytes_eq t u) true (contains_text s.texts u))
-    → (other : Scalar) → is_seen other (record s { texts = n }) ≡ (same_key other (string t) || is_seen other s)
+pub text_added : (s : Kinds) (t : List ℕ) (n : HashSet (String Global) _) → ((u : List ℕ) → contains_text n u ≡ cond (bytes_eq t u) true (contains_text s.texts u))
+    → (other : Scalar) → is_among other (record s { texts = n }) ≡ (same_key other (string t) || is_among other s)
 text_added s t n h null = refl
 text_added s t n h (boolean b) = refl
 text_added s t n h (integer z) = refl
 text_added s t n h (string u) = h u ∙ either (bytes_eq t u) (bytes_eq u t) (contains_text s.texts u) (bytes_eq-sym t u)
 
-pub integer_added : (s : Seen) (z : ℤ) (n : HashSet ℤ _) → ((y : ℤ) → contains int_eq n y ≡ cond (int_eq z y) true (contains int_eq s.integers y))
-    → (other : Scalar) → is_seen other (record s { integers = n }) ≡ (same_key other (integer z) || is_seen other s)
+pub integer_added : (s : Kinds) (z : ℤ) (n : HashSet ℤ _) → ((y : ℤ) → contains int_eq n y ≡ cond (int_eq z y) true (contains int_eq s.integers y))
+    → (other : Scalar) → is_among other (record s { integers = n }) ≡ (same_key other (integer z) || is_among other s)
 integer_added s z n h null = refl
 integer_added s z n h (boolean b) = refl
 integer_added s z n h (string u) = refl

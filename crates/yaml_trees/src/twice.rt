@@ -58,7 +58,7 @@ pub fn twice_below<'a>(
 fn twice_among<'a>(alloc: Global, items: &'a NotedItems) -> Result<Option<&'a NotedItem>, Memory>
     ensures { IfOk result (λ o. option_map (λ i. note_of i.now) o ≡ twice_among [] (items_of items.now)) }
 {
-    let mut seen = Seen::new(alloc);
+    let mut seen = Seen::new();
     for item in items.as_slice() {
         if !add_key(alloc, &mut seen, item)? {
             return Ok(Some(item));
