@@ -19,8 +19,7 @@ use ytt_base::text::Text;
 pub fn read_expr(alloc: Global, code: &str, at: Place) -> Result<Boxed<Expr>, Stop>
     ensures { GivesCode (whole.expr_of at.file) result (λ r. r.expr at code.now) }
 {
-    let text = Text::of(alloc, code)?;
-    let found = tokens(alloc, &text, at.file, at.line)?;
+    let found = tokens(alloc, code, at.file, at.line)?;
     read::read_expr(alloc, &found)
 }
 
@@ -28,8 +27,7 @@ pub fn read_expr(alloc: Global, code: &str, at: Place) -> Result<Boxed<Expr>, St
 pub fn read_args(alloc: Global, code: &str, at: Place) -> Result<Args, Stop>
     ensures { GivesCode (whole.exprs_of at.file) result (λ r. r.args at code.now) }
 {
-    let text = Text::of(alloc, code)?;
-    let found = tokens(alloc, &text, at.file, at.line)?;
+    let found = tokens(alloc, code, at.file, at.line)?;
     read::read_args(alloc, &found)
 }
 
@@ -46,8 +44,7 @@ fn read_line(alloc: Global, found: &Tokens) -> Result<Items<Stmt>, Stop>
 pub fn read_simple(alloc: Global, code: &str, at: Place) -> Result<Items<Stmt>, Stop>
     ensures { GivesCode (whole.instructions_of at.file) result (λ r. r.simple at code.now) }
 {
-    let text = Text::of(alloc, code)?;
-    let found = tokens(alloc, &text, at.file, at.line)?;
+    let found = tokens(alloc, code, at.file, at.line)?;
     read_line(alloc, &found)
 }
 
@@ -55,6 +52,6 @@ pub fn read_simple(alloc: Global, code: &str, at: Place) -> Result<Items<Stmt>, 
 pub fn read_header(alloc: Global, text: &Text, at: Place) -> Result<Header, Stop>
     ensures { GivesCode (whole.header_of at.file) result (λ r. r.header at text.now) }
 {
-    let found = tokens(alloc, text, at.file, at.line)?;
+    let found = tokens(alloc, text.as_str(), at.file, at.line)?;
     read::read_header(alloc, &found)
 }

@@ -162,25 +162,17 @@ fn open_brackets(tokens: &[Token], before: u32) -> u32
     depth
 }
 
-/// How many brackets are open behind a text of code, or `None` where a piece of it is no token.
+/// How many brackets are open behind a line of code, where so many are open before it, or `None` where a piece of it is no token. The
+/// only error is want of memory.
 #[tactic(auto, using(crate::proofs::Longer::depths))]
-fn depth_behind_text(alloc: Global, text: &Text, before: u32) -> Result<Option<u32>, Memory>
-    ensures { IfOk result (λ d. d ≡ lines.depth_behind before text.now) }
+pub fn depth_behind_code(alloc: Global, code: &str, before: u32) -> Result<Option<u32>, Memory>
+    ensures depth { IfOk result (λ d. d ≡ lines.depth_behind before code.now) }
 {
-    match tokens(alloc, text, 1, 1) {
+    match tokens(alloc, code, 1, 1) {
         Ok(found) => Ok(Some(open_brackets(found.tokens.as_slice(), before))),
         Err(Stop::Fault(_)) => Ok(None),
         Err(Stop::Memory) => Err(Memory),
     }
-}
-
-/// How many brackets are open behind a line of code, where so many are open before it, or `None` where a piece of it is no token. The
-/// only error is want of memory.
-pub fn depth_behind_code(alloc: Global, code: &str, before: u32) -> Result<Option<u32>, Memory>
-    ensures depth { IfOk result (λ d. d ≡ lines.depth_behind before code.now) }
-{
-    let text = Text::of(alloc, code)?;
-    depth_behind_text(alloc, &text, before)
 }
 
 /// How many brackets are open at the end of a comment's code, or `None` for a comment that is no code and where a piece of it is no
@@ -195,7 +187,7 @@ pub fn depth_of(alloc: Global, comment: &RawComment) -> Result<Option<u32>, Memo
         None => Ok(None),
         Some(code) => {
             let text = without_end(alloc, code)?;
-            depth_behind_text(alloc, &text, 0)
+            depth_behind_code(alloc, text.as_str(), 0)
         }
     }
 }

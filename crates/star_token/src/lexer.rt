@@ -166,7 +166,7 @@ fn push_end(found: &mut Items<Token>, cursor: Cursor) -> Result<(), Memory>
 
 fn tokens_of(
     alloc: Global,
-    text: &Text,
+    text: &str,
     origin: Origin,
     file: u32,
     line: u32,
@@ -174,7 +174,7 @@ fn tokens_of(
     ensures cut { HasTokens origin file line text.now result }
     ensures ended { IfOk result (λ ts. spec.ends ts.tokens ≡ true) }
 {
-    match cut(alloc, text.as_str().as_bytes(), origin, line) {
+    match cut(alloc, text.as_bytes(), origin, line) {
         Ok(tokens) => Ok(Tokens { file, tokens }),
         Err(Halt::Memory) => Err(Stop::Memory),
         Err(Halt::Refused(kind, line)) => Err(Stop::Fault(Fault {
@@ -192,7 +192,7 @@ fn tokens_of(
 /// that has a token before it is one. The last token is the text's end. The first piece that is no token is refused at its line: an
 /// integer past 2^127 - 1 as IntWide; a float, `/` and `/=` as FloatRefused; anything else, an open text and a wrong escape
 /// too, as CodeForm. Want of memory is `Stop::Memory`.
-pub fn tokens(alloc: Global, text: &Text, file: u32, line: u32) -> Result<Tokens, Stop>
+pub fn tokens(alloc: Global, text: &str, file: u32, line: u32) -> Result<Tokens, Stop>
     ensures cut { HasTokens origin.Comment file line text.now result }
     ensures ended { IfOk result (λ ts. spec.ends ts.tokens ≡ true) }
 {
@@ -201,7 +201,7 @@ pub fn tokens(alloc: Global, text: &Text, file: u32, line: u32) -> Result<Tokens
 
 /// The tokens of a file of code, from its first line on: as `tokens`, but `#` begins a comment up to the line's end, and texts
 /// in three quotes hold line ends.
-pub fn file_tokens(alloc: Global, text: &Text, file: u32) -> Result<Tokens, Stop>
+pub fn file_tokens(alloc: Global, text: &str, file: u32) -> Result<Tokens, Stop>
     ensures cut { HasTokens origin.File file 1 text.now result }
     ensures ended { IfOk result (λ ts. spec.ends ts.tokens ≡ true) }
 {

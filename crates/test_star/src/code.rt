@@ -25,7 +25,7 @@ enum As {
 
 /// A file's code as it is read.
 fn read_whole(alloc: Global, text: &Text) -> Result<String, Stop> {
-    let found = file_tokens(alloc, text, 2)?;
+    let found = file_tokens(alloc, text.as_str(), 2)?;
     file_in(alloc, &found)
 }
 
@@ -66,7 +66,7 @@ fn header_in(alloc: Global, found: &Tokens) -> Result<String, Stop>
 
 /// A comment's code as it is read.
 fn read_comment(alloc: Global, kind: As, text: &Text) -> Result<String, Stop> {
-    let found = tokens(alloc, text, 2, 1)?;
+    let found = tokens(alloc, text.as_str(), 2, 1)?;
     match kind {
         As::Expr | As::File => expr_in(alloc, &found),
         As::Args => args_in(alloc, &found),

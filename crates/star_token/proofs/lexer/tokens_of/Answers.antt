@@ -8,4 +8,4 @@ returns-in-Ok-clause-ended c = ended c.as_bytes.result.now 0 c.args.origin (at_l
 
 pub returns-in-Err-Refused-clause-cut : goal.returns-in-Err-Refused-clause-cut
 returns-in-Err-Refused-clause-cut c =
-    (record { fault = c.in-Err-Refused.kind; line = c.in-Err-Refused.line }, rw (c.in-Err-Refused.field-0-is, c.as_bytes.ensures.value, c.as_str.ensures) at c.in-Err-Refused.ensures, rw c.new.ensures refl)
+    (record { fault = c.in-Err-Refused.kind; line = c.in-Err-Refused.line }, rw (c.in-Err-Refused.field-0-is, c.as_bytes.ensures.value) at c.in-Err-Refused.ensures, rw c.new.ensures refl)
