@@ -1,25 +1,30 @@
 // The blocks that are open.
-ghost use Rattle.std.specs.Prelude.{◌≡◌, [], ◌∷◌, reverse, OnOk};
+ghost use Rattle.std.specs.Prelude.{◌≡◌, [], ◌∷◌, ◌++◌, reverse, OnOk};
+ghost use Rattle.star_build.specs.Around.{outermost};
 ghost use Rattle.star_grammar.specs.Language as spec;
+ghost use Rattle.star_grammar.specs.declared.part.Block.TheVariants as block;
 
 use star_grammar::{Block, Kind, Terminal};
 use std::alloc::Global;
 use std::marker::Model;
 use ytt_base::text::Memory;
 
-/// Blocks, seen as their list, the innermost first.
+/// Blocks, seen as their list, the innermost first. Where any block may be open around them, that stands behind them, and takes no
+/// memory.
 #[derive(Drop)]
 pub struct Blocks {
     blocks: Vec<Block>,
+    around: bool,
 }
 
 impl Model for Blocks {
-    ghost use Rattle.std.specs.Prelude.{List, reverse};
+    ghost use Rattle.std.specs.Prelude.{List, reverse, ◌++◌};
+    ghost use Rattle.star_build.specs.Around.{outermost};
     ghost use Rattle.star_grammar.specs.declared.part.Block.{Block};
 
     ghost Value = { List Block };
 
-    ghost view = { λ s. reverse s.blocks.items };
+    ghost view = { λ s. reverse s.blocks.items ++ outermost s.around };
 }
 
 fn block_of(kind: Kind) -> Block
@@ -33,24 +38,25 @@ fn block_of(kind: Kind) -> Block
 }
 
 /// Whether a function is around, where the innermost block stands last.
-fn is_in_function(blocks: &[Block]) -> bool
-    ensures { result ≡ spec.in_function (reverse blocks.now) }
+fn is_in_function(blocks: &[Block], around: bool) -> bool
+    ensures { result ≡ spec.in_function (reverse blocks.now ++ outermost around) }
 {
     match blocks.split_last() {
-        None => false,
+        None => around,
         Some((Block::Anywhere | Block::Function, _)) => true,
-        Some((Block::Loop | Block::Branch, outer)) => is_in_function(outer),
+        Some((Block::Loop | Block::Branch, outer)) => is_in_function(outer, around),
     }
 }
 
 /// Whether a loop of the same function is around, where the innermost block stands last.
-fn is_in_loop(blocks: &[Block]) -> bool
-    ensures { result ≡ spec.in_loop (reverse blocks.now) }
+fn is_in_loop(blocks: &[Block], around: bool) -> bool
+    ensures { result ≡ spec.in_loop (reverse blocks.now ++ outermost around) }
 {
     match blocks.split_last() {
-        None | Some((Block::Function, _)) => false,
+        None => around,
+        Some((Block::Function, _)) => false,
         Some((Block::Anywhere | Block::Loop, _)) => true,
-        Some((Block::Branch, outer)) => is_in_loop(outer),
+        Some((Block::Branch, outer)) => is_in_loop(outer, around),
     }
 }
 
@@ -61,10 +67,21 @@ impl Blocks {
     {
         Blocks {
             blocks: Vec::new(alloc),
+            around: false,
         }
     }
 
-    pub fn push(&mut self, block: Block) -> Result<(), Memory>
+    /// Any block may be open around. It takes no memory.
+    pub fn anywhere(alloc: Global) -> Blocks
+        ensures { result ≡ block.Anywhere ∷ [] }
+    {
+        Blocks {
+            blocks: Vec::new(alloc),
+            around: true,
+        }
+    }
+
+    fn push(&mut self, block: Block) -> Result<(), Memory>
         ensures { OnOk result (self.new ≡ block ∷ self.old) }
     {
         self.blocks.push(block)?;
@@ -74,7 +91,9 @@ impl Blocks {
     fn pop(&mut self)
         ensures { self.new ≡ spec.without_last self.old }
     {
-        self.blocks.pop();
+        if self.blocks.pop().is_none() {
+            self.around = false;
+        }
     }
 
     /// Opens or closes a block, where the token does.
@@ -95,19 +114,20 @@ impl Blocks {
     pub fn has_room(&self) -> bool
         ensures { result ≡ spec.has_room self.now }
     {
-        self.blocks.len() < 50
+        let most = if self.around { 49 } else { 50 };
+        self.blocks.len() < most
     }
 
     pub fn in_function(&self) -> bool
         ensures { result ≡ spec.in_function self.now }
     {
-        is_in_function(&self.blocks)
+        is_in_function(&self.blocks, self.around)
     }
 
     pub fn in_loop(&self) -> bool
         ensures { result ≡ spec.in_loop self.now }
     {
-        is_in_loop(&self.blocks)
+        is_in_loop(&self.blocks, self.around)
     }
 
     pub fn outside(&self) -> bool

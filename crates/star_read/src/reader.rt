@@ -1,5 +1,5 @@
 // The readers.
-ghost use Rattle.std.specs.Prelude.{◌≡◌, [], true, IfOk, OnOk};
+ghost use Rattle.std.specs.Prelude.{◌≡◌, [], true, OnOk};
 ghost use Rattle.star_grammar.specs.declared.start.Start.TheVariants as start;
 ghost use Rattle.star_grammar.specs.Parts.{expr_in, exprs_in};
 ghost use Rattle.star_grammar.specs.Reading as spec;
@@ -13,7 +13,7 @@ use crate::standing::{at_first, opens_too_many, stand_after};
 use ll::{Shape, Shapes};
 use sqlite_items::{Boxed, Items};
 use star_build::{Blocks, Parts, args_of, boxed_of, code_of, header_in};
-use star_grammar::{Block, Kind, Part, Rule, Stand, Start, Symbol, Terminal, Token};
+use star_grammar::{Kind, Part, Rule, Stand, Start, Symbol, Terminal, Token};
 use star_machine::{Item, Machine, Pending, is_low, step};
 use star_tables::kind_of;
 use star_token::Tokens;
@@ -24,6 +24,9 @@ use ytt_base::text::{Memory, Text};
 
 /// How many items are still to be read at once in most lines of code.
 const ROOM: usize = 32;
+
+/// How many parts stand beside one another at once in most lines of code.
+const PARTS: usize = 8;
 
 fn rule_of(start: Start) -> Rule
     ensures { result ≡ spec.rule_of start }
@@ -63,13 +66,12 @@ fn begin_shapes(start: Start, shapes: &mut Shapes) -> Result<(), Memory>
 }
 
 /// Around a comment's code any block may be open.
-fn begin_blocks(start: Start, blocks: &mut Blocks) -> Result<(), Memory>
-    requires { blocks.old ≡ [] }
-    ensures { OnOk result (blocks.new ≡ (spec.empty_of start).blocks) }
+fn begin_blocks(alloc: Global, start: Start) -> Blocks
+    ensures { result ≡ (spec.empty_of start).blocks }
 {
     match start {
-        Start::File => Ok(()),
-        _ => blocks.push(Block::Anywhere),
+        Start::File => Blocks::new(alloc),
+        _ => Blocks::anywhere(alloc),
     }
 }
 
@@ -93,11 +95,13 @@ fn begin(alloc: Global, start: Start, machine: &mut Machine) -> Result<(), Memor
 {
     let pending = &mut machine.pending;
     pending.reserve(ROOM)?;
+    machine.shapes.reserve(PARTS)?;
     pending.push(Item::Want(Symbol::Token(Terminal::Passed(Kind::TextEnd))))?;
     pending.push(Item::Want(Symbol::Rule(rule_of(start))))?;
     begin_parts(alloc, start, &mut machine.parts)?;
     begin_shapes(start, &mut machine.shapes)?;
-    begin_blocks(start, &mut machine.blocks)
+    machine.blocks = begin_blocks(alloc, start);
+    Ok(())
 }
 
 /// A fault on a line of a file.
