@@ -16,7 +16,7 @@ use Rattle.template_events.specs.Hearing.{rows_from}
 use Rattle.template_events.specs.Levels.{parts_in}
 use Rattle.template_events.specs.View.{rows_of}
 use Rattle.template_events.proofs.Alike.{bare_events, bare_rows, rows_alike}
-use Rattle.template_events.proofs.ByLevel.{all_by_level, parts_by_level}
+use Rattle.template_events.proofs.ByLevel.{parts_by_level}
 use Rattle.template_events.proofs.Raws.{raws_are}
 use Rattle.template_events.proofs.Started.{Starts, rows_start}
 

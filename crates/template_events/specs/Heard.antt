@@ -1,17 +1,21 @@
 -- What a call returned, beside rows and events.
-use Rattle.std.specs.Prelude.{◌≡◌, ℕ, Bool, true, false, List, ◌++◌, Option, Result, Ok, Err, Some, None, MatchOption, IfSome}
+use Rattle.std.specs.Prelude.{◌≡◌, ℕ, Bool, true, false, List, [], ◌∷◌, ◌++◌, option_map, Option, Result, Ok, Err, Some, None, MatchOption, IfSome}
 use Rattle.std.specs.Borrow.{Bor}
 use Rattle.ytt_base.specs.declared.fault.Stop.{Stop}
 use Rattle.ytt_base.specs.declared.fault.Stop.TheVariants as stop
 use Rattle.ytt_base.specs.Outcomes.{Outcome}
+use Rattle.yaml_noted.specs.declared.noted.NotedItem.{NotedItem}
+use Rattle.yaml_noted.specs.View.{comment_of, comments_of, content_of, note_of}
 use Rattle.yaml_spec.specs.Noted.{Documents, code_in}
+use Rattle.star_tree.specs.declared.program.ItemKind.{ItemKind}
+use Rattle.star_tree.specs.View.{item_kind_of}
 use Rattle.star_grammar.specs.CodeReaders.{IsCodeReader}
 use Rattle.code_spec.specs.CodeReading.{CodeReader}
 use Rattle.template_spec.specs.Events.{Event, events}
 use Rattle.notes_read.specs.Depths.{depth_of}
 use Rattle.template_pass.specs.Rows.{AreRows, Row}
-use Rattle.template_events.specs.Levels.{Part, parts_in}
-use Rattle.template_events.specs.Hearing.{behind, rows_from}
+use Rattle.template_events.specs.Levels.{Part, loose_all, owner, parts_in, start, trailing}
+use Rattle.template_events.specs.Hearing.{behind, let_go, rows_from}
 use Rattle.template_events.specs.View.{held_of, rows_of}
 use Rattle.template_events.specs.declared.event.Row as code
 use Rattle.template_events.specs.declared.hear.Held.{Held}
@@ -37,6 +41,18 @@ Goes before (Err stop.Memory) after = Unit {0}
 -- what is due where these parts follow: the rows so far, and behind them those of what is held and of the parts
 abbrev pub due : CodeReader → Setting → Hearing → List Part → Outcome (List Row)
 due r s h ps = behind (rows_of s.file h.rows.items) (rows_from r s.ignore_unknown s.file (held_of h.held) ps)
+
+-- the rows so far, and behind them that of what is held
+abbrev pub with_held : Setting → List code.Row → Option Held → CodeReader → Outcome (List Row)
+with_held s rows held r = behind (rows_of s.file rows) (let_go r s.ignore_unknown s.file (held_of held))
+
+-- an item as it begins, behind the comments before it
+abbrev pub begin_parts : (level : ℕ) → ItemKind → NotedItem → List Part
+begin_parts level kind i = loose_all (comments_of i.before) ++ start level (item_kind_of kind) (note_of i) (content_of i.content) ∷ []
+
+-- the comment of an item
+abbrev pub trailing_parts : (level : ℕ) → ItemKind → NotedItem → List Part
+trailing_parts level kind i = trailing (owner level (item_kind_of kind) (content_of i.content)) (option_map comment_of i.trailing)
 
 -- A step hears these parts, whatever follows.
 abbrev pub Hears : Setting → List Part → (old new : Hearing) → Result (Unit {0}) Stop → Type 0

@@ -1,7 +1,7 @@
 // The items and comments of documents, which are heard one after another.
 ghost use Rattle.std.specs.Prelude.{◌≡◌, ◌+◌, ◌++◌, [], ◌∷◌, IfOk, None, OnOk, option_map};
 ghost use Rattle.star_tree.specs.View.{item_kind_of};
-ghost use Rattle.template_events.specs.Heard.{AreHeard, AreKnown, Hears, HearsWhole, kept};
+ghost use Rattle.template_events.specs.Heard.{AreHeard, AreKnown, Hears, HearsWhole, begin_parts, kept, trailing_parts};
 ghost use Rattle.template_events.specs.Levels as spec;
 ghost use Rattle.template_events.specs.View.{owner_of, shape_of, start_of};
 ghost use Rattle.template_pass.specs.Flat.{first_is_flow, shape};
@@ -16,16 +16,6 @@ use yaml_noted::{Comments, Content, NotedDocs, NotedItem, NotedItems, RawComment
 use ytt_base::fault::Stop;
 use ytt_base::text::Memory;
 use ytt_base::tree::Key;
-
-fn copy_comment(comment: &RawComment) -> Result<RawComment, Memory>
-    ensures { IfOk result (λ c. c ≡ comment.now) }
-{
-    Ok(RawComment {
-        line: comment.line,
-        own_line: comment.own_line,
-        text: comment.text.copy()?,
-    })
-}
 
 fn copy_key(key: &Option<Key>) -> Result<Option<Key>, Memory>
     ensures { IfOk result (λ k. k ≡ key.now) }
@@ -101,28 +91,31 @@ fn owner(item: &NotedItem, kind: ItemKind, level: usize) -> Owner
     }
 }
 
-fn hear_loose(setting: Setting, comments: &Comments, hearing: &mut Hearing) -> Result<(), Stop>
+fn hear_loose<'a>(
+    setting: Setting,
+    comments: &'a Comments,
+    hearing: &mut Hearing<'a>,
+) -> Result<(), Stop>
     requires known { AreKnown hearing.old.held }
     ensures hears { Hears setting (spec.loose_all (comments_of comments.now)) hearing.old hearing.new result }
     ensures known { OnOk result (AreKnown hearing.new.held) }
 {
     for comment in comments.as_slice() {
-        let comment = copy_comment(comment)?;
         hear_comment(setting, None, comment, hearing)?;
     }
     Ok(())
 }
 
 /// The item begins, behind the comments before it.
-fn hear_begin(
+fn hear_begin<'a>(
     setting: Setting,
-    item: &NotedItem,
+    item: &'a NotedItem,
     kind: ItemKind,
     level: usize,
-    hearing: &mut Hearing,
+    hearing: &mut Hearing<'a>,
 ) -> Result<(), Stop>
     requires known { AreKnown hearing.old.held }
-    ensures hears { Hears setting (spec.loose_all (comments_of item.now.before) ++ spec.start level (item_kind_of kind) (note_of item.now) (content_of item.now.content) ∷ []) hearing.old hearing.new result }
+    ensures hears { Hears setting (begin_parts level kind item.now) hearing.old hearing.new result }
     ensures known { OnOk result (AreKnown hearing.new.held) }
 {
     hear_loose(setting, &item.before, hearing)?;
@@ -130,20 +123,19 @@ fn hear_begin(
     hear_start(setting, start, hearing)
 }
 
-fn hear_trailing(
+fn hear_trailing<'a>(
     setting: Setting,
-    item: &NotedItem,
+    item: &'a NotedItem,
     kind: ItemKind,
     level: usize,
-    hearing: &mut Hearing,
+    hearing: &mut Hearing<'a>,
 ) -> Result<(), Stop>
     requires known { AreKnown hearing.old.held }
-    ensures hears { Hears setting (spec.trailing (spec.owner level (item_kind_of kind) (content_of item.now.content)) (option_map comment_of item.now.trailing)) hearing.old hearing.new result }
+    ensures hears { Hears setting (trailing_parts level kind item.now) hearing.old hearing.new result }
     ensures known { OnOk result (AreKnown hearing.new.held) }
 {
     match &item.trailing {
         Some(comment) => {
-            let comment = copy_comment(comment)?;
             let owner = owner(item, kind, level);
             hear_comment(setting, Some(owner), comment, hearing)
         }
@@ -153,12 +145,12 @@ fn hear_trailing(
 
 /// Hears the comment of an item and what the item holds; a collection in brackets ends before the comment on its line.
 #[cycle(flat)]
-fn hear_inside(
+fn hear_inside<'a>(
     setting: Setting,
-    item: &NotedItem,
+    item: &'a NotedItem,
     kind: ItemKind,
     level: usize,
-    hearing: &mut Hearing,
+    hearing: &mut Hearing<'a>,
 ) -> Result<(), Stop>
     requires known { AreKnown hearing.old.held }
     ensures hears { Hears setting (spec.inside_item (item_kind_of kind) level (note_of item.now) (content_of item.now.content)) hearing.old hearing.new result }
@@ -176,11 +168,11 @@ fn hear_inside(
 /// Hears what an item of this level holds.
 #[cycle(flat)]
 #[tactic(auto, using(yaml_noted::proofs::Views::views))]
-fn hear_below(
+fn hear_below<'a>(
     setting: Setting,
-    content: &Content,
+    content: &'a Content,
     level: usize,
-    hearing: &mut Hearing,
+    hearing: &mut Hearing<'a>,
 ) -> Result<(), Stop>
     requires known { AreKnown hearing.old.held }
     ensures hears { Hears setting (spec.parts_below level (content_of content.now)) hearing.old hearing.new result }
@@ -198,12 +190,12 @@ fn hear_below(
 
 /// Hears items, each behind the comments before it, an outer one before an inner one.
 #[cycle(flat)]
-fn hear_items(
+fn hear_items<'a>(
     setting: Setting,
-    items: &NotedItems,
+    items: &'a NotedItems,
     kind: ItemKind,
     level: usize,
-    hearing: &mut Hearing,
+    hearing: &mut Hearing<'a>,
 ) -> Result<(), Stop>
     requires known { AreKnown hearing.old.held }
     ensures hears { Hears setting (spec.parts_among (item_kind_of kind) level (items_of items.now)) hearing.old hearing.new result }
@@ -217,7 +209,11 @@ fn hear_items(
 }
 
 /// Hears documents, and the comments behind the last item.
-fn hear_all(setting: Setting, docs: &NotedDocs, hearing: &mut Hearing) -> Result<(), Stop>
+fn hear_all<'a>(
+    setting: Setting,
+    docs: &'a NotedDocs,
+    hearing: &mut Hearing<'a>,
+) -> Result<(), Stop>
     requires known { AreKnown hearing.old.held }
     ensures hears { Hears setting (spec.parts_in (documents_of docs.now)) hearing.old hearing.new result }
 {
@@ -226,7 +222,11 @@ fn hear_all(setting: Setting, docs: &NotedDocs, hearing: &mut Hearing) -> Result
 }
 
 /// Hears documents from their begin, and lets go of what is held at their end.
-fn hear_whole(setting: Setting, docs: &NotedDocs, hearing: &mut Hearing) -> Result<(), Stop>
+fn hear_whole<'a>(
+    setting: Setting,
+    docs: &'a NotedDocs,
+    hearing: &mut Hearing<'a>,
+) -> Result<(), Stop>
     requires rows { hearing.old.rows.items ≡ [] }
     requires held { hearing.old.held ≡ None }
     ensures { HearsWhole setting (documents_of docs.now) hearing.new result }
@@ -236,8 +236,8 @@ fn hear_whole(setting: Setting, docs: &NotedDocs, hearing: &mut Hearing) -> Resu
 }
 
 /// The rows that were heard, or why not all were.
-fn rows_of(heard: Result<(), Stop>, hearing: Hearing) -> Result<Rows, Stop>
-    ensures { result ≡ kept heard hearing.rows }
+fn rows_of(heard: Result<(), Stop>, hearing: Hearing<'_>) -> Result<Rows, Stop>
+    ensures { result ≡ kept heard hearing.entry.rows }
 {
     let Hearing { rows, .. } = hearing;
     match heard {

@@ -6,7 +6,7 @@ ghost use Rattle.star_grammar.specs.CodeReaders.{GivesCode, IsCodeReader};
 ghost use Rattle.code_spec.specs.CodeReading.{CodeReader};
 ghost use Rattle.star_tree.specs.View.{item_kind_of};
 ghost use Rattle.template_events.specs.Hearing as spec;
-ghost use Rattle.template_events.specs.Heard.{AreKnown, Continues, Hears, IsKnown};
+ghost use Rattle.template_events.specs.Heard.{AreKnown, Continues, Hears, IsKnown, with_held};
 ghost use Rattle.template_events.specs.Levels as level;
 ghost use Rattle.template_events.specs.View as view;
 ghost use Rattle.template_events.specs.View.{held_by, held_of, owner_of, rows_of, start_of};
@@ -17,6 +17,7 @@ ghost use Rattle.yaml_spec.specs.Noted.{code_in, is_code};
 ghost use Rattle.ytt_base.specs.Outcomes.{place_at};
 
 use crate::event::{Owner, Row, Rows, Start};
+use crate::kept::Kept;
 use notes_read::{Comment, depth_behind_code, depth_of, read_comment};
 use std::alloc::Global;
 use std::mem;
@@ -34,10 +35,10 @@ pub struct Setting {
 
 /// A comment that may go on.
 #[derive(Drop)]
-pub struct Held {
+pub struct Held<'a> {
     /// The item to which it belongs.
     pub owner: Option<Owner>,
-    pub comment: RawComment,
+    pub comment: Kept<'a>,
     /// The line of its last part.
     pub last: u32,
     /// How many brackets are open at its end, if it is code, once that was counted.
@@ -46,9 +47,9 @@ pub struct Held {
 
 /// What was heard so far: rows, and the comment behind them that may go on.
 #[derive(Drop)]
-pub struct Hearing {
+pub struct Hearing<'a> {
     pub rows: Rows,
-    pub held: Option<Held>,
+    pub held: Option<Held<'a>>,
 }
 
 fn push(rows: &mut Rows, row: Row) -> Result<(), Memory>
@@ -86,18 +87,18 @@ fn some_open(depth: Option<u32>) -> bool
 }
 
 /// How many brackets are open at its end, if it is code. That is counted where something is asked of it: most comments go on nowhere.
-fn depth_now(alloc: Global, held: &Held) -> Result<Option<u32>, Memory>
+fn depth_now(alloc: Global, held: &Held<'_>) -> Result<Option<u32>, Memory>
     requires { IsKnown held.now }
     ensures { IfOk result (λ d. d ≡ depths.depth_of held.now.comment.text) }
 {
     match held.depth {
         Some(depth) => Ok(depth),
-        None => depth_of(alloc, &held.comment),
+        None => depth_of(alloc, held.comment.get()),
     }
 }
 
 /// Whether a comment is code that may go on.
-fn may_go_on(alloc: Global, held: &Held) -> Result<bool, Memory>
+fn may_go_on(alloc: Global, held: &Held<'_>) -> Result<bool, Memory>
     requires { IsKnown held.now }
     ensures { (r : CodeReader) → IsCodeReader r → (file : ℕ) → IfOk result (λ b. b ≡ (is_code held.now.comment.text && r.is_open (place_at file held.now.comment.line) (without_end (code_in held.now.comment.text)))) }
 {
@@ -108,7 +109,7 @@ fn may_go_on(alloc: Global, held: &Held) -> Result<bool, Memory>
 /// The code with which a comment of no item continues this one, or `None` where it doesn't.
 fn continuation<'a>(
     alloc: Global,
-    held: &Held,
+    held: &Held<'_>,
     below: &'a RawComment,
 ) -> Result<Option<&'a str>, Memory>
     requires { IsKnown held.now }
@@ -130,7 +131,7 @@ fn continuation<'a>(
 /// The code with which a comment continues what is held. The comment of an item continues none.
 fn going_on<'a>(
     alloc: Global,
-    held: &Option<Held>,
+    held: &Option<Held<'_>>,
     owner: Option<Owner>,
     below: &'a RawComment,
 ) -> Result<Option<&'a str>, Memory>
@@ -169,29 +170,35 @@ fn depth_behind(
 }
 
 /// What is held with more code, up to this line.
-fn grown_by(alloc: Global, held: Held, code: &str, line: u32) -> Result<Held, Memory>
+fn grown_by<'a>(alloc: Global, held: Held<'a>, code: &str, line: u32) -> Result<Held<'a>, Memory>
     requires { IsKnown held }
-    ensures grown { IfOk result (λ h. held_by h ≡ spec.grown_by (held_by held) code.now line) }
+    ensures grown { IfOk result (λ h. held_by h ≡ spec.grown_by (held_by held.entry) code.now line) }
     ensures known { IfOk result (λ h. IsKnown h) }
 {
     let before = depth_now(alloc, &held)?;
-    let comment = RawComment {
-        line: held.comment.line,
-        own_line: held.comment.own_line,
-        text: joined(alloc, held.comment.text.as_str(), code)?,
+    let comment = held.comment.get();
+    let longer = RawComment {
+        line: comment.line,
+        own_line: comment.own_line,
+        text: joined(alloc, comment.text.as_str(), code)?,
     };
-    let depth = depth_behind(alloc, before, code, &comment)?;
+    let depth = depth_behind(alloc, before, code, &longer)?;
     Ok(Held {
         owner: held.owner,
-        comment,
+        comment: held.comment.grown(longer),
         last: line,
         depth: Some(depth),
     })
 }
 
-fn grown(alloc: Global, held: Option<Held>, code: &str, line: u32) -> Result<Option<Held>, Memory>
+fn grown<'a>(
+    alloc: Global,
+    held: Option<Held<'a>>,
+    code: &str,
+    line: u32,
+) -> Result<Option<Held<'a>>, Memory>
     requires { AreKnown held }
-    ensures grown { IfOk result (λ h. held_of h ≡ spec.grown (held_of held) code.now line) }
+    ensures grown { IfOk result (λ h. held_of h ≡ spec.grown (held_of held.entry) code.now line) }
     ensures known { IfOk result (λ h. AreKnown h) }
 {
     match held {
@@ -201,14 +208,14 @@ fn grown(alloc: Global, held: Option<Held>, code: &str, line: u32) -> Result<Opt
 }
 
 /// A comment that is held from now on.
-fn held_from(owner: Option<Owner>, comment: RawComment) -> Held
-    ensures held { held_by result ≡ spec.held_from (option_map owner_of owner) (comment_of comment) }
+fn held_from<'a>(owner: Option<Owner>, comment: &'a RawComment) -> Held<'a>
+    ensures held { held_by result ≡ spec.held_from (option_map owner_of owner) (comment_of comment.now) }
     ensures known { IsKnown result }
 {
     let last = comment.line;
     Held {
         owner,
-        comment,
+        comment: Kept::new(comment),
         last,
         depth: None,
     }
@@ -234,16 +241,12 @@ fn spoken(owner: Option<Owner>, line: u32, said: Comment) -> Option<Row>
 }
 
 /// The row of a comment.
-fn heard(setting: Setting, held: Held) -> Result<Option<Row>, Stop>
-    ensures { GivesCode (view.rows_in setting.file) result (λ r. spec.heard r setting.ignore_unknown setting.file (held_by held)) }
+fn heard(setting: Setting, held: Held<'_>) -> Result<Option<Row>, Stop>
+    ensures { GivesCode (view.rows_in setting.file) result (λ r. spec.heard r setting.ignore_unknown setting.file (held_by held.entry)) }
 {
-    let said = read_comment(
-        setting.alloc,
-        &held.comment,
-        setting.file,
-        setting.ignore_unknown,
-    )?;
-    Ok(spoken(held.owner, held.comment.line, said))
+    let comment = held.comment.get();
+    let said = read_comment(setting.alloc, comment, setting.file, setting.ignore_unknown)?;
+    Ok(spoken(held.owner, comment.line, said))
 }
 
 /// Adds a row, if there is one.
@@ -257,8 +260,8 @@ fn add(row: Option<Row>, rows: &mut Rows) -> Result<(), Memory>
 }
 
 /// Adds the row of what is held.
-fn add_held(setting: Setting, held: Option<Held>, rows: &mut Rows) -> Result<(), Stop>
-    ensures { GivesCode (λ _. rows_of setting.file rows.new.items) result (λ r. spec.behind (rows_of setting.file rows.old.items) (spec.let_go r setting.ignore_unknown setting.file (held_of held))) }
+fn add_held(setting: Setting, held: Option<Held<'_>>, rows: &mut Rows) -> Result<(), Stop>
+    ensures { GivesCode (λ _. rows_of setting.file rows.new.items) result (with_held setting rows.old.items held.entry) }
 {
     match held {
         Some(held) => {
@@ -271,8 +274,8 @@ fn add_held(setting: Setting, held: Option<Held>, rows: &mut Rows) -> Result<(),
 }
 
 /// Lets go of what is held, and adds its row.
-pub fn let_go(setting: Setting, hearing: &mut Hearing) -> Result<(), Stop>
-    ensures rows { GivesCode (λ _. rows_of setting.file hearing.new.rows.items) result (λ r. spec.behind (rows_of setting.file hearing.old.rows.items) (spec.let_go r setting.ignore_unknown setting.file (held_of hearing.old.held))) }
+pub fn let_go(setting: Setting, hearing: &mut Hearing<'_>) -> Result<(), Stop>
+    ensures rows { GivesCode (λ _. rows_of setting.file hearing.new.rows.items) result (with_held setting hearing.old.rows.items hearing.old.held) }
     ensures held { hearing.new.held ≡ None }
 {
     let held = mem::replace(&mut hearing.held, None);
@@ -280,9 +283,9 @@ pub fn let_go(setting: Setting, hearing: &mut Hearing) -> Result<(), Stop>
 }
 
 /// Holds a comment from now on, where none is held.
-fn hold(owner: Option<Owner>, comment: RawComment, hearing: &mut Hearing)
+fn hold<'a>(owner: Option<Owner>, comment: &'a RawComment, hearing: &mut Hearing<'a>)
     requires { hearing.old.held ≡ None }
-    ensures held { held_of hearing.new.held ≡ Some (spec.held_from (option_map owner_of owner) (comment_of comment)) }
+    ensures held { held_of hearing.new.held ≡ Some (spec.held_from (option_map owner_of owner) (comment_of comment.now)) }
     ensures rows { hearing.new.rows ≡ hearing.old.rows }
     ensures known { AreKnown hearing.new.held }
 {
@@ -290,17 +293,17 @@ fn hold(owner: Option<Owner>, comment: RawComment, hearing: &mut Hearing)
 }
 
 /// Hears a comment: it continues what is held, or is held from now on.
-pub fn hear_comment(
+pub fn hear_comment<'a>(
     setting: Setting,
     owner: Option<Owner>,
-    comment: RawComment,
-    hearing: &mut Hearing,
+    comment: &'a RawComment,
+    hearing: &mut Hearing<'a>,
 ) -> Result<(), Stop>
     requires known { AreKnown hearing.old.held }
-    ensures hears { Hears setting (level.comment (option_map owner_of owner) (comment_of comment) ∷ []) hearing.old hearing.new result }
+    ensures hears { Hears setting (level.comment (option_map owner_of owner) (comment_of comment.now) ∷ []) hearing.old hearing.new result }
     ensures known { OnOk result (AreKnown hearing.new.held) }
 {
-    if let Some(code) = going_on(setting.alloc, &hearing.held, owner, &comment)? {
+    if let Some(code) = going_on(setting.alloc, &hearing.held, owner, comment)? {
         let held = mem::replace(&mut hearing.held, None);
         hearing.held = grown(setting.alloc, held, code, comment.line)?;
         return Ok(());
@@ -311,7 +314,7 @@ pub fn hear_comment(
 }
 
 /// Hears an item that begins: what is held ends before it.
-pub fn hear_start(setting: Setting, start: Start, hearing: &mut Hearing) -> Result<(), Stop>
+pub fn hear_start(setting: Setting, start: Start, hearing: &mut Hearing<'_>) -> Result<(), Stop>
     ensures hears { Hears setting (start_of start ∷ []) hearing.old hearing.new result }
     ensures known { OnOk result (AreKnown hearing.new.held) }
 {

@@ -7,6 +7,7 @@
 mod event;
 mod flat;
 mod hear;
+mod kept;
 
 pub use event::{Row, Rows, Start, Written};
 pub use flat::read_events;

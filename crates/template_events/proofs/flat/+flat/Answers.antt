@@ -1,4 +1,4 @@
-use Rattle.std.proofs.Common.{◌≡◌, ℕ, ◌<◌, List, [], ◌∷◌, ◌++◌, Ok, Err, get_or, length, map as each, append_assoc, if◌then◌else◌, option_map, rules, sym, ap, ◌∙◌}
+use Rattle.std.proofs.Common.{◌≡◌, ℕ, ◌<◌, List, [], ◌∷◌, ◌++◌, Ok, Err, get_or, length, map as each, append_assoc, option_map, rules, sym, ap, ◌∙◌}
 use Rattle.code_spec.specs.Program.{ItemKind}
 use Rattle.star_tree.specs.View.{item_kind_of}
 use Rattle.yaml_noted.proofs.Views.{noted_of-item}
