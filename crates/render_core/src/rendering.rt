@@ -19,6 +19,7 @@ use sqlite_items::Items;
 use star_eval::{Session, run_file};
 use star_resolve::Resolved;
 use std::alloc::Global;
+use template_tree::place;
 use yaml_held::reads_keyed;
 use yaml_read::{NotedDocs, has_code, plain_trees, read_noted};
 use ytt_base::fault::Stop;
@@ -46,9 +47,9 @@ fn build(
     requires { KeyedDocuments (documents_of documents) }
     ensures { GivesCode trees_of result (λ r. and_then (built (budget_of budget)) (template_passed r ignore_unknown 1 (documents_of documents))) }
 {
-    let passed = pass_template(alloc, documents, ignore_unknown)?;
-    drop(passed.template);
-    run_within(alloc, passed.program, budget)
+    let template = place(alloc, documents, 1, ignore_unknown)?;
+    let program = pass_template(alloc, template)?;
+    run_within(alloc, program, budget)
 }
 
 /// What noted documents mean: with code they are a template, which is built, and without they are

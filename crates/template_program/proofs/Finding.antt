@@ -37,6 +37,10 @@ earlier_turn all now next xs j x places one lt e first h k =
     ∙ ap (earlier now) (sym (first (drop (j + 1) xs)) ∙ ap places (ap (λ y. y ∷ drop (j + 1) xs) e ∙ sym (drop_more xs j x lt)))
     ∙ h
 
+-- one more turn, with these places in front of those that are left
+pub earlier_before : (all now next : Option Place) (before after one : List Place) → before ≡ one ++ after → earlier now before ≡ all → next ≡ earlier now one → earlier next after ≡ all
+earlier_before all now next before after one e h k = ap (λ o. earlier o after) k ∙ sym (earlier_then now one after) ∙ ap (earlier now) (sym e) ∙ h
+
 -- at the end of a loop
 pub earlier_done : {T : Type 0} (all now : Option Place) (xs : List T) (j : ℕ) (places : List T → List Place) → length xs ≤ j → places [] ≡ [] → earlier now (places (drop j xs)) ≡ all → now ≡ all
 earlier_done all now xs j places le e h = sym (earlier_none now) ∙ ap (earlier now) (sym e ∙ ap places (sym (drop_all j xs le))) ∙ h

@@ -4,5 +4,6 @@ pub mod Items
 pub mod Loading
 pub mod NamesKeep
 pub mod Resolving
+pub mod Sizes
 pub mod Telling
 pub mod Turns

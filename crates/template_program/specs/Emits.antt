@@ -1,5 +1,5 @@
 -- What is put behind the instructions of a program, with the numbers of its functions.
-use Rattle.std.specs.Prelude.{◌≡◌, ℕ, List, ◌++◌}
+use Rattle.std.specs.Prelude.{◌≡◌, ℕ, List, ◌∷◌, ◌++◌}
 use Rattle.code_spec.specs.Program.{Instruction}
 use Rattle.star_tree.specs.declared.code.Stmt.{Stmt}
 use Rattle.star_tree.specs.Whole.{instruction_of, instructions_of}
@@ -20,6 +20,10 @@ followed file code next is = instructions_of file code ++ (number_program is nex
 -- their functions, from `first` on; in what follows the numbers go on from `next`.
 pub record Emits (file : ℕ) (old new : List Stmt) (first next : ℕ) (code : List Instruction → List Instruction) : Type 0 where
   pub emitted : (is : List Instruction) → followed file new next is ≡ followed file old first (code is)
+
+-- one instruction, in front of what follows
+abbrev pub EmitsOne : (file : ℕ) → (old new : List Stmt) → (first next : ℕ) → Instruction → Type 0
+EmitsOne file old new first next i = Emits file old new first next (λ is. i ∷ is)
 
 -- what a node of a file holds
 abbrev pub held : (file : ℕ) → TNode → Content

@@ -5,12 +5,12 @@ ghost use Rattle.code_spec.specs.Program.{Instruction, begin_def, begin_elif, be
 ghost use Rattle.star_tree.specs.View.{item_kind_of};
 ghost use Rattle.star_tree.specs.Whole.{expr_of, instruction_of, parameters_of};
 ghost use Rattle.template_tree.specs.View.{code_of, in_key, notes_of};
-ghost use Rattle.template_program.specs.Emits.{Emits, Numbered};
+ghost use Rattle.template_program.specs.Emits.{Emits, EmitsOne, Numbered};
 ghost use Rattle.template_spec.specs.Compiled.{item_code, key_code, notes_code};
 ghost use Rattle.ytt_base.specs.Outcomes.{place_at};
 
 use sqlite_items::{Boxed, Items};
-use star_number::{number_boxed, number_exprs, number_params, number_simple, take};
+use star_number::{number_exprs, number_owned, number_params, number_simple, take};
 use star_tree::ItemKind;
 use star_tree::code::{Expr, NodeOp, Params, Stmt};
 use std::alloc::Global;
@@ -21,7 +21,7 @@ use ytt_base::tree::Key;
 
 /// Puts an instruction, which has its numbers, behind the others.
 pub(crate) fn put(code: &mut Items<Stmt>, stmt: Stmt) -> Result<(), Memory>
-    ensures { (file first next : ℕ) (i : Instruction) → Numbered file stmt first next i → OnOk result (Emits file code.old code.new first next (λ is. i ∷ is)) }
+    ensures { (file first next : ℕ) (i : Instruction) → Numbered file stmt first next i → OnOk result (EmitsOne file code.old code.new first next i) }
 {
     code.push(stmt)?;
     Ok(())
@@ -50,11 +50,11 @@ pub(crate) fn put_notes(
 }
 
 /// Puts the key of a pair behind the instructions, where the node has one.
-pub(crate) fn put_key(place: Place, key: &Option<Key>, code: &mut Items<Stmt>) -> Result<(), Memory>
-    ensures { (file next : ℕ) → OnOk result (Emits file code.old code.new next next (key_code place (in_key key.now))) }
+pub(crate) fn put_key(place: Place, key: Option<Key>, code: &mut Items<Stmt>) -> Result<(), Memory>
+    ensures { (file next : ℕ) → OnOk result (Emits file code.old code.new next next (key_code place (in_key key))) }
 {
     match key {
-        Some(written) => put(code, Stmt::Node(NodeOp::Key(place, written.copy()?))),
+        Some(written) => put(code, Stmt::Node(NodeOp::Key(place, written))),
         None => Ok(()),
     }
 }
@@ -63,13 +63,13 @@ pub(crate) fn put_key(place: Place, key: &Option<Key>, code: &mut Items<Stmt>) -
 pub(crate) fn put_simple(
     alloc: Global,
     file: u32,
-    stmt: &Stmt,
+    stmt: Stmt,
     next: &mut usize,
     code: &mut Items<Stmt>,
 ) -> Result<(), Memory>
-    ensures { OnOk result (Emits file code.old code.new next.old next.new (item_code (code_of file (instruction_of file stmt.now)))) }
+    ensures { OnOk result (Emits file code.old code.new next.old next.new (item_code (code_of file (instruction_of file stmt)))) }
 {
-    let simple = number_simple(alloc, file, stmt, next)?;
+    let simple = number_simple(alloc, file, &stmt, next)?;
     put(code, simple)
 }
 
@@ -78,13 +78,13 @@ pub(crate) fn put_if(
     alloc: Global,
     file: u32,
     line: u32,
-    test: &Boxed<Expr>,
+    test: Boxed<Expr>,
     next: &mut usize,
     code: &mut Items<Stmt>,
 ) -> Result<(), Memory>
-    ensures { OnOk result (Emits file code.old code.new next.old next.new (λ is. begin_if (place_at file line) (expr_of file test.now) ∷ is)) }
+    ensures { OnOk result (EmitsOne file code.old code.new next.old next.new (begin_if (place_at file line) (expr_of file test))) }
 {
-    let test = number_boxed(alloc, file, test, next)?;
+    let test = number_owned(alloc, file, test, next)?;
     put(code, Stmt::If(line, test))
 }
 
@@ -93,13 +93,13 @@ pub(crate) fn put_elif(
     alloc: Global,
     file: u32,
     line: u32,
-    test: &Boxed<Expr>,
+    test: Boxed<Expr>,
     next: &mut usize,
     code: &mut Items<Stmt>,
 ) -> Result<(), Memory>
-    ensures { OnOk result (Emits file code.old code.new next.old next.new (λ is. begin_elif (place_at file line) (expr_of file test.now) ∷ is)) }
+    ensures { OnOk result (EmitsOne file code.old code.new next.old next.new (begin_elif (place_at file line) (expr_of file test))) }
 {
-    let test = number_boxed(alloc, file, test, next)?;
+    let test = number_owned(alloc, file, test, next)?;
     put(code, Stmt::Elif(line, test))
 }
 
@@ -108,15 +108,15 @@ pub(crate) fn put_for(
     alloc: Global,
     file: u32,
     line: u32,
-    target: &Boxed<Expr>,
-    members: &Boxed<Expr>,
+    target: Boxed<Expr>,
+    members: Boxed<Expr>,
     next: &mut usize,
     code: &mut Items<Stmt>,
 ) -> Result<(), Memory>
-    ensures { OnOk result (Emits file code.old code.new next.old next.new (λ is. begin_for (place_at file line) (expr_of file target.now) (expr_of file members.now) ∷ is)) }
+    ensures { OnOk result (EmitsOne file code.old code.new next.old next.new (begin_for (place_at file line) (expr_of file target) (expr_of file members))) }
 {
-    let target = number_boxed(alloc, file, target, next)?;
-    let members = number_boxed(alloc, file, members, next)?;
+    let target = number_owned(alloc, file, target, next)?;
+    let members = number_owned(alloc, file, members, next)?;
     put(code, Stmt::For(line, target, members))
 }
 
@@ -126,16 +126,15 @@ pub(crate) fn put_def(
     alloc: Global,
     file: u32,
     line: u32,
-    name: &Text,
-    params: &Params,
+    name: Text,
+    params: Params,
     fragment: Option<ItemKind>,
     next: &mut usize,
     code: &mut Items<Stmt>,
 ) -> Result<(), Memory>
-    ensures { OnOk result (Emits file code.old code.new next.old next.new (λ is. begin_def (place_at file line) 0 (option_map item_kind_of fragment) name.now (parameters_of file params.now) ∷ is)) }
+    ensures { OnOk result (EmitsOne file code.old code.new next.old next.new (begin_def (place_at file line) 0 (option_map item_kind_of fragment) name (parameters_of file params))) }
 {
     let number = take(next)?;
-    let copied = name.copy()?;
-    let params = number_params(alloc, file, params, next)?;
-    put(code, Stmt::Def(line, number, fragment, copied, params))
+    let numbered = number_params(alloc, file, &params, next)?;
+    put(code, Stmt::Def(line, number, fragment, name, numbered))
 }

@@ -27,11 +27,11 @@ use ytt_base::text::Text;
 /// The program of a template with the variable of each of its names and the number of each of its functions,
 /// where each name is bound, in the template or by the language. The first in text order that is not is a fault
 /// of the kind NameUnknown at its place, with the name as the detail.
-fn bound(alloc: Global, template: &Template) -> Result<Resolved, Stop>
-    ensures passes { Gives (λ r. template_of template.now) result (bound (template_of template.now)) }
-    ensures code { IfOk result (λ r. program_of r.program ≡ compiled (numbered (template_of template.now))) }
+fn bound(alloc: Global, template: Template) -> Result<Resolved, Stop>
+    ensures passes { Gives (λ r. template_of template) result (bound (template_of template)) }
+    ensures code { IfOk result (λ r. program_of r.program ≡ compiled (numbered (template_of template))) }
     ensures globals { IfOk result (λ r. r.globals ≡ each_once (program_names (program_of r.program))) }
-    ensures file { IfOk result (λ r. r.program.file ≡ template.now.file) }
+    ensures file { IfOk result (λ r. r.program.file ≡ template.file) }
 {
     let program = program(alloc, template)?;
     let builtins = language_names(alloc)?;
@@ -46,16 +46,17 @@ fn bound(alloc: Global, template: &Template) -> Result<Resolved, Stop>
 /// The first name in text order that is bound neither in the template nor by the language is a fault of the
 /// kind NameUnknown at its place, with the name as the detail. Behind that, where something isn't built, the
 /// first such place at the least line is a fault of the kind NotBuilt. Want of memory is `Stop::Memory`.
-pub fn compile(alloc: Global, template: &Template) -> Result<Resolved, Stop>
-    ensures passes { Gives (λ r. template_of template.now) result (and_then all_built (bound (template_of template.now))) }
-    ensures code { IfOk result (λ r. program_of r.program ≡ compiled (numbered (template_of template.now))) }
-    ensures runs { IfOk result (λ r. (host : Host (Unit {0})) → WordsStand free (template_of template.now) → Agrees starlark host (program_of r.program) (numbered (template_of template.now))) }
+pub fn compile(alloc: Global, template: Template) -> Result<Resolved, Stop>
+    ensures passes { Gives (λ r. template_of template) result (and_then all_built (bound (template_of template))) }
+    ensures code { IfOk result (λ r. program_of r.program ≡ compiled (numbered (template_of template))) }
+    ensures runs { IfOk result (λ r. (host : Host (Unit {0})) → WordsStand free (template_of template) → Agrees starlark host (program_of r.program) (numbered (template_of template))) }
     ensures loads { IfOk result (λ r. loads_in (blocks (program_of r.program)) ≡ []) }
     ensures globals { IfOk result (λ r. r.globals ≡ each_once (program_names (program_of r.program))) }
-    ensures file { IfOk result (λ r. r.program.file ≡ template.now.file) }
+    ensures file { IfOk result (λ r. r.program.file ≡ template.file) }
 {
+    let unbuilt = first_unbuilt(&template);
     let resolved = bound(alloc, template)?;
-    match first_unbuilt(template) {
+    match unbuilt {
         None => Ok(resolved),
         Some(place) => Err(Stop::Fault(Fault {
             kind: FaultKind::NotBuilt,

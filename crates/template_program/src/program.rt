@@ -1,17 +1,17 @@
 // Items as instructions, with the numbers of their functions. `next` is the next number.
 ghost use Rattle.std.specs.Prelude.{◌≡◌, ℕ, IfOk, OnOk};
 ghost use Rattle.star_tree.specs.Whole.{program_of};
-ghost use Rattle.template_tree.specs.View.{branches_of, content_of, item_of, items_of, node_of, template_of};
-ghost use Rattle.template_program.specs.Emits.{Emits, held};
+ghost use Rattle.template_tree.specs.View.{branches_of, content_of, in_content, item_of, items_of, node_of, template_of};
+ghost use Rattle.template_program.specs.Emits.{Emits};
 ghost use Rattle.template_spec.specs.Compiled.{branches_code, compiled, content_code, item_code, items_code};
 ghost use Rattle.template_spec.specs.Numbered.{numbered};
 ghost use Rattle.ytt_base.specs.Outcomes.{place_at};
 
 use crate::holds::{fragment, holds};
 use crate::parts::{put, put_def, put_elif, put_for, put_if, put_key, put_notes, put_simple};
-use sqlite_items::Items;
-use star_number::number_boxed;
-use star_tree::code::{NodeOp, Program, Stmt};
+use sqlite_items::{Boxed, Items};
+use star_number::number_owned;
+use star_tree::code::{Expr, NodeOp, Program, Stmt};
 use std::alloc::Global;
 use template_tree::{TBranches, TContent, TItem, TItems, TNode, Template};
 use ytt_base::fault::Place;
@@ -21,30 +21,28 @@ use ytt_base::text::Memory;
 /// a part of a node for each start, note, key, value and end, in the order of the text. A block is closed
 /// at its own line. The number of each function is how many others begin before it in the text. `Memory` comes
 /// where there was no room.
-pub(crate) fn program(alloc: Global, template: &Template) -> Result<Program, Memory>
-    ensures code { IfOk result (λ p. program_of p ≡ compiled (numbered (template_of template.now))) }
-    ensures file { IfOk result (λ p. p.file ≡ template.now.file) }
+pub(crate) fn program(alloc: Global, template: Template) -> Result<Program, Memory>
+    ensures code { IfOk result (λ p. program_of p ≡ compiled (numbered (template_of template))) }
+    ensures file { IfOk result (λ p. p.file ≡ template.file) }
 {
     let mut next = 0;
     let mut code = Items::new(alloc);
-    put_items(alloc, template.file, &template.items, &mut next, &mut code)?;
-    Ok(Program {
-        file: template.file,
-        code,
-    })
+    let Template { file, items } = template;
+    put_items(alloc, file, items, &mut next, &mut code)?;
+    Ok(Program { file, code })
 }
 
 #[cycle(compile)]
 fn put_items(
     alloc: Global,
     file: u32,
-    items: &TItems,
+    mut items: TItems,
     next: &mut usize,
     code: &mut Items<Stmt>,
 ) -> Result<(), Memory>
-    ensures { OnOk result (Emits file code.old code.new next.old next.new (items_code (items_of file items.now))) }
+    ensures { OnOk result (Emits file code.old code.new next.old next.new (items_code (items_of file items))) }
 {
-    for item in items.as_slice() {
+    while let Some(item) = items.pop() {
         put_item(alloc, file, item, next, code)?;
     }
     Ok(())
@@ -54,11 +52,11 @@ fn put_items(
 fn put_item(
     alloc: Global,
     file: u32,
-    item: &TItem,
+    item: TItem,
     next: &mut usize,
     code: &mut Items<Stmt>,
 ) -> Result<(), Memory>
-    ensures { OnOk result (Emits file code.old code.new next.old next.new (item_code (item_of file item.now))) }
+    ensures { OnOk result (Emits file code.old code.new next.old next.new (item_code (item_of file item))) }
 {
     match item {
         TItem::Node(node) => put_node(alloc, file, node, next, code),
@@ -74,7 +72,7 @@ fn put_item(
             put(code, Stmt::Close(place.line))
         }
         TItem::Def(place, name, params, kind, body) => {
-            let builds = fragment(*kind, body);
+            let builds = fragment(kind, &body);
             put_def(alloc, file, place.line, name, params, builds, next, code)?;
             put_items(alloc, file, body, next, code)?;
             put(code, Stmt::Close(place.line))
@@ -87,11 +85,11 @@ fn put_branches(
     alloc: Global,
     file: u32,
     line: u32,
-    branches: &TBranches,
+    branches: TBranches,
     next: &mut usize,
     code: &mut Items<Stmt>,
 ) -> Result<(), Memory>
-    ensures { OnOk result (Emits file code.old code.new next.old next.new (branches_code (place_at file line) (branches_of file branches.now))) }
+    ensures { OnOk result (Emits file code.old code.new next.old next.new (branches_code (place_at file line) (branches_of file branches))) }
 {
     match branches {
         TBranches::Nothing => put(code, Stmt::Close(line)),
@@ -103,7 +101,7 @@ fn put_branches(
         TBranches::Elif(place, test, body, more) => {
             put_elif(alloc, file, place.line, test, next, code)?;
             put_items(alloc, file, body, next, code)?;
-            put_branches(alloc, file, line, more.get(), next, code)
+            put_branches(alloc, file, line, more.into_inner(), next, code)
         }
     }
 }
@@ -112,38 +110,46 @@ fn put_branches(
 fn put_node(
     alloc: Global,
     file: u32,
-    node: &TNode,
+    node: TNode,
     next: &mut usize,
     code: &mut Items<Stmt>,
 ) -> Result<(), Memory>
-    ensures { OnOk result (Emits file code.old code.new next.old next.new (item_code (node_of file node.now))) }
+    ensures { OnOk result (Emits file code.old code.new next.old next.new (item_code (node_of file node))) }
 {
-    put(
-        code,
-        Stmt::Node(NodeOp::Start(node.place, node.kind, holds(node))),
-    )?;
-    put_notes(alloc, file, &node.notes, next, code)?;
-    put_key(node.place, &node.key, code)?;
-    put_content(alloc, file, node, next, code)?;
-    put(code, Stmt::Node(NodeOp::End(node.place)))
+    let holds = holds(&node);
+    let TNode {
+        place,
+        kind,
+        key,
+        notes,
+        value,
+        content,
+    } = node;
+    put(code, Stmt::Node(NodeOp::Start(place, kind, holds)))?;
+    put_notes(alloc, file, &notes, next, code)?;
+    put_key(place, key, code)?;
+    put_content(alloc, file, place, content, value, next, code)?;
+    put(code, Stmt::Node(NodeOp::End(place)))
 }
 
 #[cycle(compile)]
 fn put_content(
     alloc: Global,
     file: u32,
-    node: &TNode,
+    place: Place,
+    content: TContent,
+    value: Option<Boxed<Expr>>,
     next: &mut usize,
     code: &mut Items<Stmt>,
 ) -> Result<(), Memory>
-    ensures { OnOk result (Emits file code.old code.new next.old next.new (content_code node.now.place (held file node.now))) }
+    ensures { OnOk result (Emits file code.old code.new next.old next.new (content_code place (in_content file value (content_of file content)))) }
 {
-    match &node.value {
+    match value {
         Some(expr) => {
-            let value = number_boxed(alloc, file, expr, next)?;
-            put(code, Stmt::Node(NodeOp::ValueFrom(node.place, value)))
+            let numbered = number_owned(alloc, file, expr, next)?;
+            put(code, Stmt::Node(NodeOp::ValueFrom(place, numbered)))
         }
-        None => put_written(alloc, file, node.place, &node.content, next, code),
+        None => put_written(alloc, file, place, content, next, code),
     }
 }
 
@@ -152,14 +158,14 @@ fn put_written(
     alloc: Global,
     file: u32,
     place: Place,
-    content: &TContent,
+    content: TContent,
     next: &mut usize,
     code: &mut Items<Stmt>,
 ) -> Result<(), Memory>
-    ensures { OnOk result (Emits file code.old code.new next.old next.new (content_code place (content_of file content.now))) }
+    ensures { OnOk result (Emits file code.old code.new next.old next.new (content_code place (content_of file content))) }
 {
     match content {
-        TContent::Scalar(scalar) => put(code, Stmt::Node(NodeOp::Value(place, scalar.copy()?))),
+        TContent::Scalar(scalar) => put(code, Stmt::Node(NodeOp::Value(place, scalar))),
         TContent::Map(pairs) => put_items(alloc, file, pairs, next, code),
         TContent::List(elements) => put_items(alloc, file, elements, next, code),
     }

@@ -63,8 +63,11 @@ fn see_function(file: u32, line: u32, body: &TItems, first: &mut Option<Place>)
 fn see_items(file: u32, items: &TItems, first: &mut Option<Place>)
     ensures { first.new ≡ earlier first.old (unbuilt_items (items_of file items.now)) }
 {
-    for item in items.as_slice() {
-        see_item(file, item, first);
+    let items = items.as_slice();
+    let mut left = items.len();
+    while left > 0 {
+        left -= 1;
+        see_item(file, &items[left], first);
     }
 }
 

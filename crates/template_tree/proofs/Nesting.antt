@@ -35,10 +35,10 @@ use Rattle.template_tree.proofs.Views.{item_of-Node, item_of-Code, item_of-If, i
 pub nested_of-Broken : (file : ℕ) → nested_of file held.Broken ≡ broken
 nested_of-Broken file = search (rules, the_lemmas)
 
-pub nested_of-AtTop : (file : ℕ) (is : Vec TItem Global) → nested_of file (held.AtTop is) ≡ at_top (items_of file (reverse is.items))
+pub nested_of-AtTop : (file : ℕ) (is : Vec TItem Global) → nested_of file (held.AtTop is) ≡ at_top (items_of file is.items)
 nested_of-AtTop file is = search (rules, the_lemmas)
 
-pub nested_of-Inside : (file : ℕ) (is : Vec TItem Global) (more : TBranches) (outer : Nested) → nested_of file (held.Inside is more outer) ≡ inside (items_of file (reverse is.items)) (branches_of file more) (nested_of file outer)
+pub nested_of-Inside : (file : ℕ) (is : Vec TItem Global) (more : TBranches) (outer : Nested) → nested_of file (held.Inside is more outer) ≡ inside (items_of file is.items) (branches_of file more) (nested_of file outer)
 nested_of-Inside file is more outer = search (rules, the_lemmas)
 
 pub ruleset nests = (nested_of-Broken, nested_of-AtTop, nested_of-Inside, item_of-Code, item_of-If, item_of-For, item_of-Def, branches_of-Nothing, branches_of-Else, branches_of-Elif)
@@ -95,7 +95,7 @@ pub nesting_starts : (file : ℕ) (kind : ItemKind) (all left : List Part) (none
 nesting_starts file kind all left none e f = record {
   done = [];
   whole = sym (reverse-reverse all) ∙ ap reverse (sym e);
-  is_nested = nested_of-AtTop file none ∙ ap (λ (is : List TItem). at_top (items_of file (reverse is))) f;
+  is_nested = nested_of-AtTop file none ∙ ap (λ (is : List TItem). at_top (items_of file is)) f;
 }
 
 pub nesting_goes_on : (file : ℕ) (kind : ItemKind) (all left left2 : List Part) (p : Part) (nested nested2 : Nested) → IsNesting file kind all left nested → left ≡ left2 ++ p ∷ []
@@ -167,13 +167,13 @@ no_else p is no_branch o e = cc
 no_else p is (else_branch q js) o e = refl
 no_else p is (elif_branch q z js m) o e = refl
 
-pub else_given : (file : ℕ) (p : Place) (n : Nested) (is new : Vec TItem Global) (body : List TItem) (more : TBranches) (outer : Nested) → n ≡ held.Inside is more outer → true ≡ is_no_branch (branches_of file more) → body ≡ reverse is.items → new.items ≡ []
+pub else_given : (file : ℕ) (p : Place) (n : Nested) (is new : Vec TItem Global) (body : List TItem) (more : TBranches) (outer : Nested) → n ≡ held.Inside is more outer → true ≡ is_no_branch (branches_of file more) → body ≡ is.items → new.items ≡ []
     → nested_of file (held.Inside new (branches.Else p body) outer) ≡ nesting.last_branch (place_at file p.line) (nested_of file n)
 else_given file p n is new body more outer e b t f =
     nested_of-Inside file new (branches.Else p body) outer
-    ∙ ap (λ (js : List TItem). inside (items_of file (reverse js)) (branches_of file (branches.Else p body)) (nested_of file outer)) f
+    ∙ ap (λ (js : List TItem). inside (items_of file js) (branches_of file (branches.Else p body)) (nested_of file outer)) f
     ∙ ap (λ (m : Branches). inside no_items m (nested_of file outer)) (branches_of-Else file p body ∙ ap (λ (js : List TItem). else_branch (place_at file p.line) (items_of file js)) t)
-    ∙ ap (λ (m : Branches). nesting.last_branch (place_at file p.line) (inside (items_of file (reverse is.items)) m (nested_of file outer))) (sym (branch_is (branches_of file more) b))
+    ∙ ap (λ (m : Branches). nesting.last_branch (place_at file p.line) (inside (items_of file is.items) m (nested_of file outer))) (sym (branch_is (branches_of file more) b))
     ∙ ap (nesting.last_branch (place_at file p.line)) (sym (nested_of-Inside file is more outer) ∙ ap (nested_of file) (sym e))
 
 pub inside_as : (file : ℕ) (is : Vec TItem Global) (more same : TBranches) (outer other : Nested) → more ≡ same → outer ≡ other → nested_of file (held.Inside is more outer) ≡ nested_of file (held.Inside is same other)
@@ -182,14 +182,11 @@ inside_as file is more same outer other e h = λ i. nested_of file (held.Inside 
 pub else_not_given : (file : ℕ) (p : Place) (n : Nested) (is : Vec TItem Global) (more : TBranches) (outer : Nested) → n ≡ held.Inside is more outer → false ≡ is_no_branch (branches_of file more)
     → nested_of file held.Broken ≡ nesting.last_branch (place_at file p.line) (nested_of file n)
 else_not_given file p n is more outer e b =
-    nested_of-Broken file ∙ no_else (place_at file p.line) (items_of file (reverse is.items)) (branches_of file more) (nested_of file outer) b
+    nested_of-Broken file ∙ no_else (place_at file p.line) (items_of file is.items) (branches_of file more) (nested_of file outer) b
     ∙ ap (nesting.last_branch (place_at file p.line)) (sym (nested_of-Inside file is more outer) ∙ ap (nested_of file) (sym e))
 
-front_pushed : (file : ℕ) (items rest : List TItem) (i : TItem) → items ≡ rest ++ i ∷ [] → items_of file (reverse items) ≡ an_item (item_of file i) (items_of file (reverse rest))
-front_pushed file items rest i e = ap (items_of file) (ap reverse e ∙ reverse-append rest (i ∷ []))
-
 pub block_opened : (file : ℕ) (kind : ItemKind) (p : Place) (h : plain_header.Header) (n : Nested) (items : Vec TItem Global) (body : List TItem) (more : TBranches) (outer inner : Nested) (b : Option Item) (front : nesting.Nested) → n ≡ held.Inside items more outer
-    → body ≡ reverse items.items → inner ≡ outer → b ≡ nesting.block_of kind p h (items_of file body) (branches_of file more) → front ≡ nesting.put_block b (nested_of file inner) → front ≡ nesting.open_block kind p h (nested_of file n)
+    → body ≡ items.items → inner ≡ outer → b ≡ nesting.block_of kind p h (items_of file body) (branches_of file more) → front ≡ nesting.put_block b (nested_of file inner) → front ≡ nesting.open_block kind p h (nested_of file n)
 block_opened file kind p h n items body more outer inner b front e t o k f =
     f ∙ (λ j. nesting.put_block (k j) (nested_of file (o j))) ∙ ap (λ (is : List TItem). nesting.put_block (nesting.block_of kind p h (items_of file is) (branches_of file more)) (nested_of file outer)) t
     ∙ ap (nesting.open_block kind p h) (sym (nested_of-Inside file items more outer) ∙ ap (nested_of file) (sym e))

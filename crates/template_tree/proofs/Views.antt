@@ -1,5 +1,6 @@
 -- The plain items of each form of item, branches, node and content.
-use Rattle.std.proofs.Common.{◌≡◌, ℕ, List, rules}
+use Rattle.std.proofs.Common.{◌≡◌, ℕ, List, [], ◌∷◌, ◌++◌, map as each, ap, ◌∙◌, rules}
+use Rattle.std.proofs.lemmas.List.{map-append, reverse-append}
 use Rattle.ytt_base.specs.declared.fault.Place.{Place}
 use Rattle.ytt_base.specs.declared.tree.Key.{Key}
 use Rattle.ytt_base.specs.Outcomes.{place_at}
@@ -10,7 +11,7 @@ use Rattle.star_tree.specs.declared.code.Stmt.{Stmt}
 use Rattle.star_tree.specs.declared.program.ItemKind.{ItemKind}
 use Rattle.star_tree.specs.View.{item_kind_of}
 use Rattle.star_tree.specs.Whole.{expr_of, instruction_of, parameters_of}
-use Rattle.template_spec.specs.Template.{node, if_block, for_block, def_block, no_branch, else_branch, elif_branch, written_value, pairs, elements}
+use Rattle.template_spec.specs.Template.{an_item, node, if_block, for_block, def_block, no_branch, else_branch, elif_branch, written_value, pairs, elements}
 use Rattle.template_tree.specs.declared.tree.TBranches.{TBranches}
 use Rattle.template_tree.specs.declared.tree.TBranches as branches
 use Rattle.template_tree.specs.declared.tree.TContent as content
@@ -18,7 +19,7 @@ use Rattle.template_tree.specs.declared.tree.TBranches.{the_lemmas}
 use Rattle.template_tree.specs.declared.tree.TItem as held
 use Rattle.template_tree.specs.declared.tree.TItem.{TItem}
 use Rattle.template_tree.specs.declared.tree.TNode.{TNode}
-use Rattle.template_tree.specs.View.{branches_of, code_of, content_of, in_content, in_key, item_of, items_of, node_of, notes_of}
+use Rattle.template_tree.specs.View.{branches_of, code_of, content_of, in_content, in_items, in_key, in_order, item_of, items_of, node_of, notes_of}
 
 pub item_of-Node : (file : ℕ) (n : TNode) → item_of file (held.Node n) ≡ node_of file n
 item_of-Node file n = search (rules, the_lemmas)
@@ -60,3 +61,7 @@ content_of-List file is = search (rules, the_lemmas)
 
 -- the plain items, once the form is known
 pub ruleset templates = (item_of-Node, item_of-Code, item_of-If, item_of-For, item_of-Def, branches_of-Nothing, branches_of-Else, branches_of-Elif, node_of-node, content_of-Scalar, content_of-Map, content_of-List)
+
+-- one item behind the others is the first of the text
+pub items_of-last : (file : ℕ) (is : List TItem) (i : TItem) → items_of file (is ++ i ∷ []) ≡ an_item (item_of file i) (items_of file is)
+items_of-last file is i = ap in_items (map-append (item_of file) is (i ∷ [])) ∙ ap in_order (reverse-append (each (item_of file) is) (item_of file i ∷ []))

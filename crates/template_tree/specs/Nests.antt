@@ -23,14 +23,10 @@ part_of file (part.Mark l c) = a_mark l (said_of file c)
 abbrev pub parts_of : (file : ℕ) → List Part → List nesting.Part
 parts_of file ps = each (part_of file) (reverse ps)
 
--- the items that were read, the first one last
-abbrev pub front_of : (file : ℕ) → List TItem → Items
-front_of file is = items_of file (reverse is)
-
 abbrev pub nested_step : (file : ℕ) → Nested-F nesting.Nested → nesting.Nested
 nested_step file Nested-F.Broken = broken
-nested_step file (Nested-F.AtTop is) = at_top (front_of file is.items)
-nested_step file (Nested-F.Inside is more outer) = inside (front_of file is.items) (branches_of file more) outer
+nested_step file (Nested-F.AtTop is) = at_top (items_of file is.items)
+nested_step file (Nested-F.Inside is more outer) = inside (items_of file is.items) (branches_of file more) outer
 
 abbrev pub nested_of : (file : ℕ) → Nested → nesting.Nested
 nested_of file = fold-Nested nesting.Nested (nested_step file)

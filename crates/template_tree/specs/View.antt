@@ -1,5 +1,5 @@
 -- The items, as plain data, that a template stands for.
-use Rattle.std.specs.Prelude.{ℕ, List, [], ◌∷◌, map as each, Option, Some, None}
+use Rattle.std.specs.Prelude.{ℕ, List, [], ◌∷◌, map as each, reverse, Option, Some, None}
 use Rattle.ytt_base.specs.declared.tree.Key.{Key}
 use Rattle.ytt_base.specs.Outcomes.{place_at}
 use Rattle.ytt_base.specs.View.{key_of}
@@ -26,9 +26,13 @@ abbrev pub in_key : Option Key → plain.Key
 in_key None = no_key
 in_key (Some k) = written_key (key_of k)
 
+abbrev pub in_order : List plain.Item → Items
+in_order [] = no_items
+in_order (i ∷ is) = an_item i (in_order is)
+
+-- the first one stands last
 abbrev pub in_items : List plain.Item → Items
-in_items [] = no_items
-in_items (i ∷ is) = an_item i (in_items is)
+in_items is = in_order (reverse is)
 
 -- the value expression stands for what is written
 abbrev pub in_content : (file : ℕ) → Option Expr → plain.Content → plain.Content

@@ -1,5 +1,5 @@
 // The items of a collection, with the statements and blocks between them.
-ghost use Rattle.std.specs.Prelude.{◌≡◌, ◌++◌, ℕ, List, [], ◌∷◌, IfOk, OnOk, option_map, reverse};
+ghost use Rattle.std.specs.Prelude.{◌≡◌, ◌++◌, ℕ, List, [], ◌∷◌, IfOk, OnOk, option_map};
 ghost use Rattle.notes_read.specs.View.{said_of};
 ghost use Rattle.star_tree.specs.View.{item_kind_of};
 ghost use Rattle.star_tree.specs.Whole.{expr_of, header_of, instruction_of, instructions_of};
@@ -38,14 +38,6 @@ pub enum Nested {
 }
 
 // ---- items
-
-/// The items in the opposite order.
-fn turned(mut items: Vec<TItem>) -> TItems
-    ensures { result ≡ reverse items.items }
-{
-    items.reverse();
-    Items::from_vec(items)
-}
 
 /// The blocks aren't closed in order, so nothing is what was read.
 fn break_off(nested: &mut Nested)
@@ -202,7 +194,10 @@ fn open_block(
     match std::mem::replace(nested, Nested::Broken) {
         Nested::Inside(items, more, outer) => {
             drop(std::mem::replace(nested, outer.into_inner()));
-            put_block(block_of(kind, place, header, turned(items), more), nested)
+            put_block(
+                block_of(kind, place, header, Items::from_vec(items), more),
+                nested,
+            )
         }
         Nested::Broken | Nested::AtTop(_) => {
             drop(header);
@@ -272,7 +267,7 @@ fn next_branch(
 {
     match nested {
         Nested::Inside(items, more, _) => {
-            let body = turned(std::mem::replace(items, Vec::new(alloc)));
+            let body = Items::from_vec(std::mem::replace(items, Vec::new(alloc)));
             let rest = Boxed::new(alloc, std::mem::replace(more, TBranches::Nothing))?;
             drop(std::mem::replace(more, TBranches::Elif(place, test, body, rest)));
             Ok(())
@@ -291,7 +286,7 @@ fn last_branch(alloc: Global, place: Place, nested: &mut Nested)
     match nested {
         Nested::Inside(items, more, _outer) => {
             if is_nothing(more) {
-                let body = turned(std::mem::replace(items, Vec::new(alloc)));
+                let body = Items::from_vec(std::mem::replace(items, Vec::new(alloc)));
                 drop(std::mem::replace(more, TBranches::Else(place, body)));
                 return;
             }
@@ -379,7 +374,7 @@ fn whole(alloc: Global, nested: Nested) -> TItems
     ensures { (file : ℕ) → items_of file result ≡ nesting.whole (nested_of file nested) }
 {
     match nested {
-        Nested::AtTop(items) => turned(items),
+        Nested::AtTop(items) => Items::from_vec(items),
         Nested::Broken | Nested::Inside(_, _, _) => Items::new(alloc),
     }
 }

@@ -34,7 +34,7 @@ pub enum TItem {
     Def(Place, Text, Params, ItemKind, TItems),
 }
 
-/// Items in the order of the text.
+/// Items, the first one of the text last.
 pub type TItems = Items<TItem>;
 
 /// What follows the first branch of an `if`.

@@ -4,6 +4,7 @@ use Rattle.template_tree.specs.declared.tree.TBranches.{TBranches}
 use Rattle.template_tree.specs.declared.tree.TItem.{TItem}
 use Rattle.template_tree.specs.View.{branches_of, item_of, items_of}
 use Rattle.template_tree.proofs.Views.{branches_of-Elif, branches_of-Else, item_of-For, item_of-If}
+use Rattle.template_program.proofs.Items.{nodes_first}
 use Rattle.template_program.proofs.Turns.{first_of_two, found_here, found_later, found_nowhere, second_of_two}
 use Rattle.template_program.proofs.holds.+nodes.Goals as goal
 
@@ -24,12 +25,12 @@ branches_have_nodes-returns-else-has_nodes t c = λ file.
 
 pub has_nodes-returns-then-is_node : goal.has_nodes-returns-then-is_node
 has_nodes-returns-then-is_node t c = λ file.
-    found_here (λ (i : TItem). is_node (item_of file i)) (λ (is : List TItem). has_nodes (items_of file is)) _ c.args.items.now c.loop-item.item-index c.item-item.result (λ y ys. refl)
+    found_here (λ (i : TItem). is_node (item_of file i)) (λ (is : List TItem). has_nodes (items_of file is)) _ c.args.items.now c.loop-item.item-index c.item-item.result (nodes_first file)
     (rw c.as_slice-item-items.ensures at c.loop-item-test.true) (rw c.as_slice-item-items.ensures at c.item-item.is) (sym (c.is_node.ensures file) ∙ c.if-is_node.true) (c.loop-item.invariant file)
 
 pub has_nodes-loop-item-preserved : goal.has_nodes-loop-item-preserved
 has_nodes-loop-item-preserved t c = λ file.
-    found_later (λ (i : TItem). is_node (item_of file i)) (λ (is : List TItem). has_nodes (items_of file is)) _ c.args.items.now c.loop-item.item-index c.item-item.result (λ y ys. refl)
+    found_later (λ (i : TItem). is_node (item_of file i)) (λ (is : List TItem). has_nodes (items_of file is)) _ c.args.items.now c.loop-item.item-index c.item-item.result (nodes_first file)
     (rw c.as_slice-item-items.ensures at c.loop-item-test.true) (rw c.as_slice-item-items.ensures at c.item-item.is) (sym (c.is_node.ensures file) ∙ c.if-is_node.false) (c.loop-item.invariant file)
 
 pub has_nodes-returns : goal.has_nodes-returns

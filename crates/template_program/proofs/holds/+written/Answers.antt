@@ -4,6 +4,7 @@ use Rattle.template_tree.specs.declared.tree.TBranches.{TBranches}
 use Rattle.template_tree.specs.declared.tree.TItem.{TItem}
 use Rattle.template_tree.specs.View.{branches_of, item_of, items_of}
 use Rattle.template_tree.proofs.Views.{branches_of-Elif, branches_of-Else, item_of-Def, item_of-For, item_of-If}
+use Rattle.template_program.proofs.Items.{written_first}
 use Rattle.template_program.proofs.Turns.{first_of_two, found_here, found_later, found_nowhere, second_of_two}
 use Rattle.template_program.proofs.holds.+written.Goals as goal
 
@@ -24,12 +25,12 @@ branches_have_written-returns-else-has_written t c = λ file.
 
 pub has_written-returns-then-is_written : goal.has_written-returns-then-is_written
 has_written-returns-then-is_written t c = λ file.
-    found_here (λ (i : TItem). is_written (item_of file i)) (λ (is : List TItem). has_written (items_of file is)) _ c.args.items.now c.loop-item.item-index c.item-item.result (λ y ys. refl)
+    found_here (λ (i : TItem). is_written (item_of file i)) (λ (is : List TItem). has_written (items_of file is)) _ c.args.items.now c.loop-item.item-index c.item-item.result (written_first file)
     (rw c.as_slice-item-items.ensures at c.loop-item-test.true) (rw c.as_slice-item-items.ensures at c.item-item.is) (sym (c.is_written.ensures file) ∙ c.if-is_written.true) (c.loop-item.invariant file)
 
 pub has_written-loop-item-preserved : goal.has_written-loop-item-preserved
 has_written-loop-item-preserved t c = λ file.
-    found_later (λ (i : TItem). is_written (item_of file i)) (λ (is : List TItem). has_written (items_of file is)) _ c.args.items.now c.loop-item.item-index c.item-item.result (λ y ys. refl)
+    found_later (λ (i : TItem). is_written (item_of file i)) (λ (is : List TItem). has_written (items_of file is)) _ c.args.items.now c.loop-item.item-index c.item-item.result (written_first file)
     (rw c.as_slice-item-items.ensures at c.loop-item-test.true) (rw c.as_slice-item-items.ensures at c.item-item.is) (sym (c.is_written.ensures file) ∙ c.if-is_written.false) (c.loop-item.invariant file)
 
 pub has_written-returns : goal.has_written-returns

@@ -13,7 +13,7 @@ returns c =
     let file = c.args.file in
     let place = place_at file c.args.line in
     let builds = option_map item_kind_of c.args.fragment in
-    let params = parameters_of file c.args.params.now in
-    c.put.ensures file c.args.next.now c.number_params.new.next (begin_def place 0 builds c.args.name.now params)
-    (one_part (begin_def place c.in_ok-number.number builds c.in_ok-copied.copied) (number_parameters params) _ _ _ c.in_ok-params.ensures
-    ∙ (λ i. over_one (begin_def place (c.in_ok-number.ensures.number i) builds (c.in_ok-copied.ensures i)) (number_parameters params) (c.in_ok-number.ensures.next i)))
+    let params = parameters_of file c.args.params in
+    c.put.ensures file c.args.next.now c.number_params.new.next (begin_def place 0 builds c.args.name params)
+    (one_part (begin_def place c.in_ok-number.number builds c.args.name) (number_parameters params) _ _ _ c.in_ok-numbered.ensures
+    ∙ (λ i. over_one (begin_def place (c.in_ok-number.ensures.number i) builds c.args.name) (number_parameters params) (c.in_ok-number.ensures.next i)))

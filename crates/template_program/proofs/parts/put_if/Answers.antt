@@ -8,5 +8,5 @@ use Rattle.template_program.proofs.parts.put_if.Goals as goal
 pub returns : goal.returns
 returns c =
     let file = c.args.file in
-    c.put.ensures file c.args.next.now c.number_boxed.new.next (begin_if (place_at file c.args.line) (expr_of file c.args.test.now))
-    (one_part (begin_if (place_at file c.args.line)) (number_expr (expr_of file c.args.test.now)) _ _ _ c.in_ok-test.ensures)
+    c.put.ensures file c.args.next.now c.number_owned.new.next (begin_if (place_at file c.args.line) (expr_of file c.args.test))
+    (one_part (begin_if (place_at file c.args.line)) (number_expr (expr_of file c.args.test)) _ _ _ c.in_ok-test.ensures)

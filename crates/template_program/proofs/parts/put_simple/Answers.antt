@@ -7,5 +7,5 @@ use Rattle.template_program.proofs.parts.put_simple.Goals as goal
 pub returns : goal.returns
 returns c =
     let file = c.args.file in
-    let stmt = instruction_of file c.args.stmt.now in
+    let stmt = instruction_of file c.args.stmt in
     where_room c.put.result _ _ (c.put.ensures file c.args.next.now c.number_simple.new.next (statement (simple_of file stmt)) c.in_ok-simple.ensures) (λ h. emits_same h (simple_code file stmt))

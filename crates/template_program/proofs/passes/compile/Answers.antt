@@ -13,22 +13,22 @@ use Rattle.template_program.proofs.passes.compile.Goals as goal
 pub returns-in_err-resolved-clause-passes : goal.returns-in_err-resolved-clause-passes
 returns-in_err-resolved-clause-passes c =
     let p = err_from_is_err_and c.from_residual.result c.from_residual.ensures.1 in
-    rw (p.1, p.2) (refused_first Resolved (template_of c.args.template.now) c.in_err-resolved.field-0.0 c.in_err-resolved.ensures.passes)
+    rw (p.1, p.2) (refused_first Resolved (template_of c.args.template) c.in_err-resolved.field-0.0 c.in_err-resolved.ensures.passes)
 
 pub returns-in-None-clause-passes : goal.returns-in-None-clause-passes
 returns-in-None-clause-passes c =
-    built_whole (template_of c.args.template.now) c.first_unbuilt.result c.first_unbuilt.ensures c.in_ok-resolved.ensures.passes c.in-None.is
+    built_whole (template_of c.args.template) c.first_unbuilt-unbuilt.result c.first_unbuilt-unbuilt.ensures c.in_ok-resolved.ensures.passes c.in-None.is
 
 pub returns-in-None-clause-runs : goal.returns-in-None-clause-runs
 returns-in-None-clause-runs c =
-    let t = template_of c.args.template.now in
+    let t = template_of c.args.template in
     λ host stand. agrees starlark host (program_of c.in_ok-resolved.resolved.program) (numbered t) c.in_ok-resolved.ensures.code (numbered_stands t stand)
 
 pub returns-in-None-clause-loads : goal.returns-in-None-clause-loads
 returns-in-None-clause-loads c =
-    nothing_loaded (template_of c.args.template.now) (program_of c.in_ok-resolved.resolved.program) c.in_ok-resolved.ensures.code
-    (none_unbuilt (template_of c.args.template.now) c.first_unbuilt.result c.first_unbuilt.ensures c.in-None.is)
+    nothing_loaded (template_of c.args.template) (program_of c.in_ok-resolved.resolved.program) c.in_ok-resolved.ensures.code
+    (none_unbuilt (template_of c.args.template) c.first_unbuilt-unbuilt.result c.first_unbuilt-unbuilt.ensures c.in-None.is)
 
 pub returns-in-Some-clause-passes : goal.returns-in-Some-clause-passes
 returns-in-Some-clause-passes c =
-    one_unbuilt (template_of c.args.template.now) c.first_unbuilt.result c.first_unbuilt.ensures c.in-Some.place c.new.result c.in_ok-resolved.ensures.passes c.in-Some.is c.new.ensures
+    one_unbuilt (template_of c.args.template) c.first_unbuilt-unbuilt.result c.first_unbuilt-unbuilt.ensures c.in-Some.place c.new.result c.in_ok-resolved.ensures.passes c.in-Some.is c.new.ensures

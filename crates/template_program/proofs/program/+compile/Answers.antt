@@ -1,4 +1,4 @@
-use Rattle.std.proofs.Common.{◌∷◌, Option, ap, sym, ◌∙◌, refl}
+use Rattle.std.proofs.Common.{◌∷◌, List, Option, arith, ap, sym, ◌∙◌, refl}
 use Rattle.ytt_base.specs.Outcomes.{place_at}
 use Rattle.ytt_base.specs.View.{key_of}
 use Rattle.code_spec.specs.Numbering.{number_expr}
@@ -9,11 +9,13 @@ use Rattle.star_tree.specs.declared.code.Expr.{Expr}
 use Rattle.star_number.proofs.Formed.{one_part}
 use Rattle.template_spec.specs.Compiled.{branches_code, content_code, item_code, items_code, key_code, notes_code}
 use Rattle.template_tree.specs.declared.tree.TBranches.{TBranches}
+use Rattle.template_tree.specs.declared.tree.TContent.{TContent}
 use Rattle.template_tree.specs.declared.tree.TItem.{TItem}
 use Rattle.template_tree.specs.View.{branches_of, content_of, in_content, in_key, item_of, items_of, notes_of}
-use Rattle.template_tree.proofs.Views.{branches_of-Elif, branches_of-Else, branches_of-Nothing, content_of-List, content_of-Map, content_of-Scalar, item_of-Code, item_of-Def, item_of-For, item_of-If, item_of-Node, node_of-node}
+use Rattle.template_tree.proofs.Views.{branches_of-Elif, branches_of-Else, branches_of-Nothing, content_of-List, content_of-Map, content_of-Scalar, item_of-Code, item_of-Def, item_of-For, item_of-If, item_of-Node, items_of-last, node_of-node}
 use Rattle.template_program.specs.Emits.{held}
-use Rattle.template_program.proofs.Emitting.{emits_done, emits_next, emits_same, emits_then, where_room}
+use Rattle.template_program.proofs.Emitting.{emits_same, emits_taken, emits_then, emits_whole, where_room}
+use Rattle.template_program.proofs.Sizes.{branches_size, content_size, item_size, taken_size}
 use Rattle.template_program.proofs.program.+compile.Goals as goal
 
 pub put_branches-returns-in-Nothing : goal.put_branches-returns-in-Nothing
@@ -39,23 +41,22 @@ put_branches-returns-in_ok-put_items-in-Elif t c =
     let file = c.args.file in
     let end = place_at file c.args.line in
     where_room c.put_branches.result _ _ c.put_branches.ensures (λ h. emits_same
-    (emits_then c.in_ok-put_elif-in-Elif.ensures (emits_then c.in_ok-put_items-in-Elif.ensures (emits_same h (ap (λ (b : TBranches). branches_code end (branches_of file b)) (sym c.get.ensures)))))
+    (emits_then c.in_ok-put_elif-in-Elif.ensures (emits_then c.in_ok-put_items-in-Elif.ensures (emits_same h (ap (λ (b : TBranches). branches_code end (branches_of file b)) (sym c.into_inner.ensures)))))
     (ap (λ (b : TBranches). branches_code end (branches_of file b)) c.in-Elif.is ∙ ap (branches_code end) (branches_of-Elif file _ _ _ _)))
 
-pub put_content-returns-in_ok-value-in-Some : goal.put_content-returns-in_ok-value-in-Some
-put_content-returns-in_ok-value-in-Some t c =
+pub put_content-returns-in_ok-numbered-in-Some : goal.put_content-returns-in_ok-numbered-in-Some
+put_content-returns-in_ok-numbered-in-Some t c =
     let file = c.args.file in
-    let node = c.args.node.now in
+    let place = c.args.place in
     let value = expr_of file c.in-Some.expr in
     where_room c.put.result _ _
-    (c.put.ensures file c.args.next.now c.number_boxed.new.next (part (node_value_from node.place value)) (one_part (λ e. part (node_value_from node.place e)) (number_expr value) _ _ _ c.in_ok-value-in-Some.ensures))
-    (λ h. emits_same h (ap (λ (o : Option Expr). content_code node.place (in_content file o (content_of file node.content))) c.in-Some.is))
+    (c.put.ensures file c.args.next.now c.number_owned.new.next (part (node_value_from place value)) (one_part (λ e. part (node_value_from place e)) (number_expr value) _ _ _ c.in_ok-numbered-in-Some.ensures))
+    (λ h. emits_same h (ap (λ (o : Option Expr). content_code place (in_content file o (content_of file c.args.content))) c.in-Some.is))
 
 pub put_content-returns-in-None : goal.put_content-returns-in-None
 put_content-returns-in-None t c =
-    let node = c.args.node.now in
     where_room c.put_written.result _ _ c.put_written.ensures
-    (λ h. emits_same h (ap (λ (o : Option Expr). content_code node.place (in_content c.args.file o (content_of c.args.file node.content))) c.in-None.is))
+    (λ h. emits_same h (ap (λ (o : Option Expr). content_code c.args.place (in_content c.args.file o (content_of c.args.file c.args.content))) c.in-None.is))
 
 pub put_item-returns-in-Node : goal.put_item-returns-in-Node
 put_item-returns-in-Node t c =
@@ -94,33 +95,93 @@ put_item-returns-in_ok-put_items-in-Def t c =
 pub put_items-loop-item-preserved : goal.put_items-loop-item-preserved
 put_items-loop-item-preserved t c =
     let file = c.args.file in
-    emits_next file c.args.next.now c.loop-item.next c.put_item.new.next c.args.code.now c.loop-item.code c.put_item.new.code c.args.items.now c.loop-item.item-index c.item-item.result
-    (λ is js. items_code (items_of file is) js) (item_code (item_of file c.item-item.result))
-    (rw c.as_slice-item-items.ensures at c.loop-item-test.true) (rw c.as_slice-item-items.ensures at c.item-item.is) (λ is js. refl) c.loop-item.invariant c.in_ok-put_item.ensures
+    let left = c.in-Some.ensures in
+    record {
+      fewer = let h = c.loop-item.invariant.fewer in let k = taken_size file _ c.pop.new.self c.in-Some.item left in omega (arith, h, k);
+      emitted = emits_taken c.args.next.now c.args.code.now (items_code (items_of file c.args.items)) (items_code (items_of file c.loop-item.items)) (items_code (items_of file c.pop.new.self))
+          (ap (λ (is : List TItem). items_code (items_of file is)) left ∙ ap items_code (items_of-last file c.pop.new.self c.in-Some.item))
+          c.loop-item.invariant.emitted c.in_ok-put_item.ensures;
+    }
+
+pub put_items-put_item-requires : goal.put_items-put_item-requires
+put_items-put_item-requires t c =
+    let h = c.loop-item.invariant.fewer in
+    let k = taken_size c.args.file _ c.pop.new.self c.in-Some.item c.in-Some.ensures in
+    (omega (arith, h, k, c.decreases), tt)
+
+pub put_node-put_content-requires : goal.put_node-put_content-requires
+put_node-put_content-requires t c =
+    let k = ap item_size (node_of-node c.args.file c.args.node) in
+    (omega (arith, k, c.decreases), tt)
+
+pub put_item-put_items-requires : goal.put_item-put_items-requires
+put_item-put_items-requires t c =
+    let k = ap (λ (i : TItem). item_size (item_of c.args.file i)) c.in-If.is ∙ ap item_size (item_of-If c.args.file _ _ _ _) in
+    (omega (arith, k, c.decreases), tt)
+
+pub put_item-put_branches-requires : goal.put_item-put_branches-requires
+put_item-put_branches-requires t c =
+    let k = ap (λ (i : TItem). item_size (item_of c.args.file i)) c.in-If.is ∙ ap item_size (item_of-If c.args.file _ _ _ _) in
+    (omega (arith, k, c.decreases), tt)
+
+pub put_item-put_items-requires-in-For : goal.put_item-put_items-requires-in-For
+put_item-put_items-requires-in-For t c =
+    let k = ap (λ (i : TItem). item_size (item_of c.args.file i)) c.in-For.is ∙ ap item_size (item_of-For c.args.file _ _ _ _) in
+    (omega (arith, k, c.decreases), tt)
+
+pub put_item-put_items-requires-in-Def : goal.put_item-put_items-requires-in-Def
+put_item-put_items-requires-in-Def t c =
+    let k = ap (λ (i : TItem). item_size (item_of c.args.file i)) c.in-Def.is ∙ ap item_size (item_of-Def c.args.file _ _ _ _ _) in
+    (omega (arith, k, c.decreases), tt)
+
+pub put_branches-put_items-requires : goal.put_branches-put_items-requires
+put_branches-put_items-requires t c =
+    let k = ap (λ (b : TBranches). branches_size (branches_of c.args.file b)) c.in-Else.is ∙ ap branches_size (branches_of-Else c.args.file _ _) in
+    (omega (arith, k, c.decreases), tt)
+
+pub put_branches-put_items-requires-in-Elif : goal.put_branches-put_items-requires-in-Elif
+put_branches-put_items-requires-in-Elif t c =
+    let k = ap (λ (b : TBranches). branches_size (branches_of c.args.file b)) c.in-Elif.is ∙ ap branches_size (branches_of-Elif c.args.file _ _ _ _) in
+    (omega (arith, k, c.decreases), tt)
+
+pub put_branches-put_branches-requires : goal.put_branches-put_branches-requires
+put_branches-put_branches-requires t c =
+    let k = ap (λ (b : TBranches). branches_size (branches_of c.args.file b)) c.in-Elif.is ∙ ap branches_size (branches_of-Elif c.args.file _ _ _ _) in
+    let left = ap (λ (b : TBranches). branches_size (branches_of c.args.file b)) c.into_inner.ensures in
+    (omega (arith, k, c.decreases, left), tt)
+
+pub put_written-put_items-requires : goal.put_written-put_items-requires
+put_written-put_items-requires t c =
+    let k = ap (λ (x : TContent). content_size (content_of c.args.file x)) c.in-Map.is ∙ ap content_size (content_of-Map c.args.file _) in
+    (omega (arith, k, c.decreases), tt)
+
+pub put_written-put_items-requires-in-List : goal.put_written-put_items-requires-in-List
+put_written-put_items-requires-in-List t c =
+    let k = ap (λ (x : TContent). content_size (content_of c.args.file x)) c.in-List.is ∙ ap content_size (content_of-List c.args.file _) in
+    (omega (arith, k, c.decreases), tt)
 
 pub put_items-returns : goal.put_items-returns
 put_items-returns t c =
-    emits_done c.args.file c.args.next.now c.loop-item.next c.args.code.now c.loop-item.code c.args.items.now c.loop-item.item-index (λ is js. items_code (items_of c.args.file is) js)
-    (rw c.as_slice-item-items.ensures at c.loop-item-test.false) (λ is. refl) c.loop-item.invariant
+    let file = c.args.file in
+    emits_whole (items_code (items_of file c.args.items)) (items_code (items_of file c.loop-item.items)) (ap (λ (is : List TItem). items_code (items_of file is)) c.in_default.ensures.0) c.loop-item.invariant.emitted
 
 pub put_node-returns : goal.put_node-returns
 put_node-returns t c =
     let file = c.args.file in
-    let node = c.args.node.now in
+    let node = c.args.node in
     let n = c.args.next.now in
     let k = c.put_content.new.next in
     where_room c.put-2.result _ _ (c.put-2.ensures file k k (part (node_end node.place)) refl) (λ h. emits_same
-    (emits_then (c.in_ok-put.ensures file n n (part (node_start node.place (item_kind_of node.kind) (holds_of c.holds.result))) refl)
+    (emits_then (c.in_ok-put.ensures file n n (part (node_start node.place (item_kind_of node.kind) (holds_of c.holds-holds.result))) refl)
     (emits_then c.in_ok-put_notes.ensures (emits_then (c.in_ok-put_key.ensures file c.put_notes.new.next) (emits_then c.in_ok-put_content.ensures h))))
     (ap item_code (node_of-node file node)
-    ∙ (λ i is. part (node_start node.place (item_kind_of node.kind) (sym (c.holds.ensures file) i)) ∷ notes_code (notes_of file node.notes) (key_code node.place (in_key node.key) (content_code node.place (held file node) (part (node_end node.place) ∷ is))))))
+    ∙ (λ i is. part (node_start node.place (item_kind_of node.kind) (sym (c.holds-holds.ensures file) i)) ∷ notes_code (notes_of file node.notes) (key_code node.place (in_key node.key) (content_code node.place (held file node) (part (node_end node.place) ∷ is))))))
 
-pub put_written-returns-in_ok-copy-in-Scalar : goal.put_written-returns-in_ok-copy-in-Scalar
-put_written-returns-in_ok-copy-in-Scalar t c =
+pub put_written-returns-in-Scalar : goal.put_written-returns-in-Scalar
+put_written-returns-in-Scalar t c =
     let n = c.args.next.now in
-    where_room c.put.result _ _ (c.put.ensures c.args.file n n (part (node_value c.args.place (key_of c.in_ok-copy-in-Scalar.field-0))) refl) (λ h. emits_same h
-    (ap (content_code c.args.place) (ap (content_of c.args.file) c.in-Scalar.is ∙ content_of-Scalar c.args.file c.in-Scalar.scalar)
-    ∙ (λ i is. part (node_value c.args.place (key_of (sym c.in_ok-copy-in-Scalar.ensures i))) ∷ is)))
+    where_room c.put.result _ _ (c.put.ensures c.args.file n n (part (node_value c.args.place (key_of c.in-Scalar.scalar))) refl) (λ h. emits_same h
+    (ap (content_code c.args.place) (ap (content_of c.args.file) c.in-Scalar.is ∙ content_of-Scalar c.args.file c.in-Scalar.scalar)))
 
 pub put_written-returns-in-Map : goal.put_written-returns-in-Map
 put_written-returns-in-Map t c =

@@ -1,11 +1,36 @@
-use Rattle.std.proofs.Common.{◌≡◌, List, drop}
+use Rattle.std.proofs.Common.{◌≡◌, ◌+◌, ◌*◌, ◌≤◌, List, length}
 use Rattle.code_spec.specs.Program.{Instruction}
 use Rattle.template_program.specs.Emits.{followed}
+use Rattle.template_program.proofs.Sizes.{branches_size, content_size, item_size, items_size}
 use Rattle.template_spec.specs.Compiled.{items_code}
-use Rattle.template_tree.specs.View.{items_of}
+use Rattle.template_tree.specs.View.{branches_of, content_of, in_content, item_of, items_of, node_of}
 use Rattle.template_program.proofs.program.+compile.Given as goal
 
 abbrev pub invariant-put_items-loop-item : goal.invariant-put_items-loop-item
-invariant-put_items-loop-item l =
-    (is : List Instruction) → followed l.file l.code l.next (items_code (items_of l.file (drop l.item-index l.items)) is)
-    ≡ followed l.file l.initial.code l.initial.next (items_code (items_of l.file l.items) is)
+invariant-put_items-loop-item l = record {
+  fewer : items_size (items_of l.file l.items) ≤ items_size (items_of l.file l.fn.items);
+  emitted : (is : List Instruction) → followed l.file l.code l.next (items_code (items_of l.file l.items) is)
+      ≡ followed l.file l.initial.code l.initial.next (items_code (items_of l.file l.fn.items) is);
+}
+
+abbrev pub decreases-put_items-loop-item : goal.decreases-put_items-loop-item
+decreases-put_items-loop-item l = length l.items
+
+-- what stands in it, and of the same the outer call
+abbrev pub decreases-put_items : goal.decreases-put_items
+decreases-put_items l = 8 * items_size (items_of l.file l.items) + 7
+
+abbrev pub decreases-put_item : goal.decreases-put_item
+decreases-put_item l = 8 * item_size (item_of l.file l.item) + 6
+
+abbrev pub decreases-put_branches : goal.decreases-put_branches
+decreases-put_branches l = 8 * branches_size (branches_of l.file l.branches) + 7
+
+abbrev pub decreases-put_node : goal.decreases-put_node
+decreases-put_node l = 8 * item_size (node_of l.file l.node) + 5
+
+abbrev pub decreases-put_content : goal.decreases-put_content
+decreases-put_content l = 8 * content_size (in_content l.file l.value (content_of l.file l.content)) + 9
+
+abbrev pub decreases-put_written : goal.decreases-put_written
+decreases-put_written l = 8 * content_size (content_of l.file l.content) + 8

@@ -4,4 +4,4 @@ use Rattle.template_program.proofs.program.program.Goals as goal
 
 pub returns-clause-code : goal.returns-clause-code
 returns-clause-code c =
-    emits_all c.args.template.now.file c.put_items.new.next c.new-code.result c.put_items.new.code (template_of c.args.template.now) c.new-code.ensures c.in_ok-put_items.ensures
+    emits_all c.args.template.file c.put_items.new.next c.new-code.result c.put_items.new.code (template_of c.args.template) c.new-code.ensures c.in_ok-put_items.ensures

@@ -1,18 +1,24 @@
-use Rattle.std.proofs.Common.{List, ◌++◌, ap, sym, ◌∙◌, refl}
+use Rattle.std.proofs.Common.{◌-◌, ◌++◌, take, ap, sym, ◌∙◌, arith}
 use Rattle.template_spec.specs.Unbuilt.{unbuilt_branches, unbuilt_content, unbuilt_item, unbuilt_items, unbuilt_notes}
 use Rattle.template_tree.specs.declared.tree.TBranches.{TBranches}
 use Rattle.template_tree.specs.declared.tree.TItem.{TItem}
 use Rattle.template_tree.specs.View.{branches_of, content_of, in_content, item_of, items_of, notes_of}
 use Rattle.template_tree.proofs.Views.{branches_of-Elif, item_of-If, node_of-node}
 use Rattle.template_program.specs.Places.{earlier}
-use Rattle.template_program.proofs.Finding.{earlier_after, earlier_turn, key_built}
+use Rattle.template_program.proofs.Finding.{earlier_after, earlier_before, key_built}
+use Rattle.template_program.proofs.Items.{items_up_to}
 use Rattle.template_program.proofs.unbuilt.+unbuilt.Goals as goal
 
-pub see_items-loop-item-preserved : goal.see_items-loop-item-preserved
-see_items-loop-item-preserved t c =
-    earlier_turn _ c.loop-item.first c.see_item.new.first c.args.items.now c.loop-item.item-index c.item-item.result
-    (λ (is : List TItem). unbuilt_items (items_of c.args.file is)) (unbuilt_item (item_of c.args.file c.item-item.result))
-    (rw c.as_slice-item-items.ensures at c.loop-item-test.true) (rw c.as_slice-item-items.ensures at c.item-item.is) (λ is. refl) c.loop-item.invariant c.see_item.ensures
+pub see_items-loop-left-preserved : goal.see_items-loop-left-preserved
+see_items-loop-left-preserved t c =
+    let file = c.args.file in
+    let items = c.as_slice-items.result.now in
+    let at = c.loop-left in
+    let front = items_up_to file items (at.left - 1) at.left c.index-items-left.result (omega (arith, c.loop-left-test.true)) (omega (arith, c.loop-left-test.true, at.invariant.within)) c.index-items-left.is in
+    record {
+      within = omega (arith, at.invariant.within);
+      same = earlier_before _ at.first _ _ (unbuilt_items (items_of file (take (at.left - 1) items))) _ (ap unbuilt_items front) at.invariant.same c.see_item.ensures;
+    }
 
 pub see_item-returns-in-If : goal.see_item-returns-in-If
 see_item-returns-in-If t c =
