@@ -1,11 +1,13 @@
 -- `x[i]`, and `x[i] = v`. A refusal of the kind or of the place comes before the steps.
 use Rattle.std.specs.Prelude.{ℕ, zero, suc, ◌-◌, ℤ, pos, negsuc, ◌+ℤ◌, ◌*ℤ◌, nat_lt, nat_le, Bool, false, ◌&&◌, ◌||◌, not, List, [], ◌∷◌, length, take, drop, Option, Some, None, option_and_then, slice_get, if◌then◌else◌}
+use Rattle.ytt_base.specs.declared.fault.FaultKind.{FaultKind}
 use Rattle.ytt_base.specs.declared.fault.FaultKind.TheVariants as kind
 use Rattle.ytt_base.specs.declared.fault.Place.{Place}
 use Rattle.ytt_base.specs.Trees.{Scalar, null, boolean, integer, string, same_key, max_depth}
 use Rattle.code_spec.specs.Program.{document_item, pair_item, element_item}
 use Rattle.value_spec.specs.Values.{Value, none_value, bool_value, int_value, text_value, tuple_value, range_value, struct_value, fragment_value, list_value, dict_value, values_in, Fields, child, Children, no_children, a_child, Body}
 use Rattle.value_spec.specs.Built.{body_paid}
+use Rattle.value_spec.specs.Keys.{key_offence}
 use Rattle.value_spec.specs.Outcomes.{Computation, acting, give, fail, fail_with, or_fail, reads, ◌>>=◌}
 use Rattle.value_spec.specs.Members.{as_int, as_text, is_empty}
 use Rattle.value_spec.specs.Numbers.{range_count}
@@ -68,8 +70,14 @@ value_under p k ps = found_value p k (value_of_key k ps)
 abbrev pub other_key : {H : Type 0} → Place → Value → Computation H Value
 other_key p k = key_sized p k >>= λ u. missing p k
 
+-- what is no key is refused, and a key of another kind isn't there
+abbrev pub absent_field : {H : Type 0} → Place → Value → Option FaultKind → Computation H Value
+absent_field p k None = missing p k
+absent_field p k (Some offence) = fail offence p
+
+-- the value of a name of a struct; a key takes nothing, of whatever kind and length it is
 abbrev pub field_of : {H : Type 0} → Place → Fields → Value → Computation H Value
-field_of p fs k = if_one (as_text k) (λ x. value_under p k (named_values fs)) (other_key p k)
+field_of p fs k = if_one (as_text k) (λ x. value_under p k (named_values fs)) (absent_field p k (key_offence max_depth k))
 
 -- ---- members of fragments
 

@@ -9,7 +9,7 @@ use Rattle.star_spec.specs.Binding.{boxes_for, scope_of_call}
 use Rattle.star_spec.specs.Calls.{Code, Table, parameters_of, names_of, Enter, enter_code, Host, no_natives, replied, asking, resumed_with, after_reply, native_call, call_by_kind, no_keys, keys_by, with_keys, any_call, call_with_natives, function_of, function_call, too_deep, apply}
 use Rattle.code_spec.specs.Code.{Name, Expr, Exprs, BinaryOperator, Parameters, Statement, evaluate, assign, augment, load, return, break, continue, pass}
 use Rattle.star_spec.specs.Eval.{starlark}
-use Rattle.star_spec.specs.Held.{HeldValue, HeldValues, HeldExpr, HeldExprs, HeldParameters, HeldStatement, HeldList, HeldArguments, HeldStore, HeldReply, HeldAnswer}
+use Rattle.star_spec.specs.Held.{HeldValue, HeldValues, HeldExpr, HeldExprs, HeldParameters, HeldStatement, HeldList, HeldArguments, HeldStore, HeldReply, HeldAnswer, HeldGot}
 use Rattle.star_spec.specs.Language.{Call, Language, Word, breaks, continues, returns, execute, define}
 use Rattle.star_spec.specs.Names.{box_of}
 use Rattle.value_spec.specs.Outcomes.{State, Reply, answer, call_then, Ending, done, bad, asks, then_do, Computation, ◌>>=◌}
@@ -87,10 +87,6 @@ starlark_keeps = record {
 
 -- ---- natives
 
-abbrev pub HeldGot : Result Value Fault → Type 0
-HeldGot (Ok v) = HeldValue v
-HeldGot (Err e) = Unit {0}
-
 pub record HostKeeps {H : Type 0} (host : Host H) : Type 0 where
   pub ask : (p : Place) (x : Name) (held : Values) (vs : Arguments) → HeldValues held → HeldArguments vs → Keeps HeldReply (host.ask p x held vs)
   pub resume : (p : Place) (x : Name) (held : Values) (tag : ℕ) (got : Result Value Fault) → HeldValues held → HeldGot got → Keeps HeldReply (host.resume p x held tag got)
@@ -104,13 +100,13 @@ replied_held (Err e) t h k = k
 
 -- a host that is asked keeps it if its answers do
 pub asking_keeps : {H : Type 0} → HostKeeps {H = H} asking
-asking_keeps = record { ask = λ p x held vs h k. record { by = λ s g. (g, replied_held) }; resume = λ p x held tag got h k. record { by = λ s g. (g, replied_held) } }
+asking_keeps = record { ask = λ p x held vs h k. record { by = λ s g. ((h, k), g, replied_held) }; resume = λ p x held tag got h k. record { by = λ s g. ((h, k), g, replied_held) } }
 
 module _ {H : Type 0} (host : Host H) (hosts : HostKeeps host) where
   resumed_kept : (p : Place) (x : Name) (held : Values) (tag : ℕ) (e : Ending H Value) → HeldValues held → Kept HeldValue e → Kept HeldReply (resumed_with host p x held tag e)
   resumed_kept p x held tag (done v s) h k = (hosts.resume p x held tag (Ok v) h k.0).by s k.1
   resumed_kept p x held tag (bad e s) h k = (hosts.resume p x held tag (Err e) h tt).by s k
-  resumed_kept p x held tag (asks q s n) h k = (k.0, λ got t g i. resumed_kept p x held tag (n got t) h (k.1 got t g i))
+  resumed_kept p x held tag (asks q s n) h k = (k.0, k.1, λ got t g i. resumed_kept p x held tag (n got t) h (k.2 got t g i))
 
 -- ---- calls
 

@@ -24,6 +24,7 @@ use Rattle.star_spec.proofs.IndexKeeps.{index_keeps, slice_keeps, set_index_keep
 use Rattle.star_spec.proofs.Keeping.{Keeps, Anything, keeps_then, keeps_give, keeps_fail, keeps_or_fail, keeps_ill_formed, keeps_need, keeps_paid, keeps_if, keeps_reads, keeps_new_object, object_held, box_held, change_held, loops_held, kept_finally}
 use Rattle.star_spec.proofs.MembersHeld.{from_values, more_held, members_keep, pairs_keep, put_pair_held, new_list_keeps, new_dict_keeps}
 use Rattle.star_spec.proofs.RowsHeld.{unary_held, measured_keeps}
+use Rattle.star_spec.proofs.SortingKeeps.{members_taken_keep}
 use Rattle.star_spec.proofs.TextsKeep.{low_utf8}
 
 -- a call of a value gives what the program holds
@@ -204,7 +205,7 @@ module _ {H : Type 0} (call : Call H) (calls : CallKeeps call) where
     pub arguments_keep : (es : Exprs) (env : Env) → HeldExprs es → Keeps HeldArguments (eval_arguments call es env)
     arguments_keep no_exprs env h = keeps_give (arguments no_values no_fields) (tt, tt)
     arguments_keep (an_expr (code.named p x e) es) env h = keeps_then (eval_keeps e env h.0.1) (λ v k. keeps_then (arguments_keep es env h.1) (λ rest g. keeps_give _ (with_fields_held (a_field x v no_fields) rest (h.0.0, k, tt) g)))
-    arguments_keep (an_expr (code.starred p e) es) env h = keeps_then (eval_keeps e env h.0) (λ v k. keeps_then (members_keep p v k) (λ vs i. keeps_then (arguments_keep es env h.1) (λ rest g. keeps_give _ (with_values_held vs rest i g))))
+    arguments_keep (an_expr (code.starred p e) es) env h = keeps_then (eval_keeps e env h.0) (λ v k. keeps_then (members_taken_keep p v k) (λ vs i. keeps_then (arguments_keep es env h.1) (λ rest g. keeps_give _ (with_values_held vs rest i g))))
     arguments_keep (an_expr (code.double_starred p e) es) env h = keeps_then (eval_keeps e env h.0) (λ v k. keeps_then (spread_keeps p v) (λ fs i. keeps_then (arguments_keep es env h.1) (λ rest g. keeps_give _ (with_fields_held fs rest i g))))
     arguments_keep (an_expr e es) env h = keeps_then (eval_keeps e env h.0) (λ v k. keeps_then (arguments_keep es env h.1) (λ rest g. keeps_give _ (with_values_held (v ∷ []) rest (k, tt) g)))
 

@@ -1,17 +1,18 @@
 -- An index and a slice give what the program holds, and a value in the place of a member leaves such a store.
 use Rattle.std.proofs.Common.{◌≡◌, ℕ, zero, suc, ◌+◌, ◌-◌, ◌<◌, nat_lt, Bool, true, false, if◌then◌else◌, List, [], length, slice_get, Option, Some, None, option_and_then, refl, arith, ltb-true}
 use Rattle.std.specs.Prelude.{ℤ, pos, negsuc, ◌+ℤ◌}
+use Rattle.ytt_base.specs.declared.fault.FaultKind.{FaultKind}
 use Rattle.ytt_base.specs.declared.fault.FaultKind.TheVariants as kind
 use Rattle.ytt_base.specs.declared.fault.Place.{Place}
-use Rattle.ytt_base.specs.Trees.{Scalar}
+use Rattle.ytt_base.specs.Trees.{Scalar, max_depth}
 use Rattle.code_spec.specs.Program.{document_item, pair_item, element_item}
-use Rattle.index_spec.specs.Index.{place_among, member_at, nth_number, number_at, character_at, found_value, value_under, other_key, field_of, as_scalar, has_key, body_under, body_at, child_count, found_body, entry_of, element_at, by_place, index_row, set_member_at, set_index_row}
+use Rattle.index_spec.specs.Index.{place_among, member_at, nth_number, number_at, character_at, found_value, value_under, other_key, absent_field, field_of, as_scalar, has_key, body_under, body_at, child_count, found_body, entry_of, element_at, by_place, index_row, set_member_at, set_index_row}
 use Rattle.index_spec.specs.KeyTexts.{key_text}
 use Rattle.index_spec.specs.Slices.{Cut, has_bounds, Places, places_of, place_count, and_more, picked, members_cut, text_slice, members_slice, give_tuple, cut_row, slice_row}
 use Rattle.operator_spec.specs.Equality.{named_values}
 use Rattle.operator_spec.specs.Operators.{tuple_of}
 use Rattle.star_spec.specs.Held.{HeldValue, HeldFields, HeldChildren, HeldBody, HeldList}
-use Rattle.value_spec.specs.Keys.{text_cost}
+use Rattle.value_spec.specs.Keys.{key_offence, text_cost}
 use Rattle.value_spec.specs.Members.{as_int, as_text}
 use Rattle.value_spec.specs.Numbers.{range_count, at_least_zero}
 use Rattle.value_spec.specs.Outcomes.{Computation, fail, or_fail}
@@ -79,10 +80,14 @@ of_fields : (fs : Fields) → HeldFields fs → BothHeld (named_values fs)
 of_fields no_fields h = tt
 of_fields (a_field x v fs) h = (h.0, h.1, of_fields fs h.2)
 
+absent_keeps : {H : Type 0} (p : Place) (k : Value) (o : Option FaultKind) → Keeps {H = H} HeldValue (absent_field p k o)
+absent_keeps p k None = keeps_fail kind.KeyMissing p (key_text k)
+absent_keeps p k (Some offence) = keeps_fail offence p []
+
 field_keeps : {H : Type 0} (p : Place) (fs : Fields) (k : Value) → HeldFields fs → Keeps {H = H} HeldValue (field_of p fs k)
 field_keeps p fs k h =
-    keeps_one HeldValue (as_text k) (λ x. value_under p k (named_values fs)) (other_key p k)
-    (λ x e. under_keeps p k (named_values fs) (of_fields fs h)) (other_keeps p k)
+    keeps_one HeldValue (as_text k) (λ x. value_under p k (named_values fs)) (absent_field p k (key_offence max_depth k))
+    (λ x e. under_keeps p k (named_values fs) (of_fields fs h)) (absent_keeps p k (key_offence max_depth k))
 
 -- ---- members of fragments
 

@@ -5,7 +5,7 @@ use Rattle.ytt_base.specs.declared.fault.Fault.{Fault}
 use Rattle.ytt_base.specs.declared.fault.FaultKind.{FaultKind}
 use Rattle.ytt_base.specs.declared.fault.FaultKind.TheVariants as kind
 use Rattle.ytt_base.specs.declared.fault.Place.{Place}
-use Rattle.star_spec.specs.Held.{HeldList, HeldPairs, HeldIfAny, HeldContents, HeldStore, HeldAnswer}
+use Rattle.star_spec.specs.Held.{HeldList, HeldPairs, HeldIfAny, HeldContents, HeldStore, HeldAnswer, HeldQuestion}
 use Rattle.value_spec.specs.Outcomes.{State, Reply, Ending, done, bad, asks, then_do, Computation, ◌>>=◌, give, fail_with, or_fail, need, or_ill_formed, ill_formed, take_if, take_steps, paid_by, on_store, reads, new_object, finally, after_act, acting}
 use Rattle.value_spec.specs.Built.{below}
 use Rattle.value_spec.specs.Store.{list_of_contents, pairs_of_contents, object_at, list_in, pairs_in, box_in, function_in, object, changed, change, Answer, did, refused, Act, frozen, iterating, unlocked, put_back, on_found, at_object, may_change_object, may_change, as_frozen, freeze_since, walked, change_loops}
@@ -14,7 +14,7 @@ use Rattle.value_spec.specs.Values.{Function, Contents, of_list, of_dict, of_box
 abbrev pub Kept : {H A : Type 0} → (A → Type 0) → Ending H A → Type 0
 Kept P (done a s) = P a × HeldStore s.store
 Kept P (bad f s) = HeldStore s.store
-Kept {H = H} P (asks q s k) = HeldStore s.store × ((got : Result Reply Fault) (t : State H) → HeldAnswer got → HeldStore t.store → Kept P (k got t))
+Kept {H = H} P (asks q s k) = HeldQuestion q × HeldStore s.store × ((got : Result Reply Fault) (t : State H) → HeldAnswer got → HeldStore t.store → Kept P (k got t))
 
 pub record Keeps {H A : Type 0} (P : A → Type 0) (m : Computation H A) : Type 0 where
   pub by : (s : State H) → HeldStore s.store → Kept P (m s)
@@ -41,7 +41,7 @@ found_if P false o q h k = k
 pub kept_then : {H A B : Type 0} (P : A → Type 0) (Q : B → Type 0) (e : Ending H A) (f : A → Computation H B) → Kept P e → ((a : A) → P a → Keeps Q (f a)) → Kept Q (then_do e f)
 kept_then P Q (done a s) f h k = (k a h.0).by s h.1
 kept_then P Q (bad e s) f h k = h
-kept_then P Q (asks q s n) f h k = (h.0, λ got t g held. kept_then P Q (n got t) f (h.1 got t g held) k)
+kept_then P Q (asks q s n) f h k = (h.0, h.1, λ got t g held. kept_then P Q (n got t) f (h.2 got t g held) k)
 
 pub keeps_then : {H A B : Type 0} {P : A → Type 0} {Q : B → Type 0} {m : Computation H A} {f : A → Computation H B} → Keeps P m → ((a : A) → P a → Keeps Q (f a)) → Keeps Q (m >>= f)
 keeps_then {P = P} {Q = Q} {m = m} {f = f} h k = record { by = λ s held. kept_then P Q (m s) f (h.by s held) k }
@@ -94,7 +94,7 @@ keeps_below p (suc n) f h = h n refl
 kept_weaker : {H A : Type 0} (P Q : A → Type 0) (e : Ending H A) → ((a : A) → P a → Q a) → Kept P e → Kept Q e
 kept_weaker P Q (done a s) k h = (k a h.0, h.1)
 kept_weaker P Q (bad e s) k h = h
-kept_weaker P Q (asks q s n) k h = (h.0, λ got t g held. kept_weaker P Q (n got t) k (h.1 got t g held))
+kept_weaker P Q (asks q s n) k h = (h.0, h.1, λ got t g held. kept_weaker P Q (n got t) k (h.2 got t g held))
 
 pub keeps_weaker : {H A : Type 0} {P Q : A → Type 0} {m : Computation H A} → ((a : A) → P a → Q a) → Keeps P m → Keeps Q m
 keeps_weaker {P = P} {Q = Q} {m = m} k h = record { by = λ s held. kept_weaker P Q (m s) k (h.by s held) }
@@ -247,4 +247,4 @@ freeze_held n store h = behind (take n store) (map as_frozen (drop n store)) (fi
 pub kept_finally : {H A : Type 0} (P : A → Type 0) (e : Ending H A) (f : Store → Store) → ((store : Store) → HeldStore store → HeldStore (f store)) → Kept P e → Kept P (finally e (on_store f))
 kept_finally P (done a s) f k h = (h.0, k s.store h.1)
 kept_finally P (bad e s) f k h = k s.store h
-kept_finally P (asks q s n) f k h = (h.0, λ got t g held. kept_finally P (n got t) f k (h.1 got t g held))
+kept_finally P (asks q s n) f k h = (h.0, h.1, λ got t g held. kept_finally P (n got t) f k (h.2 got t g held))

@@ -49,7 +49,7 @@ room_keeps : {H : Type 0} (p : Place) (v : Value) → Keeps {H = H} Anything (ro
 room_keeps p (range_value start stop step) = record { by = λ s g. (keeps_need kind.Steps p (nat_le (range_count start stop step) s.steps)).by s g }
 room_keeps p v = keeps_give tt tt
 
-members_taken_keep : {H : Type 0} (p : Place) (v : Value) → HeldValue v → Keeps {H = H} HeldList (members_taken p v)
+pub members_taken_keep : {H : Type 0} (p : Place) (v : Value) → HeldValue v → Keeps {H = H} HeldList (members_taken p v)
 members_taken_keep p v h = keeps_then (has_members_keeps p v) (λ u t. keeps_then (room_keeps p v) (λ u t. members_keep p v h))
 
 keyed_keeps : {H : Type 0} (p : Place) (w : Wanted) (k : Value) (vs : List Value) → HeldValue k → HeldList vs → Keeps {H = H} HeldKeyed (keyed_by p w k vs)

@@ -17,7 +17,7 @@ use Rattle.operator_spec.specs.Order.{key_sized}
 use Rattle.builtin_spec.specs.Attributes.{attribute_row}
 use Rattle.builtin_spec.specs.Calls.{asked_row}
 use Rattle.builtin_spec.specs.Operators.{assignment_row, operator_row}
-use Rattle.builtin_spec.specs.Sorting.{wanted_row}
+use Rattle.builtin_spec.specs.Sorting.{members_taken, wanted_row}
 use Rattle.index_spec.specs.Index.{index_row, set_index_row}
 use Rattle.index_spec.specs.Slices.{slice_row}
 use Rattle.value_spec.specs.Store.{pairs_at, put_pair}
@@ -142,7 +142,8 @@ abbrev mutual
     vs ← eval_all call es env
     give (v ∷ vs)
 
-  -- the arguments of a call or of a note: by position and by name, and the members of `*e` and the pairs of `**e`
+  -- the arguments of a call or of a note: by position and by name, and the members of `*e` and the pairs of `**e`; of a range's
+  -- numbers there are no more than steps are left
   pub eval_arguments : {H : Type 0} → Call H → Exprs → Env → Computation H Arguments
   eval_arguments call no_exprs env = give (arguments no_values no_fields)
   eval_arguments call (an_expr (code.named p x e) es) env = do
@@ -151,7 +152,7 @@ abbrev mutual
     give (with_fields (a_field x v no_fields) rest)
   eval_arguments call (an_expr (code.starred p e) es) env = do
     v ← eval call e env
-    vs ← members_of p v
+    vs ← members_taken p v
     rest ← eval_arguments call es env
     give (with_values vs rest)
   eval_arguments call (an_expr (code.double_starred p e) es) env = do

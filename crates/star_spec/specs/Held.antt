@@ -9,7 +9,7 @@ use Rattle.code_spec.specs.Program.{ItemKind, pair_item}
 use Rattle.code_spec.specs.Code as code
 use Rattle.code_spec.specs.Code.{Name, Expr, Exprs, no_exprs, an_expr, OptionalExpr, absent, present, Entries, no_entries, an_entry, Clauses, no_clauses, for_clause, if_clause, Pieces, no_pieces, text_piece, expr_piece, Parameters, no_parameters, required, defaulted, bare_star, starred_parameter, double_starred_parameter, Statement, evaluate, assign, augment, load, return, break, continue, pass}
 use Rattle.value_spec.specs.Keys.{same_key}
-use Rattle.value_spec.specs.Outcomes.{Reply, answer, call_then}
+use Rattle.value_spec.specs.Outcomes.{Reply, answer, call_then, Question, called, resumed}
 use Rattle.ytt_base.specs.declared.fault.Fault.{Fault}
 use Rattle.value_spec.specs.Numbers.{range_count, progression}
 use Rattle.value_spec.specs.Values.{Value, none_value, bool_value, int_value, text_value, tuple_value, range_value, struct_value, fragment_value, list_value, dict_value, function_value, module_value, native_value, builtin, method, host_native, replacement, Values, no_values, a_value, Fields, no_fields, a_field, Child, child, Children, no_children, a_child, Body, one, map_of, list_of, Arguments, arguments, Contents, of_list, of_dict, of_box, of_function, Store}
@@ -191,3 +191,14 @@ HeldReply (call_then f vs tag) = HeldValue f × HeldArguments vs
 abbrev pub HeldAnswer : Result Reply Fault → Type 0
 HeldAnswer (Ok r) = HeldReply r
 HeldAnswer (Err e) = Unit {0}
+
+-- ---- what a host is asked
+
+-- what a call gave, or a fault
+abbrev pub HeldGot : Result Value Fault → Type 0
+HeldGot (Ok v) = HeldValue v
+HeldGot (Err e) = Unit {0}
+
+abbrev pub HeldQuestion : Question → Type 0
+HeldQuestion (called p x held vs) = HeldValues held × HeldArguments vs
+HeldQuestion (resumed p x held tag got) = HeldValues held × HeldGot got

@@ -1,5 +1,5 @@
 -- The items and comments of noted documents in text order, and what their comments say.
-use Rattle.std.specs.Prelude.{ℕ, suc, Bool, true, false, ◌&&◌, ◌==◌, if◌then◌else◌, List, [], ◌∷◌, ◌++◌, Option, Some, None, Ok}
+use Rattle.std.specs.Prelude.{ℕ, suc, nat_le, nat_lt, Bool, true, false, ◌&&◌, ◌==◌, if◌then◌else◌, List, [], ◌∷◌, ◌++◌, Option, Some, None, Ok}
 use Rattle.ytt_base.specs.Outcomes.{Outcome, ◌>>=◌, place_at}
 use Rattle.yaml_spec.specs.Bytes.{line_feed}
 use Rattle.yaml_spec.specs.Noted.{Comment, Content, noted_scalar, noted_list, noted_map, Items, no_items, item, Documents, is_code, code_in}
@@ -33,11 +33,16 @@ abbrev pub trailing : Path → ItemKind → (is_collection : Bool) → Option Co
 trailing p k b None rest = rest
 trailing p k b (Some c) rest = trails p k b c ∷ rest
 
--- a collection in brackets, which ends before the comment on its line
-abbrev pub is_flow : Content → Bool
-is_flow (noted_list (item n c is)) = n.flow
-is_flow (noted_map (item n c is)) = n.flow
-is_flow _ = false
+-- the first member of a collection begins on this line, as it may in brackets
+abbrev pub begins_on : (line : ℕ) → Content → Bool
+begins_on l (noted_list (item n c is)) = nat_le n.place.line l
+begins_on l (noted_map (item n c is)) = nat_le n.place.line l
+begins_on l _ = false
+
+-- the comment of an item comes behind the members that begin on its line
+abbrev pub comes_behind : Option Comment → Content → Bool
+comes_behind None x = false
+comes_behind (Some c) x = begins_on c.line x
 
 -- in front of what follows: an item behind the comments before it, an outer one before an inner one
 abbrev mutual
@@ -45,7 +50,7 @@ abbrev mutual
   raw_items k c n no_items rest = rest
   raw_items k c n (item i x more) rest =
       let after = raw_items k c (suc n) more rest in
-      loose_all i.before (begun (n ∷ c) k i.place.line ∷ (if is_flow x then raw_below (n ∷ c) x (trailing (n ∷ c) k (is_collection x) i.trailing after) else trailing (n ∷ c) k (is_collection x) i.trailing (raw_below (n ∷ c) x after)))
+      loose_all i.before (begun (n ∷ c) k i.place.line ∷ (if comes_behind i.trailing x then raw_below (n ∷ c) x (trailing (n ∷ c) k (is_collection x) i.trailing after) else trailing (n ∷ c) k (is_collection x) i.trailing (raw_below (n ∷ c) x after)))
 
   pub raw_below : Path → Content → List Raw → List Raw
   raw_below p (noted_scalar t) rest = rest
@@ -54,6 +59,29 @@ abbrev mutual
 
 abbrev pub raw_text : Documents → List Raw
 raw_text ds = raw_items document_item [] 0 ds.items (loose_all ds.after [])
+
+-- ---- comments in the order of their lines
+
+-- What stands above a scalar that is a document is told behind it, as what stands between two items. So the comment on an item's
+-- line waits while comments of earlier lines follow.
+pub data Waiting : Type 0 where
+  none_waits : Waiting
+  waits : Path → ItemKind → (is_collection : Bool) → Comment → Waiting
+
+-- what waits, in front of what follows
+abbrev pub then_come : Waiting → List Raw → List Raw
+then_come none_waits rest = rest
+then_come (waits p k b c) rest = trails p k b c ∷ rest
+
+abbrev pub is_later : Waiting → Comment → Bool
+is_later none_waits d = false
+is_later (waits p k b c) d = nat_lt d.line c.line
+
+abbrev pub by_line : Waiting → List Raw → List Raw
+by_line w [] = then_come w []
+by_line w (begun p k l ∷ xs) = then_come w (begun p k l ∷ by_line none_waits xs)
+by_line w (trails p k b c ∷ xs) = then_come w (by_line (waits p k b c) xs)
+by_line w (loose d ∷ xs) = if is_later w d then loose d ∷ by_line w xs else then_come w (loose d ∷ by_line none_waits xs)
 
 -- ---- code over several lines
 
@@ -119,4 +147,4 @@ heard r ignore file (loose c ∷ xs) =
     comment_said r ignore (place_at file c.line) c >>= (λ s. heard r ignore file xs >>= (λ es. Ok (spoken s (says c.line) es)))
 
 unfoldable pub events : CodeReader → (ignore_unknown : Bool) → (file : ℕ) → Documents → Outcome (List Event)
-events r ignore file ds = heard r ignore file (gathered r file nothing (raw_text ds))
+events r ignore file ds = heard r ignore file (gathered r file nothing (by_line none_waits (raw_text ds)))

@@ -41,7 +41,7 @@ AreWritten ts = AreTrees ts × Writable ts
 file_written : (e : Ending (Unit {0}) FileResult) (h : Unit {0}) → Kept HeldResult e → IfOk (outcome_of (hosted knows_none e h).0) AreWritten
 file_written (done result s) h k = documents_written result.documents k.0.0
 file_written (bad f s) h k = tt
-file_written (asks q s n) h k = file_written (n (Err _) s) h (k.1 (Err _) s tt k.0)
+file_written (asks q s n) h k = file_written (n (Err _) s) h (k.2 (Err _) s tt k.1)
 
 -- a template alone
 alone_held : (t : Items) → HeldItems 0 t → (f : ℕ) → HeldItems 0 (alone t f)
