@@ -2,8 +2,9 @@
 ghost use Rattle.std.specs.Prelude.{◌≡◌, ◌≤◌, ◌<◌};
 ghost use Rattle.star_grammar.specs.Table as spec;
 ghost use Rattle.star_grammar.specs.declared.table.Choice.TheVariants as at;
-ghost use Rattle.star_levels.specs.Places.{choice_place};
+ghost use Rattle.star_tables.specs.Places.{choice_place};
 
+use crate::levels::level_symbols;
 use star_grammar::Kind::{
     Assign, Augment, Break, Close, CloseBrace, CloseBracket, Colon, Comma, Constant, Continue, Def,
     Dot, Elif, Else, For, If, In, Int, LineEnd, Load, Name, Open, OpenBrace, OpenBracket, Pass,
@@ -12,7 +13,6 @@ use star_grammar::Kind::{
 use star_grammar::Symbol::{Rule as The, Token};
 use star_grammar::Terminal::{Enter, Kept, Leaf, Leave, Param, Passed, Word};
 use star_grammar::{Action, Added, Choice, Made, Opened, Rule, Stated, Symbol};
-use star_levels::level_symbols;
 
 /// The symbols of an alternative. The tables go by the order of the grammar; what they do not name is empty.
 pub fn symbols_of(choice: Choice) -> &'static [Symbol]

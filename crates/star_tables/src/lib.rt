@@ -4,6 +4,7 @@
 mod body;
 mod effect;
 mod kinds;
+mod levels;
 mod predict;
 
 pub use body::{action_of, symbols_of};

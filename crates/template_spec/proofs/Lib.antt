@@ -3,6 +3,8 @@ pub mod Nested
 pub mod NestedWords
 pub mod Nesting
 pub mod Numbers
+pub mod NumbersAllowed
 pub mod NumbersKeep
+pub mod NumbersNest
 pub mod UsesAgree
 pub mod WholeExamples

@@ -1,5 +1,5 @@
 use Rattle.std.proofs.Common.{refl}
-use Rattle.star_levels.proofs.levels.compare.Goals as goal
+use Rattle.star_tables.proofs.levels.sign_step.Goals as goal
 
 -- answered, so that another row is refused at once
 pub returns : goal.returns

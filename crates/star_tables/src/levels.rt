@@ -2,13 +2,11 @@
 ghost use Rattle.std.specs.Prelude.{◌≡◌, ◌≤◌, ◌<◌};
 ghost use Rattle.star_grammar.specs.Table as spec;
 ghost use Rattle.star_grammar.specs.declared.table.Choice.TheVariants as at;
-ghost use Rattle.star_levels.specs.Places.{choice_place};
+ghost use Rattle.star_tables.specs.Places.{choice_place};
 
 use star_grammar::Symbol::{Rule as The, Token};
 use star_grammar::Terminal::{Kept, Passed};
 use star_grammar::{Choice, Kind, Rule, Symbol};
-
-// The rows that edits change, so that little is proved anew.
 
 /// `or` and its right side, in which `and` binds tighter.
 fn or_step() -> &'static [Symbol]

@@ -1,6 +1,6 @@
-use Rattle.template_numbered.proofs.AllowedNames.{program_allowed}
-use Rattle.template_numbered.proofs.Nested.{blocks_nested, blocks_there}
-use Rattle.template_numbered.proofs.laws.numbers_keep_programs.Goals as goal
+use Rattle.template_spec.proofs.NumbersAllowed.{program_allowed}
+use Rattle.template_spec.proofs.NumbersNest.{blocks_nested, blocks_there}
+use Rattle.template_spec.proofs.numbers_keep_programs.Goals as goal
 
 pub returns-clause-blocks : goal.returns-clause-blocks
 returns-clause-blocks c = λ is h. blocks_there is 0 h

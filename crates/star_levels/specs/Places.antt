@@ -1,8 +1,0 @@
--- The places of alternatives in the order of the grammar.
-use Rattle.std.specs.Prelude.{ℕ}
-use Rattle.star_grammar.specs.declared.table.Choice.{Choice}
-use Rattle.star_grammar.specs.contracts.table.Choice as choice
-use denote.Enum.Declared.{tag_of}
-
-abbrev pub choice_place : Choice → ℕ
-choice_place c = tag_of choice.the_type c

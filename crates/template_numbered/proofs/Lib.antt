@@ -1,2 +1,0 @@
-pub mod AllowedNames
-pub mod Nested
