@@ -38,5 +38,8 @@ name_of() {
 released_name() { sed -n 1p "$home/release/sources" 2>/dev/null; }
 released_toolchain() { sed -n 2p "$home/release/sources" 2>/dev/null; }
 
+# a program without its table of symbols, by the toolchain's own tool, so that the same program gives the same bytes
+stripped() { (exec -a llvm-strip "$(dirname "$(rt doc)")/toolchain/bin/clang" --strip-all -o "$2" "$1"); }
+
 # the files of release/ are those that were put there
 is_whole() { (cd "$home/release" && sha256sum --check --status SHA256SUMS) 2>/dev/null; }
