@@ -3,7 +3,7 @@ use Rattle.std.proofs.Common.{◌≡◌, ℕ, suc, List, [], ◌∷◌, ◌++◌
 use Rattle.std.proofs.lemmas.List.{map-append}
 use Rattle.yaml_spec.specs.Noted.{Comment, Content, noted_scalar, noted_list, noted_map, Items, no_items, item, Documents}
 use Rattle.code_spec.specs.Program.{ItemKind, document_item, pair_item, element_item}
-use Rattle.template_spec.specs.Events.{Path, is_collection, is_flow}
+use Rattle.template_spec.specs.Events.{Path, is_collection, comes_behind}
 use Rattle.template_pass.specs.Flat.{Flat, starts, trailing_of, alone, start, flat_items, flat_below, flat_text}
 use Rattle.template_pass.specs.Flat as flat
 use Rattle.template_pass.specs.Rows.{level_of}
@@ -40,9 +40,9 @@ mutual
   items_by_level : (k : ItemKind) (c : Path) (n : ℕ) (is : Items) → all_by_level (flat_items k c n is) ≡ parts_among k (length c) is
   items_by_level k c n no_items = refl
   items_by_level k c n (item i x more) =
-      item_by_level i.before (start (n ∷ c) k i x) (flat.inside (is_flow x) (flat.trailing (n ∷ c) k (is_collection x) i.trailing) (flat_below (n ∷ c) x)) (flat_items k c (suc n) more)
-      (level.inside (is_flow x) (level.trailing (owner (length c) k x) i.trailing) (parts_below (length c) x)) (parts_among k (length c) more)
-      (inside_by_level (is_flow x) (flat.trailing (n ∷ c) k (is_collection x) i.trailing) (flat_below (n ∷ c) x) (level.trailing (owner (length c) k x) i.trailing) (parts_below (length c) x)
+      item_by_level i.before (start (n ∷ c) k i x) (flat.inside (comes_behind i.trailing x) (flat.trailing (n ∷ c) k (is_collection x) i.trailing) (flat_below (n ∷ c) x)) (flat_items k c (suc n) more)
+      (level.inside (comes_behind i.trailing x) (level.trailing (owner (length c) k x) i.trailing) (parts_below (length c) x)) (parts_among k (length c) more)
+      (inside_by_level (comes_behind i.trailing x) (flat.trailing (n ∷ c) k (is_collection x) i.trailing) (flat_below (n ∷ c) x) (level.trailing (owner (length c) k x) i.trailing) (parts_below (length c) x)
       (trailing_by_level (n ∷ c) k x i.trailing) (below_by_level n c x))
       (items_by_level k c (suc n) more)
 

@@ -3,7 +3,7 @@ use Rattle.std.proofs.Common.{◌≡◌, ℕ, suc, List, [], ◌∷◌, ◌++◌
 use Rattle.std.proofs.lemmas.List.{map-append}
 use Rattle.yaml_spec.specs.Noted.{Comment, Content, noted_scalar, noted_list, noted_map, Items, no_items, item, Documents}
 use Rattle.code_spec.specs.Program.{ItemKind, document_item, pair_item, element_item}
-use Rattle.template_spec.specs.Events.{Path, Raw, begun, trails, loose, is_collection, is_flow, raw_items, raw_below, raw_text}
+use Rattle.template_spec.specs.Events.{Path, Raw, begun, trails, loose, is_collection, comes_behind, raw_items, raw_below, raw_text}
 use Rattle.template_spec.specs.Events as events
 use Rattle.template_pass.specs.Flat.{Flat, start, inside, flat_items, flat_below, flat_text, raw_of, raws_of}
 use Rattle.template_pass.specs.Flat as flat
@@ -36,10 +36,10 @@ mutual
   items_are : (k : ItemKind) (c : Path) (n : ℕ) (is : Items) (rest : List Raw) → raws_of (flat_items k c n is) ++ rest ≡ raw_items k c n is rest
   items_are k c n no_items rest = refl
   items_are k c n (item i x more) rest =
-      item_is i.before (start (n ∷ c) k i x) (inside (is_flow x) (flat.trailing (n ∷ c) k (is_collection x) i.trailing) (flat_below (n ∷ c) x)) (flat_items k c (suc n) more)
-      (λ l. if is_flow x then raw_below (n ∷ c) x (events.trailing (n ∷ c) k (is_collection x) i.trailing l) else events.trailing (n ∷ c) k (is_collection x) i.trailing (raw_below (n ∷ c) x l))
+      item_is i.before (start (n ∷ c) k i x) (inside (comes_behind i.trailing x) (flat.trailing (n ∷ c) k (is_collection x) i.trailing) (flat_below (n ∷ c) x)) (flat_items k c (suc n) more)
+      (λ l. if comes_behind i.trailing x then raw_below (n ∷ c) x (events.trailing (n ∷ c) k (is_collection x) i.trailing l) else events.trailing (n ∷ c) k (is_collection x) i.trailing (raw_below (n ∷ c) x l))
       (raw_items k c (suc n) more rest) rest
-      (inside_is (is_flow x) (flat.trailing (n ∷ c) k (is_collection x) i.trailing) (flat_below (n ∷ c) x) (events.trailing (n ∷ c) k (is_collection x) i.trailing) (raw_below (n ∷ c) x)
+      (inside_is (comes_behind i.trailing x) (flat.trailing (n ∷ c) k (is_collection x) i.trailing) (flat_below (n ∷ c) x) (events.trailing (n ∷ c) k (is_collection x) i.trailing) (raw_below (n ∷ c) x)
       (trailing_is (n ∷ c) k (is_collection x) i.trailing) (below_is (n ∷ c) x))
       (items_are k c (suc n) more rest)
 

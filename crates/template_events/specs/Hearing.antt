@@ -1,10 +1,10 @@
 -- The rows of items and comments: each code comment is heard together with those that continue it.
-use Rattle.std.specs.Prelude.{ℕ, Bool, false, if◌then◌else◌, List, [], ◌∷◌, ◌++◌, Option, Some, None, Ok}
+use Rattle.std.specs.Prelude.{ℕ, Bool, false, ◌&&◌, if◌then◌else◌, List, [], ◌∷◌, ◌++◌, Option, Some, None, Ok}
 use Rattle.ytt_base.specs.Outcomes.{Outcome, ◌>>=◌, place_at}
 use Rattle.yaml_spec.specs.Bytes.{line_feed}
-use Rattle.yaml_spec.specs.Noted.{Comment, code_in}
+use Rattle.yaml_spec.specs.Noted.{Comment, is_code, code_in}
 use Rattle.code_spec.specs.CodeReading.{CodeReader}
-use Rattle.template_spec.specs.Comments.{Said, ignored, comment_said}
+use Rattle.template_spec.specs.Comments.{Said, ignored, comment_said, without_end}
 use Rattle.template_spec.specs.Events.{continues_it}
 use Rattle.template_pass.specs.Rows.{Row, begins, beside, says}
 use Rattle.template_events.specs.Levels.{Owner, Part, starts, comment}
@@ -18,10 +18,17 @@ pub record Held : Type 0 where
 abbrev pub held_from : Option Owner → Comment → Held
 held_from o c = record { owner = o; comment = c; last = c.line }
 
+-- with more code
+abbrev pub longer_by : Comment → (code : List ℕ) → Comment
+longer_by c code = record { line = c.line; own_line = c.own_line; text = c.text ++ line_feed ∷ code }
+
 -- with more code, up to this line
 abbrev pub grown_by : Held → (code : List ℕ) → (line : ℕ) → Held
-grown_by h code l =
-    record { owner = h.owner; comment = record { line = h.comment.line; own_line = h.comment.own_line; text = h.comment.text ++ line_feed ∷ code }; last = l }
+grown_by h code l = record { owner = h.owner; comment = longer_by h.comment code; last = l }
+
+-- it is code whose brackets are open
+abbrev pub may_go_on : CodeReader → (file : ℕ) → Comment → Bool
+may_go_on r file c = is_code c.text && r.is_open (place_at file c.line) (without_end (code_in c.text))
 
 -- only a comment of no item continues another
 abbrev pub goes_on : CodeReader → (file : ℕ) → Option Held → Option Owner → (below : Comment) → Bool

@@ -1,15 +1,17 @@
 // The items and comments of documents, which are heard one after another.
-ghost use Rattle.std.specs.Prelude.{◌≡◌, ◌+◌, ◌++◌, [], ◌∷◌, IfOk, None, OnOk, option_map};
+ghost use Rattle.std.specs.Prelude.{◌≡◌, [], IfOk, None, option_map};
 ghost use Rattle.star_tree.specs.View.{item_kind_of};
-ghost use Rattle.template_events.specs.Heard.{AreHeard, AreKnown, Hears, HearsWhole, begin_parts, kept, trailing_parts};
+ghost use Rattle.template_events.specs.Heard.{AreHeard, Hears, HearsWhole, begin_parts, kept, trailing_parts};
 ghost use Rattle.template_events.specs.Levels as spec;
+ghost use Rattle.template_events.specs.Levels.{first_begins_on};
 ghost use Rattle.template_events.specs.View.{owner_of, shape_of, start_of};
-ghost use Rattle.template_pass.specs.Flat.{first_is_flow, shape};
-ghost use Rattle.template_spec.specs.Events.{is_collection, is_flow};
+ghost use Rattle.template_pass.specs.Flat.{shape};
+ghost use Rattle.template_spec.specs.Events.{begins_on, comes_behind, is_collection};
 ghost use Rattle.yaml_noted.specs.View.{comment_of, comments_of, content_of, documents_of, items_of, note_of};
 
 use crate::event::{Owner, Rows, Start, Written};
-use crate::hear::{Hearing, Setting, hear_comment, hear_start, let_go};
+use crate::gather::{Gathering, Setting, let_go};
+use crate::hear::{Hearing, hear_alone, hear_beside, hear_start, let_come};
 use star_tree::ItemKind;
 use std::alloc::Global;
 use yaml_noted::{Comments, Content, NotedDocs, NotedItem, NotedItems, RawComment};
@@ -48,24 +50,33 @@ fn is_collection(content: &Content) -> bool
     }
 }
 
-fn first_is_flow(items: &NotedItems) -> bool
-    ensures { result ≡ first_is_flow (items_of items.now) }
+fn first_begins_on(line: u32, items: &NotedItems) -> bool
+    ensures { result ≡ first_begins_on line (items_of items.now) }
 {
     match items.as_slice().first() {
-        Some(item) => item.flow,
+        Some(item) => item.place.line <= line,
         None => false,
     }
 }
 
-/// Whether a collection stands in brackets.
+/// Whether the first member of a collection begins on this line.
 #[tactic(auto, using(yaml_noted::proofs::Views::views))]
-fn is_flow(content: &Content) -> bool
-    ensures { result ≡ is_flow (content_of content.now) }
+fn begins_on(line: u32, content: &Content) -> bool
+    ensures { result ≡ begins_on line (content_of content.now) }
 {
     match content {
         Content::Scalar(_) => false,
-        Content::Map(items) => first_is_flow(items),
-        Content::List(items) => first_is_flow(items),
+        Content::Map(items) | Content::List(items) => first_begins_on(line, items),
+    }
+}
+
+/// Whether an item's comment comes behind what the item holds: behind the members that begin on its line.
+fn comes_behind(item: &NotedItem) -> bool
+    ensures { result ≡ comes_behind (option_map comment_of item.now.trailing) (content_of item.now.content) }
+{
+    match &item.trailing {
+        Some(comment) => begins_on(comment.line, &item.content),
+        None => false,
     }
 }
 
@@ -96,12 +107,10 @@ fn hear_loose<'a>(
     comments: &'a Comments,
     hearing: &mut Hearing<'a>,
 ) -> Result<(), Stop>
-    requires known { AreKnown hearing.old.held }
-    ensures hears { Hears setting (spec.loose_all (comments_of comments.now)) hearing.old hearing.new result }
-    ensures known { OnOk result (AreKnown hearing.new.held) }
+    ensures { Hears setting (spec.loose_all (comments_of comments.now)) hearing.old hearing.new result }
 {
     for comment in comments.as_slice() {
-        hear_comment(setting, None, comment, hearing)?;
+        hear_alone(setting, comment, hearing)?;
     }
     Ok(())
 }
@@ -114,9 +123,7 @@ fn hear_begin<'a>(
     level: usize,
     hearing: &mut Hearing<'a>,
 ) -> Result<(), Stop>
-    requires known { AreKnown hearing.old.held }
-    ensures hears { Hears setting (begin_parts level kind item.now) hearing.old hearing.new result }
-    ensures known { OnOk result (AreKnown hearing.new.held) }
+    ensures { Hears setting (begin_parts level kind item.now) hearing.old hearing.new result }
 {
     hear_loose(setting, &item.before, hearing)?;
     let start = start(setting.alloc, item, kind, level)?;
@@ -130,20 +137,18 @@ fn hear_trailing<'a>(
     level: usize,
     hearing: &mut Hearing<'a>,
 ) -> Result<(), Stop>
-    requires known { AreKnown hearing.old.held }
-    ensures hears { Hears setting (trailing_parts level kind item.now) hearing.old hearing.new result }
-    ensures known { OnOk result (AreKnown hearing.new.held) }
+    ensures { Hears setting (trailing_parts level kind item.now) hearing.old hearing.new result }
 {
     match &item.trailing {
         Some(comment) => {
             let owner = owner(item, kind, level);
-            hear_comment(setting, Some(owner), comment, hearing)
+            hear_beside(setting, owner, comment, hearing)
         }
         None => Ok(()),
     }
 }
 
-/// Hears the comment of an item and what the item holds; a collection in brackets ends before the comment on its line.
+/// Hears the comment of an item and what the item holds.
 #[cycle(flat)]
 fn hear_inside<'a>(
     setting: Setting,
@@ -152,11 +157,9 @@ fn hear_inside<'a>(
     level: usize,
     hearing: &mut Hearing<'a>,
 ) -> Result<(), Stop>
-    requires known { AreKnown hearing.old.held }
-    ensures hears { Hears setting (spec.inside_item (item_kind_of kind) level (note_of item.now) (content_of item.now.content)) hearing.old hearing.new result }
-    ensures known { OnOk result (AreKnown hearing.new.held) }
+    ensures { Hears setting (spec.inside_item (item_kind_of kind) level (note_of item.now) (content_of item.now.content)) hearing.old hearing.new result }
 {
-    if is_flow(&item.content) {
+    if comes_behind(item) {
         hear_below(setting, &item.content, level, hearing)?;
         hear_trailing(setting, item, kind, level, hearing)
     } else {
@@ -174,9 +177,7 @@ fn hear_below<'a>(
     level: usize,
     hearing: &mut Hearing<'a>,
 ) -> Result<(), Stop>
-    requires known { AreKnown hearing.old.held }
-    ensures hears { Hears setting (spec.parts_below level (content_of content.now)) hearing.old hearing.new result }
-    ensures known { OnOk result (AreKnown hearing.new.held) }
+    ensures { Hears setting (spec.parts_below level (content_of content.now)) hearing.old hearing.new result }
 {
     let Some(inner) = level.checked_add(1) else {
         return Err(Stop::Memory);
@@ -197,9 +198,7 @@ fn hear_items<'a>(
     level: usize,
     hearing: &mut Hearing<'a>,
 ) -> Result<(), Stop>
-    requires known { AreKnown hearing.old.held }
-    ensures hears { Hears setting (spec.parts_among (item_kind_of kind) level (items_of items.now)) hearing.old hearing.new result }
-    ensures known { OnOk result (AreKnown hearing.new.held) }
+    ensures { Hears setting (spec.parts_among (item_kind_of kind) level (items_of items.now)) hearing.old hearing.new result }
 {
     for item in items.as_slice() {
         hear_begin(setting, item, kind, level, hearing)?;
@@ -214,32 +213,34 @@ fn hear_all<'a>(
     docs: &'a NotedDocs,
     hearing: &mut Hearing<'a>,
 ) -> Result<(), Stop>
-    requires known { AreKnown hearing.old.held }
-    ensures hears { Hears setting (spec.parts_in (documents_of docs.now)) hearing.old hearing.new result }
+    ensures { Hears setting (spec.parts_in (documents_of docs.now)) hearing.old hearing.new result }
 {
     hear_items(setting, &docs.items, ItemKind::Document, 0, hearing)?;
     hear_loose(setting, &docs.after, hearing)
 }
 
-/// Hears documents from their begin, and lets go of what is held at their end.
+/// Hears documents from their begin; at their end what waits comes, and then what is held.
 fn hear_whole<'a>(
     setting: Setting,
     docs: &'a NotedDocs,
     hearing: &mut Hearing<'a>,
 ) -> Result<(), Stop>
-    requires rows { hearing.old.rows.items ≡ [] }
-    requires held { hearing.old.held ≡ None }
-    ensures { HearsWhole setting (documents_of docs.now) hearing.new result }
+    requires rows { hearing.old.gathering.rows.items ≡ [] }
+    requires held { hearing.old.gathering.held ≡ None }
+    requires waiting { hearing.old.waiting ≡ None }
+    ensures { HearsWhole setting (documents_of docs.now) hearing.new.gathering result }
 {
     hear_all(setting, docs, hearing)?;
-    let_go(setting, hearing)
+    let_come(setting, hearing)?;
+    let_go(setting, &mut hearing.gathering)
 }
 
 /// The rows that were heard, or why not all were.
 fn rows_of(heard: Result<(), Stop>, hearing: Hearing<'_>) -> Result<Rows, Stop>
-    ensures { result ≡ kept heard hearing.entry.rows }
+    ensures { result ≡ kept heard hearing.entry.gathering.rows }
 {
-    let Hearing { rows, .. } = hearing;
+    let Hearing { gathering, .. } = hearing;
+    let Gathering { rows, .. } = gathering;
     match heard {
         Ok(()) => Ok(rows),
         Err(stop) => {
@@ -251,8 +252,9 @@ fn rows_of(heard: Result<(), Stop>, hearing: Hearing<'_>) -> Result<Rows, Stop>
 
 /// The rows of documents in text order: each item as it begins, and what the comments say.
 ///
-/// `file` is the number of the documents' file, which faults and places name. A comment of code whose brackets are open at its end goes
-/// on with the code on a line of its own directly below; ignored comments, such as those that begin with `#!`, and under
+/// `file` is the number of the documents' file, which faults and places name. Comments come in the order of their lines; the comment on an
+/// item's line comes behind the members of its collection that begin on that line. A comment of code whose brackets are open at its end
+/// goes on with the code on a line of its own directly below; ignored comments, such as those that begin with `#!`, and under
 /// `ignore_unknown` those that don't begin with `#@`, are no rows.
 ///
 /// A fault is the first one of a comment in text order, as `read_comment` of `notes_read` tells it. Want of memory is `Stop::Memory`.
@@ -270,8 +272,11 @@ pub fn read_events(
         ignore_unknown,
     };
     let mut hearing = Hearing {
-        rows: Vec::new(alloc),
-        held: None,
+        gathering: Gathering {
+            rows: Vec::new(alloc),
+            held: None,
+        },
+        waiting: None,
     };
     let heard = hear_whole(setting, docs, &mut hearing);
     rows_of(heard, hearing)

@@ -11,7 +11,7 @@ use Rattle.yaml_spec.specs.Noted.{Comment, Note, Content, noted_scalar, noted_li
 use Rattle.code_spec.specs.CodeReading.{CodeReader}
 use Rattle.code_spec.specs.Program.{ItemKind, document_item, pair_item, element_item}
 use Rattle.template_spec.specs.Comments.{Said, ignored, comment_said}
-use Rattle.template_spec.specs.Events.{Path, Raw, begun, trails, loose, loose_all, trailing, is_flow, is_collection, raw_items, raw_below, raw_text, Held, nothing, held, held_trailing, let_go, goes_on, grown, gathered, Event, begins, beside, says, spoken, heard, events}
+use Rattle.template_spec.specs.Events.{Path, Raw, begun, trails, loose, loose_all, trailing, comes_behind, is_collection, raw_items, raw_below, raw_text, Waiting, none_waits, waits, then_come, is_later, by_line, Held, nothing, held, held_trailing, let_go, goes_on, grown, gathered, Event, begins, beside, says, spoken, heard, events}
 use Rattle.template_spec.specs.OpenBlocks.{collection_of, lies_in, so_far}
 use Rattle.template_pass.specs.Orderly.{Orderly}
 use Rattle.template_pass.proofs.Paths.{In, in_itself, in_below, in_length, lies, same_by_length}
@@ -50,7 +50,23 @@ orderly_by q past (begins p k l ∷ es) h = (h.0, h.1 ∙ ap (λ n. n ∷ collec
 orderly_by q past (beside p k b l s ∷ es) h = orderly_by q (beside p k b l s ∷ past) es h
 orderly_by q past (says l s ∷ es) h = orderly_by q (says l s ∷ past) es h
 
--- ---- gathering and hearing keep the items in their order
+-- ---- the order of lines, gathering and hearing keep the items in their order
+
+begun_come : (w : Waiting) (xs : List Raw) → begun_in (then_come w xs) ≡ begun_in xs
+begun_come none_waits xs = refl
+begun_come (waits p k b c) xs = refl
+
+begun_if : (b : Bool) (xs ys : List Raw) (ps : List Path) → begun_in xs ≡ ps → begun_in ys ≡ ps → begun_in (if b then xs else ys) ≡ ps
+begun_if true xs ys ps h k = h
+begun_if false xs ys ps h k = k
+
+begun_by_line : (w : Waiting) (xs : List Raw) → begun_in (by_line w xs) ≡ begun_in xs
+begun_by_line w [] = begun_come w []
+begun_by_line w (begun p k l ∷ xs) = begun_come w (begun p k l ∷ by_line none_waits xs) ∙ ap (λ ps. p ∷ ps) (begun_by_line none_waits xs)
+begun_by_line w (trails p k b c ∷ xs) = begun_come w (by_line (waits p k b c) xs) ∙ begun_by_line (waits p k b c) xs
+begun_by_line w (loose d ∷ xs) =
+    begun_if (is_later w d) (loose d ∷ by_line w xs) (then_come w (loose d ∷ by_line none_waits xs)) (begun_in xs)
+    (begun_by_line w xs) (begun_come w (loose d ∷ by_line none_waits xs) ∙ begun_by_line none_waits xs)
 
 begun_let_go : (h : Held) (xs : List Raw) → begun_in (let_go h xs) ≡ begun_in xs
 begun_let_go nothing xs = refl
@@ -174,14 +190,14 @@ module _ (k : ItemKind) (c : Path) (n : ℕ) (x : Content) (more : Items)
   item_ordered : (i : Note) → Ordered c n (raw_items k c n (item i x more))
   item_ordered i q ps rest h e u f =
       rw (begun_loose i.before)
-      (lies q c h, ap (λ m. m ∷ c) (sym e), by_flow (is_flow x) (is_collection x))
+      (lies q c h, ap (λ m. m ∷ c) (sym e), by_order (comes_behind i.trailing x) (is_collection x))
     where
-      by_flow : (b z : Bool) → InOrder (n ∷ c) ((n ∷ c) ∷ ps)
+      by_order : (b z : Bool) → InOrder (n ∷ c) ((n ∷ c) ∷ ps)
           (begun_in (if b then raw_below (n ∷ c) x (trailing (n ∷ c) k z i.trailing (raw_items k c (suc n) more rest)) else trailing (n ∷ c) k z i.trailing (raw_below (n ∷ c) x (raw_items k c (suc n) more rest))))
-      by_flow true z =
+      by_order true z =
           below (n ∷ c) ((n ∷ c) ∷ ps) (trailing (n ∷ c) k z i.trailing (raw_items k c (suc n) more rest)) (in_itself (n ∷ c)) (counted_in n c ps u) (unbegun_in n c ps u)
           (rw begun_trailing (others_follow ps rest e u f))
-      by_flow false z =
+      by_order false z =
           rw begun_trailing
           (below (n ∷ c) ((n ∷ c) ∷ ps) (raw_items k c (suc n) more rest) (in_itself (n ∷ c)) (counted_in n c ps u) (unbegun_in n c ps u) (others_follow ps rest e u f))
 
@@ -205,7 +221,8 @@ text_ordered ds = items_ordered document_item [] 0 ds.items [] [] (loose_all ds.
 pub events_begun : (r : CodeReader) (ignore : Bool) (file : ℕ) (ds : Documents) (es : List Event) → events r ignore file ds ≡ Ok es → begun_by es ≡ begun_in (raw_text ds)
 unfolding events
 events_begun r ignore file ds es e =
-    IfOk-at_ok (Same (gathered r file nothing (raw_text ds))) e (begun_heard r ignore file (gathered r file nothing (raw_text ds))) ∙ begun_gathered r file nothing (raw_text ds)
+    let xs = by_line none_waits (raw_text ds) in
+    IfOk-at_ok (Same (gathered r file nothing xs)) e (begun_heard r ignore file (gathered r file nothing xs)) ∙ begun_gathered r file nothing xs ∙ begun_by_line none_waits (raw_text ds)
 
 -- the events of documents are in order
 pub events_orderly : (r : CodeReader) (ignore : Bool) (file : ℕ) (ds : Documents) (es : List Event) → events r ignore file ds ≡ Ok es → Orderly [] [] es

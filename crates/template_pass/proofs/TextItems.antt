@@ -11,7 +11,7 @@ use Rattle.code_spec.specs.CodeReading.{CodeReader}
 use Rattle.code_spec.specs.Program.{ItemKind, document_item, pair_item, element_item}
 use Rattle.template_spec.specs.Comments.{Said, ignored, comment_said}
 use Rattle.template_spec.specs.Events as event
-use Rattle.template_spec.specs.Events.{Path, Raw, begun, trails, loose, is_flow, is_collection, raw_items, raw_below, raw_text, Held, nothing, held, held_trailing, let_go, goes_on, grown, gathered, Event, begins, beside, says, spoken, heard, events}
+use Rattle.template_spec.specs.Events.{Path, Raw, begun, trails, loose, comes_behind, is_collection, raw_items, raw_below, raw_text, Waiting, none_waits, waits, then_come, is_later, by_line, Held, nothing, held, held_trailing, let_go, goes_on, grown, gathered, Event, begins, beside, says, spoken, heard, events}
 use Rattle.template_pass.specs.Flat.{Shape, Flat, starts, trailing_of, alone, loose_all, trailing, inside, start, flat_items, flat_below, flat_text}
 use Rattle.template_pass.specs.Rows.{level_of, Start, started, flat_started}
 use Rattle.template_pass.proofs.EventPuts.{BesideStands, rows_of}
@@ -81,11 +81,11 @@ mutual
   flat_items_begun : (k : ItemKind) (c : Path) (n : ℕ) (is : Items) → flat_begun (flat_items k c n is) ≡ items_begun k c n is
   flat_items_begun k c n no_items = refl
   flat_items_begun k c n (item i x more) =
-      flat-append (loose_all i.before ++ start (n ∷ c) k i x ∷ inside (is_flow x) (trailing (n ∷ c) k (is_collection x) i.trailing) (flat_below (n ∷ c) x)) (flat_items k c (suc n) more)
+      flat-append (loose_all i.before ++ start (n ∷ c) k i x ∷ inside (comes_behind i.trailing x) (trailing (n ∷ c) k (is_collection x) i.trailing) (flat_below (n ∷ c) x)) (flat_items k c (suc n) more)
       ∙ ap₂ (λ (xs ys : List Begun). xs ++ ys)
-      (behind_loose i.before (start (n ∷ c) k i x ∷ inside (is_flow x) (trailing (n ∷ c) k (is_collection x) i.trailing) (flat_below (n ∷ c) x))
+      (behind_loose i.before (start (n ∷ c) k i x ∷ inside (comes_behind i.trailing x) (trailing (n ∷ c) k (is_collection x) i.trailing) (flat_below (n ∷ c) x))
       ∙ ap (λ (bs : List Begun). begun_of (n ∷ c) k i x ∷ bs)
-      (begun_inside (is_flow x) (n ∷ c) k (is_collection x) i.trailing (flat_below (n ∷ c) x) ∙ flat_below_begun (n ∷ c) x))
+      (begun_inside (comes_behind i.trailing x) (n ∷ c) k (is_collection x) i.trailing (flat_below (n ∷ c) x) ∙ flat_below_begun (n ∷ c) x))
       (flat_items_begun k c (suc n) more)
 
   flat_below_begun : (p : Path) (x : Content) → flat_begun (flat_below p x) ≡ below_begun p x
@@ -111,11 +111,11 @@ paths-append : (xs ys : List Begun) (ps : List Path) → paths_of xs ++ (paths_o
 paths-append [] ys ps = refl
 paths-append (x ∷ xs) ys ps = ap (λ (qs : List Path). x.path ∷ qs) (paths-append xs ys ps)
 
-by_flow : (p : Path) (k : ItemKind) (z : Bool) (t : Option Comment) (below : List Raw → List Raw) (after : List Raw) (bs : List Begun) (b : Bool) →
+by_order : (p : Path) (k : ItemKind) (z : Bool) (t : Option Comment) (below : List Raw → List Raw) (after : List Raw) (bs : List Begun) (b : Bool) →
     ((rest : List Raw) → begun_in (below rest) ≡ paths_of bs ++ begun_in rest) →
     begun_in (if b then below (event.trailing p k z t after) else event.trailing p k z t (below after)) ≡ paths_of bs ++ begun_in after
-by_flow p k z t below after bs true h = h (event.trailing p k z t after) ∙ ap (λ (ps : List Path). paths_of bs ++ ps) (begun_trailing p k z t after)
-by_flow p k z t below after bs false h = begun_trailing p k z t (below after) ∙ h after
+by_order p k z t below after bs true h = h (event.trailing p k z t after) ∙ ap (λ (ps : List Path). paths_of bs ++ ps) (begun_trailing p k z t after)
+by_order p k z t below after bs false h = begun_trailing p k z t (below after) ∙ h after
 
 mutual
   raw_items_begun : (k : ItemKind) (c : Path) (n : ℕ) (is : Items) (rest : List Raw) → begun_in (raw_items k c n is rest) ≡ paths_of (items_begun k c n is) ++ begun_in rest
@@ -123,7 +123,7 @@ mutual
   raw_items_begun k c n (item i x more) rest =
       begun_loose i.before _
       ∙ ap (λ (ps : List Path). (n ∷ c) ∷ ps)
-      (by_flow (n ∷ c) k (is_collection x) i.trailing (raw_below (n ∷ c) x) (raw_items k c (suc n) more rest) (below_begun (n ∷ c) x) (is_flow x) (raw_below_begun (n ∷ c) x)
+      (by_order (n ∷ c) k (is_collection x) i.trailing (raw_below (n ∷ c) x) (raw_items k c (suc n) more rest) (below_begun (n ∷ c) x) (comes_behind i.trailing x) (raw_below_begun (n ∷ c) x)
       ∙ ap (λ (ps : List Path). paths_of (below_begun (n ∷ c) x) ++ ps) (raw_items_begun k c (suc n) more rest)
       ∙ paths-append (below_begun (n ∷ c) x) (items_begun k c (suc n) more) (begun_in rest))
 
@@ -185,7 +185,7 @@ mutual
   items_stand : (k : ItemKind) (c : Path) (n : ℕ) (is : Items) (rest : List Raw) (q : Path) → In q c → StandsBehind c rest → RawStands q (raw_items k c n is rest)
   items_stand k c n no_items rest q i h = h q i
   items_stand k c n (item note x more) rest q i h =
-      loose_stand q note.before _ (item_stands k c n (is_collection x) note.trailing (raw_below (n ∷ c) x) (raw_items k c (suc n) more rest) (is_flow x)
+      loose_stand q note.before _ (item_stands k c n (is_collection x) note.trailing (raw_below (n ∷ c) x) (raw_items k c (suc n) more rest) (comes_behind note.trailing x)
       (λ rest q i h. below_stands (n ∷ c) x rest q i h) (λ q i. items_stand k c (suc n) more rest q (in_outer n q c i) h))
 
   below_stands : (p : Path) (x : Content) (rest : List Raw) (q : Path) → In q p → StandsBehind p rest → RawStands q (raw_below p x rest)
@@ -195,6 +195,26 @@ mutual
 
 text_stands : (ds : Documents) → RawStands [] (raw_text ds)
 text_stands ds = items_stand document_item [] 0 ds.items (event.loose_all ds.after []) [] (in_itself []) (λ q i. loose_stand q ds.after [] tt)
+
+abbrev WaitingStands : (last : Path) → Waiting → Type 0
+WaitingStands q none_waits = Unit {0}
+WaitingStands q (waits p k b c) = In q p × (suc (level_of p) ≡ length p)
+
+come_stand : (q : Path) (w : Waiting) (xs : List Raw) → WaitingStands q w → RawStands q xs → RawStands q (then_come w xs)
+come_stand q none_waits xs s t = t
+come_stand q (waits p k b c) xs s t = (s.0, s.1, t)
+
+if_stands : (q : Path) (b : Bool) (xs ys : List Raw) → RawStands q xs → RawStands q ys → RawStands q (if b then xs else ys)
+if_stands q true xs ys s t = s
+if_stands q false xs ys s t = t
+
+by_line_stands : (q : Path) (w : Waiting) (xs : List Raw) → WaitingStands q w → RawStands q xs → RawStands q (by_line w xs)
+by_line_stands q w [] s t = come_stand q w [] s tt
+by_line_stands q w (begun p k l ∷ xs) s t = come_stand q w (begun p k l ∷ by_line none_waits xs) s (by_line_stands p none_waits xs tt t)
+by_line_stands q w (trails p k b c ∷ xs) s t = come_stand q w (by_line (waits p k b c) xs) s (by_line_stands q (waits p k b c) xs (t.0, t.1) t.2)
+by_line_stands q w (loose d ∷ xs) s t =
+    if_stands q (is_later w d) (loose d ∷ by_line w xs) (then_come w (loose d ∷ by_line none_waits xs)) (by_line_stands q w xs s t)
+    (come_stand q w (loose d ∷ by_line none_waits xs) s (by_line_stands q none_waits xs tt t))
 
 let_go_stands : (q : Path) (h : Held) (xs : List Raw) → HeldStands q h → RawStands q xs → RawStands q (let_go h xs)
 let_go_stands q nothing xs s t = t
@@ -243,4 +263,5 @@ heard_stands r ignore file q (loose c ∷ xs) h =
 pub events_beside : (r : CodeReader) (ignore : Bool) (file : ℕ) (ds : Documents) (es : List Event) → events r ignore file ds ≡ Ok es → BesideStands [] es
 unfolding events
 events_beside r ignore file ds es e =
-    IfOk-at_ok (BesideStands []) e (heard_stands r ignore file [] (gathered r file nothing (raw_text ds)) (gathered_stands r file [] nothing (raw_text ds) tt (text_stands ds)))
+    let xs = by_line none_waits (raw_text ds) in
+    IfOk-at_ok (BesideStands []) e (heard_stands r ignore file [] (gathered r file nothing xs) (gathered_stands r file [] nothing xs tt (by_line_stands [] none_waits (raw_text ds) tt (text_stands ds))))

@@ -1,9 +1,9 @@
 -- The items of noted documents, with their keys and what is written in them, and the comments, in text order.
-use Rattle.std.specs.Prelude.{ℕ, suc, Bool, false, if◌then◌else◌, List, [], ◌∷◌, ◌++◌, map as each, Option, Some, None}
+use Rattle.std.specs.Prelude.{ℕ, suc, Bool, if◌then◌else◌, List, [], ◌∷◌, ◌++◌, map as each, Option, Some, None}
 use Rattle.ytt_base.specs.Trees.{Scalar, Tree}
 use Rattle.yaml_spec.specs.Noted.{Comment, Note, Content, noted_scalar, noted_list, noted_map, Items, no_items, item, Documents}
 use Rattle.code_spec.specs.Program.{ItemKind, document_item, pair_item, element_item}
-use Rattle.template_spec.specs.Events.{Path, Raw, begun, trails, loose, is_collection, is_flow}
+use Rattle.template_spec.specs.Events.{Path, Raw, begun, trails, loose, is_collection, comes_behind}
 
 -- what is written in an item
 pub data Shape : Type 0 where
@@ -32,19 +32,15 @@ abbrev pub trailing : Path → ItemKind → (is_collection : Bool) → Option Co
 trailing p k b None = []
 trailing p k b (Some c) = trailing_of p k b c ∷ []
 
-abbrev pub first_is_flow : Items → Bool
-first_is_flow no_items = false
-first_is_flow (item n c is) = n.flow
-
--- an item's comment, and what the item holds; a collection in brackets ends before the comment
-abbrev pub inside : (is_flow : Bool) → (comment below : List Flat) → List Flat
+-- an item's comment, and what the item holds: the comment before it, or behind it
+abbrev pub inside : (is_behind : Bool) → (comment below : List Flat) → List Flat
 inside b comment below = if b then below ++ comment else comment ++ below
 
 abbrev mutual
   pub flat_items : ItemKind → Path → (number : ℕ) → Items → List Flat
   flat_items k c n no_items = []
   flat_items k c n (item i x more) =
-      (loose_all i.before ++ start (n ∷ c) k i x ∷ inside (is_flow x) (trailing (n ∷ c) k (is_collection x) i.trailing) (flat_below (n ∷ c) x)) ++ flat_items k c (suc n) more
+      (loose_all i.before ++ start (n ∷ c) k i x ∷ inside (comes_behind i.trailing x) (trailing (n ∷ c) k (is_collection x) i.trailing) (flat_below (n ∷ c) x)) ++ flat_items k c (suc n) more
 
   pub flat_below : Path → Content → List Flat
   flat_below p (noted_scalar t) = []
@@ -52,7 +48,7 @@ abbrev mutual
   flat_below p (noted_map is) = flat_items pair_item p 0 is
 
 abbrev pub flat_item : ItemKind → Path → Note → Content → List Flat
-flat_item k p i x = loose_all i.before ++ start p k i x ∷ inside (is_flow x) (trailing p k (is_collection x) i.trailing) (flat_below p x)
+flat_item k p i x = loose_all i.before ++ start p k i x ∷ inside (comes_behind i.trailing x) (trailing p k (is_collection x) i.trailing) (flat_below p x)
 
 abbrev pub flat_text : Documents → List Flat
 flat_text ds = flat_items document_item [] 0 ds.items ++ loose_all ds.after

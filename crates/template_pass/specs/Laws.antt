@@ -4,8 +4,7 @@ use Rattle.yaml_spec.specs.Noted.{Documents}
 use Rattle.code_spec.specs.CodeReading.{CodeReader}
 use Rattle.template_spec.specs.Events.{Event, events}
 use Rattle.template_spec.specs.Misplaced.{placing_fault}
-use Rattle.template_spec.specs.Nesting.{placed_whole, template_of}
-use Rattle.template_spec.specs.Template.{Items}
+use Rattle.template_spec.specs.Nesting.{template_of}
 use Rattle.template_pass.specs.Building.{template_by_levels}
 use Rattle.template_pass.specs.Levels.{fault_by_levels}
 use Rattle.template_pass.specs.Rows.{AreRows, Row}

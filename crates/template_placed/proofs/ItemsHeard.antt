@@ -8,7 +8,7 @@ use Rattle.yaml_spec.specs.Noted.{Comment, Content, noted_scalar, noted_list, no
 use Rattle.code_spec.specs.CodeReading.{CodeReader}
 use Rattle.code_spec.specs.Program.{ItemKind, document_item, pair_item, element_item}
 use Rattle.template_spec.specs.Comments.{Said, ignored, comment_said}
-use Rattle.template_spec.specs.Events.{Path, Raw, begun, trails, loose, loose_all, trailing, is_flow, is_collection, raw_items, raw_below, raw_text, Held, nothing, held, held_trailing, let_go, goes_on, grown, gathered, Event, begins, beside, says, spoken, heard, events}
+use Rattle.template_spec.specs.Events.{Path, Raw, begun, trails, loose, loose_all, trailing, comes_behind, is_collection, raw_items, raw_below, raw_text, Waiting, none_waits, waits, then_come, is_later, by_line, Held, nothing, held, held_trailing, let_go, goes_on, grown, gathered, Event, begins, beside, says, spoken, heard, events}
 use Rattle.template_pass.specs.Flat.{flat_text}
 use Rattle.template_pass.specs.Rows.{Start, started, flat_started, level_of}
 use Rattle.template_pass.proofs.EventPuts.{rows_of}
@@ -35,7 +35,23 @@ abbrev tree_begun : List Begun → List Beginning
 tree_begun [] = []
 tree_begun (b ∷ bs) = beginning b.path b.kind b.line ∷ tree_begun bs
 
--- ---- gathering and hearing keep them
+-- ---- the order of lines, gathering and hearing keep them
+
+begun_come : (w : Waiting) (xs : List Raw) → raw_begun (then_come w xs) ≡ raw_begun xs
+begun_come none_waits xs = refl
+begun_come (waits p k b c) xs = refl
+
+begun_if : (b : Bool) (xs ys : List Raw) (bs : List Beginning) → raw_begun xs ≡ bs → raw_begun ys ≡ bs → raw_begun (if b then xs else ys) ≡ bs
+begun_if true xs ys bs h k = h
+begun_if false xs ys bs h k = k
+
+begun_by_line : (w : Waiting) (xs : List Raw) → raw_begun (by_line w xs) ≡ raw_begun xs
+begun_by_line w [] = begun_come w []
+begun_by_line w (begun p k l ∷ xs) = begun_come w (begun p k l ∷ by_line none_waits xs) ∙ ap (λ (bs : List Beginning). beginning p k l ∷ bs) (begun_by_line none_waits xs)
+begun_by_line w (trails p k b c ∷ xs) = begun_come w (by_line (waits p k b c) xs) ∙ begun_by_line (waits p k b c) xs
+begun_by_line w (loose d ∷ xs) =
+    begun_if (is_later w d) (loose d ∷ by_line w xs) (then_come w (loose d ∷ by_line none_waits xs)) (raw_begun xs)
+    (begun_by_line w xs) (begun_come w (loose d ∷ by_line none_waits xs) ∙ begun_by_line none_waits xs)
 
 begun_let_go : (h : Held) (xs : List Raw) → raw_begun (let_go h xs) ≡ raw_begun xs
 begun_let_go nothing xs = refl
@@ -90,11 +106,11 @@ tree-append : (xs ys : List Begun) (ps : List Beginning) → tree_begun xs ++ (t
 tree-append [] ys ps = refl
 tree-append (x ∷ xs) ys ps = ap (λ (qs : List Beginning). beginning x.path x.kind x.line ∷ qs) (tree-append xs ys ps)
 
-by_flow : (p : Path) (k : ItemKind) (z : Bool) (t : Option Comment) (below : List Raw → List Raw) (after : List Raw) (bs : List Begun) (b : Bool) →
+by_order : (p : Path) (k : ItemKind) (z : Bool) (t : Option Comment) (below : List Raw → List Raw) (after : List Raw) (bs : List Begun) (b : Bool) →
     ((rest : List Raw) → raw_begun (below rest) ≡ tree_begun bs ++ raw_begun rest) →
     raw_begun (if b then below (trailing p k z t after) else trailing p k z t (below after)) ≡ tree_begun bs ++ raw_begun after
-by_flow p k z t below after bs true h = h (trailing p k z t after) ∙ ap (λ (ps : List Beginning). tree_begun bs ++ ps) (begun_trailing p k z t after)
-by_flow p k z t below after bs false h = begun_trailing p k z t (below after) ∙ h after
+by_order p k z t below after bs true h = h (trailing p k z t after) ∙ ap (λ (ps : List Beginning). tree_begun bs ++ ps) (begun_trailing p k z t after)
+by_order p k z t below after bs false h = begun_trailing p k z t (below after) ∙ h after
 
 mutual
   items_are : (k : ItemKind) (c : Path) (n : ℕ) (is : Items) (rest : List Raw) → raw_begun (raw_items k c n is rest) ≡ tree_begun (items_begun k c n is) ++ raw_begun rest
@@ -102,7 +118,7 @@ mutual
   items_are k c n (item i x more) rest =
       begun_loose i.before _
       ∙ ap (λ (ps : List Beginning). beginning (n ∷ c) k i.place.line ∷ ps)
-      (by_flow (n ∷ c) k (is_collection x) i.trailing (raw_below (n ∷ c) x) (raw_items k c (suc n) more rest) (below_begun (n ∷ c) x) (is_flow x) (below_are (n ∷ c) x)
+      (by_order (n ∷ c) k (is_collection x) i.trailing (raw_below (n ∷ c) x) (raw_items k c (suc n) more rest) (below_begun (n ∷ c) x) (comes_behind i.trailing x) (below_are (n ∷ c) x)
       ∙ ap (λ (ps : List Beginning). tree_begun (below_begun (n ∷ c) x) ++ ps) (items_are k c (suc n) more rest)
       ∙ tree-append (below_begun (n ∷ c) x) (items_begun k c (suc n) more) (raw_begun rest))
 
@@ -120,7 +136,8 @@ text_are ds =
 events_are : (r : CodeReader) (ignore : Bool) (file : ℕ) (ds : Documents) (es : List Event) → events r ignore file ds ≡ Ok es → event_begun es ≡ tree_begun (items_begun document_item [] 0 ds.items)
 unfolding events
 events_are r ignore file ds es e =
-    IfOk-at_ok (Same (gathered r file nothing (raw_text ds))) e (begun_heard r ignore file (gathered r file nothing (raw_text ds))) ∙ begun_gathered r file nothing (raw_text ds) ∙ text_are ds
+    let xs = by_line none_waits (raw_text ds) in
+    IfOk-at_ok (Same (gathered r file nothing xs)) e (begun_heard r ignore file (gathered r file nothing xs)) ∙ begun_gathered r file nothing xs ∙ begun_by_line none_waits (raw_text ds) ∙ text_are ds
 
 -- ---- rows
 

@@ -16,7 +16,7 @@ use Rattle.code_spec.specs.Program.{Instruction, part, statement, begin_if, begi
 use Rattle.star_spec.specs.Held.{HeldExpr, HeldExprs, HeldParameters, HeldStatement}
 use Rattle.template_spec.specs.Comments.{begins as said_begins}
 use Rattle.template_spec.specs.Comments.{Said, ignored, a_note, a_value, statements, opens, elif, otherwise, closes, arguments_in, code_said, comment_said, header_said, is_bare_note, is_for_one, is_header, known_said, marked_said, name_in, note_names, note_said, note_with, plain_said, value_said, without_end}
-use Rattle.template_spec.specs.Events.{Event, begins, beside, says, Raw, begun, trails, loose, events, gathered, heard, nothing, raw_text, spoken}
+use Rattle.template_spec.specs.Events.{Event, begins, beside, says, Raw, begun, trails, loose, events, gathered, heard, nothing, raw_text, none_waits, by_line, spoken}
 
 -- ---- readers
 
@@ -138,4 +138,4 @@ module _ (r : CodeReader) (reads : ReadsHeld r) where
 
   pub events_held : (ignore : Bool) (file : ℕ) (ds : Documents) → IfOk (events r ignore file ds) HeldEvents
   unfolding events
-  events_held ignore file ds = heard_held ignore file (gathered r file nothing (raw_text ds))
+  events_held ignore file ds = heard_held ignore file (gathered r file nothing (by_line none_waits (raw_text ds)))

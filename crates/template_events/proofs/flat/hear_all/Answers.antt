@@ -6,10 +6,8 @@ use Rattle.template_events.proofs.Taking.{hears_stopped}
 use Rattle.template_events.proofs.flat.hear_all.Goals as goal
 
 pub returns-in_err-hear_items : goal.returns-in_err-hear_items
-returns-in_err-hear_items c = record {
-  hears = λ r reads rest.
-      let stops : c.from_residual.result ≡ Err c.in_err-hear_items.field-0.0 = search rules in
-      rw stops
-      (hears_stopped c.args.setting (parts_among document_item 0 (items_of c.args.docs.now.items)) (loose_all (comments_of c.args.docs.now.after)) c.args.hearing.now c.hear_items.new.hearing c.hear_items.new.hearing
-      c.in_err-hear_items.field-0.0 c.in_err-hear_items.ensures.hears r reads rest);
-}
+returns-in_err-hear_items c = λ r reads rest.
+    let stops : c.from_residual.result ≡ Err c.in_err-hear_items.field-0.0 = search rules in
+    rw stops
+    (hears_stopped c.args.setting (parts_among document_item 0 (items_of c.args.docs.now.items)) (loose_all (comments_of c.args.docs.now.after)) c.args.hearing.now c.hear_items.new.hearing c.hear_items.new.hearing
+    c.in_err-hear_items.field-0.0 c.in_err-hear_items.ensures r reads rest)

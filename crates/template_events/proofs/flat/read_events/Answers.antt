@@ -7,5 +7,5 @@ returns c = record {
   events = λ r reads.
       rw c.rows_of.ensures
       (rows_are_heard (λ rows. rows.items) c.args.file (documents_of c.args.docs.now) r c.args.ignore_unknown _
-      (kept_gives (λ rows. rows.items) c.args.file (documents_of c.args.docs.now) c.hear_whole-heard.result c.hear_whole-heard.new.hearing.rows _ (c.hear_whole-heard.ensures r reads)));
+      (kept_gives (λ rows. rows.items) c.args.file (documents_of c.args.docs.now) c.hear_whole-heard.result c.hear_whole-heard.new.hearing.gathering.rows _ (c.hear_whole-heard.ensures r reads)));
 }
