@@ -1,5 +1,5 @@
 -- By how much what waits makes a tree higher, and how high a new alternative makes a text.
-use Rattle.std.proofs.Common.{◌≡◌, ℕ, ◌+◌, ◌-◌, ◌≤◌, max, List, [], ◌∷◌, length, Some, true, refl, ap, subst, sym, ◌∙◌, arith}
+use Rattle.std.proofs.Common.{◌≡◌, ℕ, ◌+◌, ◌-◌, ◌≤◌, max, List, [], ◌∷◌, length, true, refl, ap, subst, sym, ◌∙◌, arith}
 use Rattle.std.proofs.lemmas.Bool.{leb-true}
 use Rattle.std.specs.Prelude.{leb, zero, suc, Bool, false, if◌then◌else◌}
 use Rattle.ll.specs.declared.shapes.Effect.{Effect}
@@ -169,7 +169,7 @@ high_three (x ∷ []) = omega arith
 high_three (x ∷ y ∷ []) = omega arith
 high_three (x ∷ y ∷ z ∷ xs) = omega arith
 
-near_opened : (c : Choice) (xs : List Shape) → Near (grown c xs) (run (least (head c)) xs) (closed language measure c xs)
+near_opened : (c : Choice) (xs : List Shape) → Near (grown c xs + rises_in (least (head c))) (run (least (head c)) xs) (closed language measure c xs)
 near_opened choice.Top xs = near_up _ xs _ (omega arith)
 near_opened choice.File xs = near_up _ xs _ (omega arith)
 near_opened choice.DefStmt xs = near_cons _ _ _ _ _ (omega arith) (near_same _ _)
@@ -278,11 +278,11 @@ along_ended c rest xs = on (silent c) refl
 along_opened : (c : Choice) (rest : List Item) (xs : List Shape) → along (opened c rest) xs ≡ along rest (closed language measure c xs)
 along_opened c rest xs = along_wanted (body c) (ended c rest) xs ∙ along_ended c rest (walk language measure (symbols_of (body c)) xs)
 
--- an alternative in place of its rule makes no text higher than its own new tree, with the levels on it that wait
-pub weigh_opened : (c : Choice) (rest : List Item) (xs : List Shape) → weigh (opened c rest) xs ≤ max (weigh (wants_rule (head c) ∷ rest) xs) (grown c xs + rises rest)
+-- an alternative in place of its rule makes no text higher than its own new tree, with the levels on it that waited
+weigh_opened : (c : Choice) (rest : List Item) (xs : List Shape) → weigh (opened c rest) xs ≤ max (weigh (wants_rule (head c) ∷ rest) xs) (grown c xs + rises (wants_rule (head c) ∷ rest))
 weigh_opened c rest xs =
     let e : weigh (opened c rest) xs ≡ (top (along rest (closed language measure c xs))).high = ap (λ ys. (top ys).high) (along_opened c rest xs) in
-    let near = near_along rest (grown c xs) (run (least (head c)) xs) (closed language measure c xs) (near_opened c xs) 0 in
+    let near = near_along rest (grown c xs + rises_in (least (head c))) (run (least (head c)) xs) (closed language measure c xs) (near_opened c xs) 0 in
     omega (arith, e, near)
 
 -- an alternative is opened

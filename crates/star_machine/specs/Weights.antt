@@ -1,5 +1,5 @@
 -- How much higher what waits makes a tree, and what is known of a text's height.
-use Rattle.std.specs.Prelude.{◌≡◌, ◌≤◌, ◌+◌, ◌-◌, ℕ, max, Bool, true, List, [], ◌∷◌, length, Result, Ok, Err}
+use Rattle.std.specs.Prelude.{◌≡◌, ◌≤◌, ◌+◌, ℕ, max, Bool, true, List, [], ◌∷◌, length, Result, Ok, Err}
 use Rattle.ll.specs.declared.shapes.Effect.{Effect}
 use Rattle.ll.specs.declared.shapes.Effect.TheVariants as gives
 use Rattle.ll.specs.declared.shapes.Shape.{Shape}
@@ -89,7 +89,8 @@ added c = 0
 abbrev pub above : ℕ → List Shape → ℕ
 above n xs = max (top xs).high 1 + n
 
--- How high a tree is at most that an alternative makes behind these, unless its rule makes one as high at least.
+-- How high a tree is at most that an alternative makes behind these, below the levels that its rule puts on at least. Where it is
+-- none, or no higher than what its rule makes at least, this is 0.
 abbrev pub grown : Choice → List Shape → ℕ
 grown choice.IfStmt xs = 1
 grown choice.ForStmt xs = 1
@@ -107,6 +108,7 @@ grown choice.LoadNamed xs = 1
 grown choice.Params xs = 1
 grown choice.ExprNext xs = 1
 grown choice.Given xs = 1
+grown choice.At xs = 1
 grown choice.Members xs = 1
 grown choice.ListFor xs = 1
 grown choice.Elements xs = 1
@@ -121,7 +123,6 @@ grown choice.Lambda xs = 2
 grown choice.Not xs = 2
 grown choice.Signed xs = 2
 grown choice.Inverted xs = 2
-grown choice.At xs = 2
 grown choice.Grouped xs = 2
 grown choice.StarArg xs = 2
 grown choice.StarsArg xs = 2
@@ -144,20 +145,20 @@ grown choice.ShiftMore xs = above 1 xs
 grown choice.SumMore xs = above 1 xs
 grown choice.ProductMore xs = above 1 xs
 grown choice.SuffixMore xs = above 1 xs
+grown choice.IndexComma xs = above 1 xs
 grown choice.Named xs = above 1 xs
 grown choice.TargetsComma xs = above 1 xs
 grown choice.TargetIndex xs = above 1 xs
+grown choice.MustDot xs = above 1 xs
+grown choice.MustCall xs = above 1 xs
+grown choice.TargetComma xs = above 1 xs
 grown choice.GroupComma xs = above 1 xs
-grown choice.IndexComma xs = above 2 xs
 grown choice.TargetDot xs = above 2 xs
 grown choice.TargetCall xs = above 2 xs
-grown choice.MustDot xs = above 2 xs
-grown choice.MustCall xs = above 2 xs
-grown choice.TargetComma xs = above 2 xs
 grown choice.GroupDot xs = above 2 xs
 grown choice.GroupCall xs = above 2 xs
-grown choice.TargetFrom xs = highest (length xs) xs + 2
-grown choice.TargetSlice xs = highest (length xs) xs + 2
+grown choice.TargetFrom xs = highest (length xs) xs + 1
+grown choice.TargetSlice xs = highest (length xs) xs + 1
 grown choice.GroupFrom xs = highest (length xs) xs + 2
 grown choice.GroupSlice xs = highest (length xs) xs + 2
 grown c xs = 0

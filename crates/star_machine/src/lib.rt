@@ -5,6 +5,7 @@
 //! stand in `star_guards`.
 #![tactic(auto)]
 
+mod growth;
 mod machine;
 mod pending;
 mod weight;

@@ -73,9 +73,7 @@ fn turn_token(
     machine: &mut Machine,
 ) -> Result<Turn, Memory>
     ensures turned { Turned result token.now (wants_token terminal) machine.old machine.new }
-    ensures weighed {
-        (w : Weight) → Weighed w (wants_token terminal ∷ machine.old.pending) machine.old.shapes → OnTurn result (Weighed w machine.new.pending machine.new.shapes)
-    }
+    ensures weighed { (w : Weight) → Weighed w (wants_token terminal ∷ machine.old.pending) machine.old.shapes → OnTurn result (Weighed w machine.new.pending machine.new.shapes) }
 {
     if !may_stand(terminal, token, &machine.parts) {
         return Ok(Turn::Refused);

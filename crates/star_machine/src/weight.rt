@@ -11,6 +11,7 @@ ghost use Rattle.star_machine.specs.Weights as spec;
 ghost use Rattle.star_machine.specs.Weights.{Weighed};
 ghost use Rattle.star_machine.specs.declared.pending.Item.{Item};
 
+use crate::growth::{added, grown};
 use crate::pending::{Item, Pending};
 use ll::{Effect, Shapes};
 use star_grammar::{Choice, Symbol};
@@ -61,144 +62,6 @@ fn weighs_little(alloc: Global, pending: &Pending, shapes: &Shapes) -> Result<bo
     Ok(fits(made.top().high))
 }
 
-/// How many levels more an alternative puts on a tree than its rule does at least.
-fn added(choice: Choice) -> usize
-    ensures value { result ≡ spec.added choice }
-    ensures few { result ≤ 2 }
-{
-    match choice {
-        Choice::ExprComma
-        | Choice::Lambda
-        | Choice::IfElse
-        | Choice::OrMore
-        | Choice::AndMore
-        | Choice::Not
-        | Choice::Compare
-        | Choice::CompareIn
-        | Choice::CompareNotIn
-        | Choice::BarMore
-        | Choice::CaretMore
-        | Choice::AmpersandMore
-        | Choice::ShiftMore
-        | Choice::SumMore
-        | Choice::ProductMore
-        | Choice::Signed
-        | Choice::Inverted
-        | Choice::SuffixMore
-        | Choice::IndexComma
-        | Choice::Grouped
-        | Choice::Listed
-        | Choice::Dicted
-        | Choice::StarArg
-        | Choice::StarsArg
-        | Choice::Named
-        | Choice::TargetsComma
-        | Choice::TargetConstant
-        | Choice::TargetInt
-        | Choice::TargetText
-        | Choice::TargetGroup
-        | Choice::TargetList
-        | Choice::TargetIndex
-        | Choice::MustDot
-        | Choice::MustCall
-        | Choice::TargetFrom
-        | Choice::TargetComma
-        | Choice::TargetSlice
-        | Choice::GroupComma => 1,
-        Choice::TargetDict
-        | Choice::TargetDot
-        | Choice::TargetCall
-        | Choice::GroupDot
-        | Choice::GroupCall
-        | Choice::GroupFrom
-        | Choice::GroupSlice => 2,
-        _ => 0,
-    }
-}
-
-/// So many levels above the innermost tree, or above a leaf.
-fn above(levels: u8, shapes: &Shapes) -> usize
-    ensures { result ≡ spec.above levels shapes.now }
-{
-    shapes.top().high.max(1) as usize + levels as usize
-}
-
-/// How high a tree is at most that an alternative makes behind these, unless its rule makes one as high at least.
-fn grown(choice: Choice, shapes: &Shapes) -> usize
-    ensures { result ≡ spec.grown choice shapes.now }
-{
-    match choice {
-        Choice::IfStmt
-        | Choice::ForStmt
-        | Choice::Elif
-        | Choice::HeaderIf
-        | Choice::HeaderElif
-        | Choice::HeaderFor
-        | Choice::Return
-        | Choice::Load
-        | Choice::Statement
-        | Choice::Assign
-        | Choice::Augment
-        | Choice::LoadText
-        | Choice::LoadNamed
-        | Choice::Params
-        | Choice::ExprNext
-        | Choice::Given
-        | Choice::Members
-        | Choice::ListFor
-        | Choice::Elements
-        | Choice::Entries
-        | Choice::DictFor
-        | Choice::Pairs
-        | Choice::ClauseFor
-        | Choice::ClauseIf
-        | Choice::Args
-        | Choice::TargetsNext => 1,
-        Choice::Lambda
-        | Choice::Not
-        | Choice::Signed
-        | Choice::Inverted
-        | Choice::At
-        | Choice::Grouped
-        | Choice::StarArg
-        | Choice::StarsArg
-        | Choice::TargetConstant
-        | Choice::TargetInt
-        | Choice::TargetText
-        | Choice::TargetGroup
-        | Choice::TargetDict => 2,
-        Choice::ExprComma
-        | Choice::IfElse
-        | Choice::OrMore
-        | Choice::AndMore
-        | Choice::Compare
-        | Choice::CompareIn
-        | Choice::CompareNotIn
-        | Choice::BarMore
-        | Choice::CaretMore
-        | Choice::AmpersandMore
-        | Choice::ShiftMore
-        | Choice::SumMore
-        | Choice::ProductMore
-        | Choice::SuffixMore
-        | Choice::Named
-        | Choice::TargetsComma
-        | Choice::TargetIndex
-        | Choice::GroupComma => above(1, shapes),
-        Choice::IndexComma
-        | Choice::TargetDot
-        | Choice::TargetCall
-        | Choice::MustDot
-        | Choice::MustCall
-        | Choice::TargetComma
-        | Choice::GroupDot
-        | Choice::GroupCall => above(2, shapes),
-        Choice::TargetFrom | Choice::TargetSlice | Choice::GroupFrom | Choice::GroupSlice =>
-            shapes.highest() as usize + 2,
-        _ => 0,
-    }
-}
-
 /// Whether what was low stays so, where a new tree of this height gets so many levels more.
 fn stays_low(low: bool, high: usize, levels: usize) -> bool
     ensures { result ≡ true → (low ≡ true) × (high + levels ≤ max_height) }
@@ -242,9 +105,7 @@ impl Weight {
     /// An alternative is opened in place of its rule, behind these shapes.
     pub fn open(&mut self, choice: Choice, shapes: &Shapes)
         requires few { self.old.rises + 2 < 2 ^ 64 }
-        ensures {
-            (rest : List Item) → Weighed self.old (wants_rule (head choice) ∷ rest) shapes.now → Weighed self.new (opened choice rest) shapes.now
-        }
+        ensures { (rest : List Item) → Weighed self.old (wants_rule (head choice) ∷ rest) shapes.now → Weighed self.new (opened choice rest) shapes.now }
     {
         self.low = stays_low(self.low, grown(choice, shapes), self.rises);
         self.rises += added(choice);

@@ -1,13 +1,12 @@
 use Rattle.std.proofs.Common.{◌≡◌, ◌≤◌, ◌∷◌, length, sym, ap, ◌∙◌, subst, arith}
 use Rattle.std.specs.Prelude.{true, Some}
-use Rattle.star_grammar.specs.Language.{language, allowed, kind_of_token}
-use Rattle.star_grammar.specs.Machine.{tables}
+use Rattle.star_grammar.specs.Language.{allowed, kind_of_token}
 use Rattle.star_grammar.specs.Predict.{predict}
 use Rattle.star_grammar.specs.Table.{head}
 use Rattle.star_grammar.proofs.Checked.{consistent}
-use Rattle.star_machine.specs.Pending.{opened, wants_rule}
+use Rattle.star_machine.specs.Pending.{wants_rule}
 use Rattle.star_machine.specs.Turns.{value_of}
-use Rattle.star_machine.specs.Weights.{Weighed, rises}
+use Rattle.star_machine.specs.Weights.{Weighed}
 use Rattle.star_machine.proofs.Rising.{length_opened, rises_few}
 use Rattle.star_machine.proofs.Turning.{went_on}
 use Rattle.star_machine.proofs.machine.turn_rule.Goals as goal

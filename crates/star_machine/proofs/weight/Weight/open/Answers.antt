@@ -1,7 +1,5 @@
-use Rattle.std.proofs.Common.{◌≡◌, ◌+◌, ◌≤◌, ◌∙◌, sym, ap, subst}
-use Rattle.std.specs.Prelude.{true}
+use Rattle.std.proofs.Common.{◌+◌, ◌≤◌, ap, subst}
 use Rattle.star_grammar.specs.Reading.{max_height}
-use Rattle.star_machine.specs.Weights.{grown}
 use Rattle.star_machine.proofs.Rising.{still_weighed}
 use Rattle.star_machine.proofs.weight.Weight.open.Goals as goal
 
