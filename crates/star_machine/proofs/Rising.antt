@@ -23,11 +23,13 @@ use Rattle.star_grammar.specs.Machine.{measure}
 use Rattle.star_grammar.specs.Reading.{max_height}
 use Rattle.star_grammar.specs.Table.{action_of, body, head}
 use Rattle.star_grammar.proofs.Checked.{silent_shapes}
+use Rattle.star_machine.specs.declared.growth.Growth.{Growth}
+use Rattle.star_machine.specs.declared.growth.Growth.TheVariants as grows
 use Rattle.star_machine.specs.declared.pending.Item.{Item}
 use Rattle.star_machine.specs.declared.pending.Item.TheVariants as item
 use Rattle.star_machine.specs.Pending.{ended, opened, wanted, wants_rule}
 use Rattle.star_machine.specs.Turns.{along, passed, weigh}
-use Rattle.star_machine.specs.Weights.{added, grown, rise, rise_of, rises, rises_in, Weighed}
+use Rattle.star_machine.specs.Weights.{added, growth, grown, rise, rise_of, rises, rises_in, Weighed}
 use Rattle.star_machine.specs.declared.weight.Weight.{Weight}
 use Rattle.star_machine.proofs.Lists.{one}
 
@@ -63,7 +65,7 @@ abbrev symbol_rises : List Symbol → ℕ
 symbol_rises [] = 0
 symbol_rises (x ∷ xs) = rise_of (item.Want x) + symbol_rises xs
 
-adds : (c : Choice) → rises_in (least (head c)) + added c ≡ symbol_rises (body c) + rise (effect c)
+adds : (c : Choice) → rises_in (least (head c)) + added (growth c) ≡ symbol_rises (body c) + rise (effect c)
 adds choice.Top = refl
 adds c = refl
 
@@ -86,7 +88,7 @@ rises_ended c rest = on (silent c) refl
     on true e = omega (arith, quiet (action_of c) e)
     on false e = refl
 
-pub rises_opened : (c : Choice) (rest : List Item) → rises (opened c rest) ≡ (rises_in (least (head c)) + added c) + rises rest
+pub rises_opened : (c : Choice) (rest : List Item) → rises (opened c rest) ≡ (rises_in (least (head c)) + added (growth c)) + rises rest
 rises_opened c rest = omega (arith, adds c, rises_wanted (body c) (ended c rest), rises_ended c rest)
 
 length_wanted : (ss : List Symbol) (rest : List Item) → length rest ≤ length (wanted ss rest)
@@ -169,7 +171,7 @@ high_three (x ∷ []) = omega arith
 high_three (x ∷ y ∷ []) = omega arith
 high_three (x ∷ y ∷ z ∷ xs) = omega arith
 
-near_opened : (c : Choice) (xs : List Shape) → Near (grown c xs + rises_in (least (head c))) (run (least (head c)) xs) (closed language measure c xs)
+near_opened : (c : Choice) (xs : List Shape) → Near (grown (growth c) xs + rises_in (least (head c))) (run (least (head c)) xs) (closed language measure c xs)
 near_opened choice.Top xs = near_up _ xs _ (omega arith)
 near_opened choice.File xs = near_up _ xs _ (omega arith)
 near_opened choice.DefStmt xs = near_cons _ _ _ _ _ (omega arith) (near_same _ _)
@@ -279,15 +281,30 @@ along_opened : (c : Choice) (rest : List Item) (xs : List Shape) → along (open
 along_opened c rest xs = along_wanted (body c) (ended c rest) xs ∙ along_ended c rest (walk language measure (symbols_of (body c)) xs)
 
 -- an alternative in place of its rule makes no text higher than its own new tree, with the levels on it that waited
-weigh_opened : (c : Choice) (rest : List Item) (xs : List Shape) → weigh (opened c rest) xs ≤ max (weigh (wants_rule (head c) ∷ rest) xs) (grown c xs + rises (wants_rule (head c) ∷ rest))
+weigh_opened : (c : Choice) (rest : List Item) (xs : List Shape) → weigh (opened c rest) xs ≤ max (weigh (wants_rule (head c) ∷ rest) xs) (grown (growth c) xs + rises (wants_rule (head c) ∷ rest))
 weigh_opened c rest xs =
     let e : weigh (opened c rest) xs ≡ (top (along rest (closed language measure c xs))).high = ap (λ ys. (top ys).high) (along_opened c rest xs) in
-    let near = near_along rest (grown c xs + rises_in (least (head c))) (run (least (head c)) xs) (closed language measure c xs) (near_opened c xs) 0 in
+    let near = near_along rest (grown (growth c) xs + rises_in (least (head c))) (run (least (head c)) xs) (closed language measure c xs) (near_opened c xs) 0 in
     omega (arith, e, near)
 
+-- no alternative puts on more levels than the tree has that it makes
+abbrev fair : Growth → Bool
+fair (grows.New high levels) = leb levels high
+fair g = true
+
+all_fair : (c : Choice) → fair (growth c) ≡ true
+all_fair choice.Top = refl
+all_fair c = refl
+
+few_added : (g : Growth) (xs : List Shape) → fair g ≡ true → added g ≤ grown g xs
+few_added grows.None xs e = omega arith
+few_added (grows.New high levels) xs e = leb-true levels high e
+few_added (grows.Above levels) xs e = omega arith
+few_added (grows.Around levels) xs e = omega arith
+
 -- an alternative is opened
-pub still_weighed : (w v : Weight) (c : Choice) (rest : List Item) (xs : List Shape) → v.rises ≡ w.rises + added c → (v.low ≡ true → (w.low ≡ true) × (grown c xs + w.rises ≤ max_height))
-    → Weighed w (wants_rule (head c) ∷ rest) xs → Weighed v (opened c rest) xs
+pub still_weighed : (w v : Weight) (c : Choice) (rest : List Item) (xs : List Shape) → v.rises ≡ w.rises + added (growth c)
+    → (v.low ≡ true → (w.low ≡ true) × (grown (growth c) xs + w.rises ≤ max_height)) → Weighed w (wants_rule (head c) ∷ rest) xs → Weighed v (opened c rest) xs
 still_weighed w v c rest xs e stays is = record {
   counted = omega (arith, e, is.counted, rises_opened c rest);
   low = λ yes.
@@ -295,12 +312,15 @@ still_weighed w v c rest xs e stays is = record {
       let before = is.low p.0 in
       let room = p.1 in
       omega (arith, before, room, is.counted, weigh_opened c rest xs);
+  few = λ yes.
+      let p = stays yes in
+      let room = p.1 in
+      omega (arith, e, room, few_added (growth c) xs (all_fair c));
 }
 
--- an alternative ends
-pub closed_weighed : (w v : Weight) (c : Choice) (rest : List Item) (xs : List Shape) → v.rises ≡ w.rises - rise (effect c) → v.low ≡ w.low → Weighed w (item.Close c ∷ rest) xs → Weighed v rest (apply (effect c) xs)
-closed_weighed w v c rest xs e same is = record { counted = omega (arith, e, is.counted); low = λ yes. is.low (sym same ∙ yes) }
-
--- a token is taken
-pub taken_weighed : (w : Weight) (a : Terminal) (rest : List Item) (xs : List Shape) → Weighed w (item.Want (symbol.Token a) ∷ rest) xs → Weighed w rest (apply (given a) xs)
-taken_weighed w a rest xs is = record { counted = omega (arith, is.counted); low = is.low }
+-- one is opened that makes nothing higher
+pub unchanged_weighed : (w : Weight) (c : Choice) (rest : List Item) (xs : List Shape) → growth c ≡ grows.None → Weighed w (wants_rule (head c) ∷ rest) xs → Weighed w (opened c rest) xs
+unchanged_weighed w c rest xs e is =
+    let none : added (growth c) ≡ 0 = ap added e in
+    let flat : grown (growth c) xs ≡ 0 = ap (λ g. grown g xs) e in
+    still_weighed w w c rest xs (omega (arith, none)) (λ yes. let few = is.few yes in (yes, omega (arith, flat, few))) is

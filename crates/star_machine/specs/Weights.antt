@@ -10,6 +10,8 @@ use Rattle.star_grammar.specs.declared.table.Choice.TheVariants as choice
 use Rattle.star_grammar.specs.declared.table.Symbol.TheVariants as symbol
 use Rattle.star_grammar.specs.Effects.{effect, least}
 use Rattle.star_grammar.specs.Reading.{max_height}
+use Rattle.star_machine.specs.declared.growth.Growth.{Growth}
+use Rattle.star_machine.specs.declared.growth.Growth.TheVariants as grows
 use Rattle.star_machine.specs.declared.machine.Turn.{Turn}
 use Rattle.star_machine.specs.declared.machine.Turn.TheVariants as turn
 use Rattle.star_machine.specs.declared.pending.Item.{Item}
@@ -36,137 +38,101 @@ abbrev pub rises : List Item → ℕ
 rises [] = 0
 rises (x ∷ xs) = rise_of x + rises xs
 
+-- what an alternative makes, beside the least that its rule does
+abbrev pub growth : Choice → Growth
+growth choice.IfStmt = grows.New 1 0
+growth choice.ForStmt = grows.New 1 0
+growth choice.Elif = grows.New 1 0
+growth choice.HeaderIf = grows.New 1 0
+growth choice.HeaderElif = grows.New 1 0
+growth choice.HeaderFor = grows.New 1 0
+growth choice.Return = grows.New 1 0
+growth choice.Load = grows.New 1 0
+growth choice.Statement = grows.New 1 0
+growth choice.Assign = grows.New 1 0
+growth choice.Augment = grows.New 1 0
+growth choice.LoadText = grows.New 1 0
+growth choice.LoadNamed = grows.New 1 0
+growth choice.Params = grows.New 1 0
+growth choice.ExprComma = grows.Above 1
+growth choice.ExprNext = grows.New 1 0
+growth choice.Lambda = grows.New 2 1
+growth choice.IfElse = grows.Above 1
+growth choice.OrMore = grows.Above 1
+growth choice.AndMore = grows.Above 1
+growth choice.Not = grows.New 2 1
+growth choice.Compare = grows.Above 1
+growth choice.CompareIn = grows.Above 1
+growth choice.CompareNotIn = grows.Above 1
+growth choice.BarMore = grows.Above 1
+growth choice.CaretMore = grows.Above 1
+growth choice.AmpersandMore = grows.Above 1
+growth choice.ShiftMore = grows.Above 1
+growth choice.SumMore = grows.Above 1
+growth choice.ProductMore = grows.Above 1
+growth choice.Signed = grows.New 2 1
+growth choice.Inverted = grows.New 2 1
+growth choice.SuffixMore = grows.Above 1
+growth choice.At = grows.New 1 0
+growth choice.IndexComma = grows.Above 1
+growth choice.Given = grows.New 1 0
+growth choice.Grouped = grows.New 2 1
+growth choice.Listed = grows.New 1 1
+growth choice.Dicted = grows.New 1 1
+growth choice.Members = grows.New 1 0
+growth choice.ListFor = grows.New 1 0
+growth choice.Elements = grows.New 1 0
+growth choice.Entries = grows.New 1 0
+growth choice.DictFor = grows.New 1 0
+growth choice.Pairs = grows.New 1 0
+growth choice.ClauseFor = grows.New 1 0
+growth choice.ClauseIf = grows.New 1 0
+growth choice.Args = grows.New 1 0
+growth choice.StarArg = grows.New 2 1
+growth choice.StarsArg = grows.New 2 1
+growth choice.Named = grows.Above 1
+growth choice.TargetsComma = grows.Above 1
+growth choice.TargetsNext = grows.New 1 0
+growth choice.TargetConstant = grows.New 2 1
+growth choice.TargetInt = grows.New 2 1
+growth choice.TargetText = grows.New 2 1
+growth choice.TargetGroup = grows.New 2 1
+growth choice.TargetList = grows.New 1 1
+growth choice.TargetDict = grows.New 2 2
+growth choice.TargetIndex = grows.Above 1
+growth choice.TargetDot = grows.Above 2
+growth choice.TargetCall = grows.Above 2
+growth choice.MustDot = grows.Above 1
+growth choice.MustCall = grows.Above 1
+growth choice.TargetFrom = grows.Around 1
+growth choice.TargetComma = grows.Above 1
+growth choice.TargetSlice = grows.Around 1
+growth choice.GroupDot = grows.Above 2
+growth choice.GroupCall = grows.Above 2
+growth choice.GroupFrom = grows.Around 2
+growth choice.GroupComma = grows.Above 1
+growth choice.GroupSlice = grows.Around 2
+growth c = grows.None
+
 -- how many levels more an alternative puts on a tree than its rule does at least
-abbrev pub added : Choice → ℕ
-added choice.ExprComma = 1
-added choice.Lambda = 1
-added choice.IfElse = 1
-added choice.OrMore = 1
-added choice.AndMore = 1
-added choice.Not = 1
-added choice.Compare = 1
-added choice.CompareIn = 1
-added choice.CompareNotIn = 1
-added choice.BarMore = 1
-added choice.CaretMore = 1
-added choice.AmpersandMore = 1
-added choice.ShiftMore = 1
-added choice.SumMore = 1
-added choice.ProductMore = 1
-added choice.Signed = 1
-added choice.Inverted = 1
-added choice.SuffixMore = 1
-added choice.IndexComma = 1
-added choice.Grouped = 1
-added choice.Listed = 1
-added choice.Dicted = 1
-added choice.StarArg = 1
-added choice.StarsArg = 1
-added choice.Named = 1
-added choice.TargetsComma = 1
-added choice.TargetConstant = 1
-added choice.TargetInt = 1
-added choice.TargetText = 1
-added choice.TargetGroup = 1
-added choice.TargetList = 1
-added choice.TargetDict = 2
-added choice.TargetIndex = 1
-added choice.TargetDot = 2
-added choice.TargetCall = 2
-added choice.MustDot = 1
-added choice.MustCall = 1
-added choice.TargetFrom = 1
-added choice.TargetComma = 1
-added choice.TargetSlice = 1
-added choice.GroupDot = 2
-added choice.GroupCall = 2
-added choice.GroupFrom = 2
-added choice.GroupComma = 1
-added choice.GroupSlice = 2
-added c = 0
+abbrev pub added : Growth → ℕ
+added grows.None = 0
+added (grows.New high levels) = levels
+added (grows.Above levels) = levels
+added (grows.Around levels) = levels
 
--- so many levels above the innermost tree, or above a leaf
-abbrev pub above : ℕ → List Shape → ℕ
-above n xs = max (top xs).high 1 + n
+-- How high a tree is at most that an alternative makes behind these, below the levels that its rule puts on at least.
+abbrev pub grown : Growth → List Shape → ℕ
+grown grows.None xs = 0
+grown (grows.New high levels) xs = high
+grown (grows.Above levels) xs = max (top xs).high 1 + levels
+grown (grows.Around levels) xs = highest (length xs) xs + levels
 
--- How high a tree is at most that an alternative makes behind these, below the levels that its rule puts on at least. Where it is
--- none, or no higher than what its rule makes at least, this is 0.
-abbrev pub grown : Choice → List Shape → ℕ
-grown choice.IfStmt xs = 1
-grown choice.ForStmt xs = 1
-grown choice.Elif xs = 1
-grown choice.HeaderIf xs = 1
-grown choice.HeaderElif xs = 1
-grown choice.HeaderFor xs = 1
-grown choice.Return xs = 1
-grown choice.Load xs = 1
-grown choice.Statement xs = 1
-grown choice.Assign xs = 1
-grown choice.Augment xs = 1
-grown choice.LoadText xs = 1
-grown choice.LoadNamed xs = 1
-grown choice.Params xs = 1
-grown choice.ExprNext xs = 1
-grown choice.Given xs = 1
-grown choice.At xs = 1
-grown choice.Members xs = 1
-grown choice.ListFor xs = 1
-grown choice.Elements xs = 1
-grown choice.Entries xs = 1
-grown choice.DictFor xs = 1
-grown choice.Pairs xs = 1
-grown choice.ClauseFor xs = 1
-grown choice.ClauseIf xs = 1
-grown choice.Args xs = 1
-grown choice.TargetsNext xs = 1
-grown choice.Lambda xs = 2
-grown choice.Not xs = 2
-grown choice.Signed xs = 2
-grown choice.Inverted xs = 2
-grown choice.Grouped xs = 2
-grown choice.StarArg xs = 2
-grown choice.StarsArg xs = 2
-grown choice.TargetConstant xs = 2
-grown choice.TargetInt xs = 2
-grown choice.TargetText xs = 2
-grown choice.TargetGroup xs = 2
-grown choice.TargetDict xs = 2
-grown choice.ExprComma xs = above 1 xs
-grown choice.IfElse xs = above 1 xs
-grown choice.OrMore xs = above 1 xs
-grown choice.AndMore xs = above 1 xs
-grown choice.Compare xs = above 1 xs
-grown choice.CompareIn xs = above 1 xs
-grown choice.CompareNotIn xs = above 1 xs
-grown choice.BarMore xs = above 1 xs
-grown choice.CaretMore xs = above 1 xs
-grown choice.AmpersandMore xs = above 1 xs
-grown choice.ShiftMore xs = above 1 xs
-grown choice.SumMore xs = above 1 xs
-grown choice.ProductMore xs = above 1 xs
-grown choice.SuffixMore xs = above 1 xs
-grown choice.IndexComma xs = above 1 xs
-grown choice.Named xs = above 1 xs
-grown choice.TargetsComma xs = above 1 xs
-grown choice.TargetIndex xs = above 1 xs
-grown choice.MustDot xs = above 1 xs
-grown choice.MustCall xs = above 1 xs
-grown choice.TargetComma xs = above 1 xs
-grown choice.GroupComma xs = above 1 xs
-grown choice.TargetDot xs = above 2 xs
-grown choice.TargetCall xs = above 2 xs
-grown choice.GroupDot xs = above 2 xs
-grown choice.GroupCall xs = above 2 xs
-grown choice.TargetFrom xs = highest (length xs) xs + 1
-grown choice.TargetSlice xs = highest (length xs) xs + 1
-grown choice.GroupFrom xs = highest (length xs) xs + 2
-grown choice.GroupSlice xs = highest (length xs) xs + 2
-grown c xs = 0
-
--- The weight counts what waits, and says that a text is low only where one is that goes on so.
+-- The weight counts the levels, and says that a text is low only where one is that goes on so, and these are few.
 pub record Weighed (w : Weight) (items : List Item) (shapes : List Shape) : Type 0 where
   pub counted : w.rises ≡ rises items
   pub low : w.low ≡ true → weigh items shapes ≤ max_height
+  pub few : w.low ≡ true → w.rises ≤ max_height
 
 -- this holds, unless the token was refused or there was no room
 abbrev pub OnTurn : Result Turn Memory → Type 0 → Type 0

@@ -1,76 +1,51 @@
 // By how much an alternative makes a text higher than its rule does at least.
-ghost use Rattle.std.specs.Prelude.{◌≡◌, ◌≤◌};
+ghost use Rattle.std.specs.Prelude.{◌≡◌};
 ghost use Rattle.star_machine.specs.Weights as spec;
 
 use ll::Shapes;
 use star_grammar::Choice;
 
-/// How many levels more an alternative puts on a tree than its rule does at least.
-pub fn added(choice: Choice) -> usize
-    ensures value { result ≡ spec.added choice }
-    ensures few { result ≤ 2 }
-{
-    match choice {
-        Choice::ExprComma
-        | Choice::Lambda
-        | Choice::IfElse
-        | Choice::OrMore
-        | Choice::AndMore
-        | Choice::Not
-        | Choice::Compare
-        | Choice::CompareIn
-        | Choice::CompareNotIn
-        | Choice::BarMore
-        | Choice::CaretMore
-        | Choice::AmpersandMore
-        | Choice::ShiftMore
-        | Choice::SumMore
-        | Choice::ProductMore
-        | Choice::Signed
-        | Choice::Inverted
-        | Choice::SuffixMore
-        | Choice::IndexComma
-        | Choice::Grouped
-        | Choice::Listed
-        | Choice::Dicted
-        | Choice::StarArg
-        | Choice::StarsArg
-        | Choice::Named
-        | Choice::TargetsComma
-        | Choice::TargetConstant
-        | Choice::TargetInt
-        | Choice::TargetText
-        | Choice::TargetGroup
-        | Choice::TargetList
-        | Choice::TargetIndex
-        | Choice::MustDot
-        | Choice::MustCall
-        | Choice::TargetFrom
-        | Choice::TargetComma
-        | Choice::TargetSlice
-        | Choice::GroupComma => 1,
-        Choice::TargetDict
-        | Choice::TargetDot
-        | Choice::TargetCall
-        | Choice::GroupDot
-        | Choice::GroupCall
-        | Choice::GroupFrom
-        | Choice::GroupSlice => 2,
-        _ => 0,
+/// What an alternative makes, beside the least that its rule does.
+#[derive(Clone, Copy)]
+pub enum Growth {
+    /// Nothing that is higher, as most do.
+    None,
+    /// A tree of this height, with so many levels more.
+    New(u8, u8),
+    /// So many levels more, above the innermost tree, or above a leaf.
+    Above(u8),
+    /// So many levels more, above all trees.
+    Around(u8),
+}
+
+impl Growth {
+    /// How many levels more it puts on a tree.
+    pub fn levels(self) -> usize
+        ensures { result ≡ spec.added self }
+    {
+        match self {
+            Growth::None => 0,
+            Growth::New(_, levels) | Growth::Above(levels) | Growth::Around(levels) =>
+                levels as usize,
+        }
+    }
+
+    /// How high a tree is at most that it makes behind these, below the levels that its rule puts on.
+    pub fn high(self, shapes: &Shapes) -> usize
+        ensures { result ≡ spec.grown self shapes.now }
+    {
+        match self {
+            Growth::None => 0,
+            Growth::New(high, _) => high as usize,
+            Growth::Above(levels) => shapes.top().high.max(1) as usize + levels as usize,
+            Growth::Around(levels) => shapes.highest() as usize + levels as usize,
+        }
     }
 }
 
-/// So many levels above the innermost tree, or above a leaf.
-fn above(levels: u8, shapes: &Shapes) -> usize
-    ensures { result ≡ spec.above levels shapes.now }
-{
-    shapes.top().high.max(1) as usize + levels as usize
-}
-
-/// How high a tree is at most that an alternative makes behind these, below the levels that its rule puts on at least. Where it
-/// is none, or no higher than what its rule makes at least, this is 0.
-pub fn grown(choice: Choice, shapes: &Shapes) -> usize
-    ensures { result ≡ spec.grown choice shapes.now }
+/// What an alternative makes, beside the least that its rule does.
+pub fn growth_of(choice: Choice) -> Growth
+    ensures { result ≡ spec.growth choice }
 {
     match choice {
         Choice::IfStmt
@@ -88,8 +63,8 @@ pub fn grown(choice: Choice, shapes: &Shapes) -> usize
         | Choice::LoadNamed
         | Choice::Params
         | Choice::ExprNext
-        | Choice::Given
         | Choice::At
+        | Choice::Given
         | Choice::Members
         | Choice::ListFor
         | Choice::Elements
@@ -99,7 +74,8 @@ pub fn grown(choice: Choice, shapes: &Shapes) -> usize
         | Choice::ClauseFor
         | Choice::ClauseIf
         | Choice::Args
-        | Choice::TargetsNext => 1,
+        | Choice::TargetsNext => Growth::New(1, 0),
+        Choice::Listed | Choice::Dicted | Choice::TargetList => Growth::New(1, 1),
         Choice::Lambda
         | Choice::Not
         | Choice::Signed
@@ -110,8 +86,8 @@ pub fn grown(choice: Choice, shapes: &Shapes) -> usize
         | Choice::TargetConstant
         | Choice::TargetInt
         | Choice::TargetText
-        | Choice::TargetGroup
-        | Choice::TargetDict => 2,
+        | Choice::TargetGroup => Growth::New(2, 1),
+        Choice::TargetDict => Growth::New(2, 2),
         Choice::ExprComma
         | Choice::IfElse
         | Choice::OrMore
@@ -133,12 +109,11 @@ pub fn grown(choice: Choice, shapes: &Shapes) -> usize
         | Choice::MustDot
         | Choice::MustCall
         | Choice::TargetComma
-        | Choice::GroupComma => above(1, shapes),
-        Choice::TargetDot | Choice::TargetCall | Choice::GroupDot | Choice::GroupCall => above(
-            2, shapes,
-        ),
-        Choice::TargetFrom | Choice::TargetSlice => shapes.highest() as usize + 1,
-        Choice::GroupFrom | Choice::GroupSlice => shapes.highest() as usize + 2,
-        _ => 0,
+        | Choice::GroupComma => Growth::Above(1),
+        Choice::TargetDot | Choice::TargetCall | Choice::GroupDot | Choice::GroupCall =>
+            Growth::Above(2),
+        Choice::TargetFrom | Choice::TargetSlice => Growth::Around(1),
+        Choice::GroupFrom | Choice::GroupSlice => Growth::Around(2),
+        _ => Growth::None,
     }
 }

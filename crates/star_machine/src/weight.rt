@@ -1,7 +1,20 @@
 // How high a text is at least that goes on from here.
-ghost use Rattle.std.specs.Prelude.{◌≡◌, ◌∷◌, ◌≤◌, ◌<◌, ◌+◌, ◌-◌, ◌^◌, ◌↔◌, [], reverse, true, IsTrue, IfOk, OnOk, List};
+ghost use Rattle.std.specs.Prelude.{
+  ◌≡◌,
+  ◌∷◌,
+  ◌≤◌,
+  ◌+◌,
+  ◌-◌,
+  ◌^◌,
+  ◌↔◌,
+  true,
+  reverse,
+  List,
+  IsTrue,
+  IfOk,
+  OnOk,
+};
 ghost use Rattle.ll.specs.Shapes as shape;
-ghost use Rattle.ll.specs.declared.shapes.Shape.{Shape};
 ghost use Rattle.star_grammar.specs.Reading.{empty_of, max_height};
 ghost use Rattle.star_grammar.specs.Table.{head};
 ghost use Rattle.star_grammar.specs.declared.start.Start.{Start};
@@ -11,7 +24,7 @@ ghost use Rattle.star_machine.specs.Weights as spec;
 ghost use Rattle.star_machine.specs.Weights.{Weighed};
 ghost use Rattle.star_machine.specs.declared.pending.Item.{Item};
 
-use crate::growth::{added, grown};
+use crate::growth::{Growth, growth_of};
 use crate::pending::{Item, Pending};
 use ll::{Effect, Shapes};
 use star_grammar::{Choice, Symbol};
@@ -93,7 +106,7 @@ impl Weight {
     }
 
     /// An alternative ends, which makes this of the shapes.
-    pub fn close(&mut self, effect: Effect)
+    pub(crate) fn close(&mut self, effect: Effect)
         ensures rises { self.new.rises ≡ self.old.rises - spec.rise effect }
         ensures low { self.new.low ≡ self.old.low }
     {
@@ -103,12 +116,17 @@ impl Weight {
     }
 
     /// An alternative is opened in place of its rule, behind these shapes.
-    pub fn open(&mut self, choice: Choice, shapes: &Shapes)
-        requires few { self.old.rises + 2 < 2 ^ 64 }
+    pub(crate) fn open(&mut self, choice: Choice, shapes: &Shapes)
+        requires few { self.old.rises + 2 ^ 8 ≤ 2 ^ 64 }
         ensures { (rest : List Item) → Weighed self.old (wants_rule (head choice) ∷ rest) shapes.now → Weighed self.new (opened choice rest) shapes.now }
     {
-        self.low = stays_low(self.low, grown(choice, shapes), self.rises);
-        self.rises += added(choice);
+        match growth_of(choice) {
+            Growth::None => {}
+            growth => {
+                self.low = stays_low(self.low, growth.high(shapes), self.rises);
+                self.rises += growth.levels();
+            }
+        }
     }
 }
 
@@ -126,8 +144,10 @@ pub fn is_low(
     ensures told { IfOk result (λ b. IsTrue b ↔ (weigh pending.now shapes.now ≤ max_height)) }
     ensures weighed { OnOk result (Weighed weight.new pending.now shapes.now) }
 {
-    if !weight.low {
-        weight.low = weighs_little(alloc, pending, shapes)?;
+    if weight.low {
+        return Ok(true);
     }
-    Ok(weight.low)
+    let low = weighs_little(alloc, pending, shapes)?;
+    weight.low = low && weight.rises <= MAX_HEIGHT as usize;
+    Ok(low)
 }
