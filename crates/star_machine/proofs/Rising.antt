@@ -1,5 +1,5 @@
 -- By how much what waits makes a tree higher, and how high a new alternative makes a text.
-use Rattle.std.proofs.Common.{◌≡◌, ℕ, ◌+◌, ◌-◌, ◌≤◌, max, List, [], ◌∷◌, length, true, refl, ap, subst, sym, ◌∙◌, arith}
+use Rattle.std.proofs.Common.{◌≡◌, ℕ, ◌+◌, ◌≤◌, max, List, [], ◌∷◌, length, true, refl, ap, subst, sym, ◌∙◌, arith}
 use Rattle.std.proofs.lemmas.Bool.{leb-true}
 use Rattle.std.specs.Prelude.{leb, zero, suc, Bool, false, if◌then◌else◌}
 use Rattle.ll.specs.declared.shapes.Effect.{Effect}

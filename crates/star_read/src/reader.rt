@@ -168,7 +168,15 @@ fn read_tokens(
     let mut stand = at_first();
     let found = tokens.tokens.as_slice();
     for token in found {
-        stand = read_token(alloc, start, tokens.file, stand, token, machine, &mut weight)?;
+        stand = read_token(
+            alloc,
+            start,
+            tokens.file,
+            stand,
+            token,
+            machine,
+            &mut weight,
+        )?;
     }
     match machine.pending.pop() {
         None => Ok(()),
