@@ -12,6 +12,7 @@ use Rattle.star_grammar.specs.Effects.{effect, least}
 use Rattle.star_grammar.specs.Reading.{max_height}
 use Rattle.star_machine.specs.declared.growth.Growth.{Growth}
 use Rattle.star_machine.specs.declared.growth.Growth.TheVariants as grows
+use Rattle.star_machine.specs.declared.machine.Machine.{Machine}
 use Rattle.star_machine.specs.declared.machine.Turn.{Turn}
 use Rattle.star_machine.specs.declared.machine.Turn.TheVariants as turn
 use Rattle.star_machine.specs.declared.pending.Item.{Item}
@@ -140,6 +141,10 @@ OnTurn (Ok turn.On) P = P
 OnTurn (Ok turn.Taken) P = P
 OnTurn (Ok turn.Refused) P = Unit {0}
 OnTurn (Err e) P = Unit {0}
+
+-- what was known before a turn with this item is known behind it
+abbrev pub StaysWeighed : Result Turn Memory → Item → (before after : Machine) → Type 0
+StaysWeighed t x m n = (w : Weight) → Weighed w (x ∷ m.pending) m.shapes → OnTurn t (Weighed w n.pending n.shapes)
 
 -- this holds, where the token was taken
 abbrev pub OnTaken : Result Bool Memory → Type 0 → Type 0

@@ -4,8 +4,7 @@ ghost use Rattle.star_grammar.specs.Language.{kind_of_token};
 ghost use Rattle.star_grammar.specs.declared.token.Token.{Token};
 ghost use Rattle.star_machine.specs.Pending.{wants_end, wants_rule, wants_token};
 ghost use Rattle.star_machine.specs.Turns.{Steps, Turned, finished, taken};
-ghost use Rattle.star_machine.specs.Weights.{OnTaken, OnTurn, Weighed};
-ghost use Rattle.star_machine.specs.declared.weight.Weight.{Weight};
+ghost use Rattle.star_machine.specs.Weights.{OnTaken, OnTurn, StaysWeighed, Weighed};
 
 use crate::pending::{Item, Pending};
 use crate::weight::Weight;
@@ -73,7 +72,7 @@ fn turn_token(
     machine: &mut Machine,
 ) -> Result<Turn, Memory>
     ensures turned { Turned result token.now (wants_token terminal) machine.old machine.new }
-    ensures weighed { (w : Weight) → Weighed w (wants_token terminal ∷ machine.old.pending) machine.old.shapes → OnTurn result (Weighed w machine.new.pending machine.new.shapes) }
+    ensures weighed { StaysWeighed result (wants_token terminal) machine.old machine.new }
 {
     if !may_stand(terminal, token, &machine.parts) {
         return Ok(Turn::Refused);
