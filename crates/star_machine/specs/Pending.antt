@@ -22,6 +22,9 @@ wants_token a = item.Want (symbol.Token a)
 abbrev pub wants_rule : Rule → Item
 wants_rule r = item.Want (symbol.Rule r)
 
+abbrev pub wants_end : Choice → Item
+wants_end c = item.Close c
+
 abbrev pub wanted : List Symbol → List Item → List Item
 wanted [] rest = rest
 wanted (x ∷ xs) rest = item.Want x ∷ wanted xs rest

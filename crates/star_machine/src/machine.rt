@@ -1,11 +1,13 @@
 // The machine, which takes one token at a time.
-ghost use Rattle.std.specs.Prelude.{◌≡◌, OnOk};
+ghost use Rattle.std.specs.Prelude.{◌≡◌, ◌∷◌, OnOk};
 ghost use Rattle.star_grammar.specs.Language.{kind_of_token};
 ghost use Rattle.star_grammar.specs.declared.token.Token.{Token};
-ghost use Rattle.star_machine.specs.Pending.{wants_token, wants_rule};
+ghost use Rattle.star_machine.specs.Pending.{wants_end, wants_rule, wants_token};
 ghost use Rattle.star_machine.specs.Turns.{Steps, Turned, finished, taken};
+ghost use Rattle.star_machine.specs.Weights.{OnTaken, OnTurn, StaysWeighed, Weighed};
 
 use crate::pending::{Item, Pending};
+use crate::weight::Weight;
 use ll::Shapes;
 use star_build::{Blocks, Parts, build, put_token};
 use star_grammar::{Choice, Kind, Rule, Symbol, Terminal, Token};
@@ -32,12 +34,21 @@ pub enum Turn {
 }
 
 /// Ends an alternative.
-fn finish(alloc: Global, choice: Choice, machine: &mut Machine) -> Result<(), Memory>
-    ensures { OnOk result (machine.new ≡ finished choice machine.old) }
+fn finish(
+    alloc: Global,
+    choice: Choice,
+    machine: &mut Machine,
+    weight: &mut Weight,
+) -> Result<(), Memory>
+    requires weighed { Weighed weight.old (wants_end choice ∷ machine.old.pending) machine.old.shapes }
+    ensures finished { OnOk result (machine.new ≡ finished choice machine.old) }
+    ensures weighed { OnOk result (Weighed weight.new machine.new.pending machine.new.shapes) }
 {
     let action = action_of(choice);
+    let effect = effect_of(action);
     build(alloc, action, &mut machine.parts)?;
-    machine.shapes.apply(effect_of(action))
+    weight.close(effect);
+    machine.shapes.apply(effect)
 }
 
 /// Takes a token that may stand here.
@@ -60,7 +71,8 @@ fn turn_token(
     token: &Token,
     machine: &mut Machine,
 ) -> Result<Turn, Memory>
-    ensures { Turned result token.now (wants_token terminal) machine.old machine.new }
+    ensures turned { Turned result token.now (wants_token terminal) machine.old machine.new }
+    ensures weighed { StaysWeighed result (wants_token terminal) machine.old machine.new }
 {
     if !may_stand(terminal, token, &machine.parts) {
         return Ok(Turn::Refused);
@@ -69,14 +81,22 @@ fn turn_token(
     Ok(Turn::Taken)
 }
 
-fn turn_rule(rule: Rule, kind: Kind, machine: &mut Machine) -> Result<Turn, Memory>
-    ensures { (token : Token) → kind ≡ kind_of_token token.kind → Turned result token (wants_rule rule) machine.old machine.new }
+fn turn_rule(
+    rule: Rule,
+    kind: Kind,
+    machine: &mut Machine,
+    weight: &mut Weight,
+) -> Result<Turn, Memory>
+    requires weighed { Weighed weight.old (wants_rule rule ∷ machine.old.pending) machine.old.shapes }
+    ensures turned { (token : Token) → kind ≡ kind_of_token token.kind → Turned result token (wants_rule rule) machine.old machine.new }
+    ensures weighed { OnTurn result (Weighed weight.new machine.new.pending machine.new.shapes) }
 {
     let choice = choice_at(rule, kind);
     if !allows(choice, &machine.parts, &machine.shapes, &machine.blocks) {
         return Ok(Turn::Refused);
     }
     machine.pending.open(choice)?;
+    weight.open(choice, &machine.shapes);
     Ok(Turn::On)
 }
 
@@ -87,27 +107,37 @@ fn go(
     token: &Token,
     kind: Kind,
     machine: &mut Machine,
+    weight: &mut Weight,
 ) -> Result<Turn, Memory>
-    requires { kind ≡ kind_of_token token.now.kind }
-    ensures { Turned result token.now item machine.old machine.new }
+    requires kind { kind ≡ kind_of_token token.now.kind }
+    requires weighed { Weighed weight.old (item ∷ machine.old.pending) machine.old.shapes }
+    ensures turned { Turned result token.now item machine.old machine.new }
+    ensures weighed { OnTurn result (Weighed weight.new machine.new.pending machine.new.shapes) }
 {
     match item {
         Item::Close(choice) => {
-            finish(alloc, choice, machine)?;
+            finish(alloc, choice, machine, weight)?;
             Ok(Turn::On)
         }
         Item::Want(Symbol::Token(terminal)) => turn_token(alloc, terminal, token, machine),
-        Item::Want(Symbol::Rule(rule)) => turn_rule(rule, kind, machine),
+        Item::Want(Symbol::Rule(rule)) => turn_rule(rule, kind, machine, weight),
     }
 }
 
-/// Reads one token. It gives whether it may stand here.
-pub fn step(alloc: Global, token: &Token, machine: &mut Machine) -> Result<bool, Memory>
-    ensures { Steps result token.now machine.old machine.new }
+/// Reads one token, and keeps what is known of the text's height. It gives whether the token may stand here.
+pub fn step(
+    alloc: Global,
+    token: &Token,
+    machine: &mut Machine,
+    weight: &mut Weight,
+) -> Result<bool, Memory>
+    requires weighed { Weighed weight.old machine.old.pending machine.old.shapes }
+    ensures steps { Steps result token.now machine.old machine.new }
+    ensures weighed { OnTaken result (Weighed weight.new machine.new.pending machine.new.shapes) }
 {
     let kind = kind_of(&token.kind);
     'items: while let Some(item) = machine.pending.pop() {
-        match go(alloc, item, token, kind, machine)? {
+        match go(alloc, item, token, kind, machine, weight)? {
             Turn::On => {}
             Turn::Taken => return Ok(true),
             Turn::Refused => return Ok(false),

@@ -1,5 +1,5 @@
 // What is still to be read.
-ghost use Rattle.std.specs.Prelude.{◌≡◌, [], ◌∷◌, reverse, OnOk, MatchOption};
+ghost use Rattle.std.specs.Prelude.{◌≡◌, ◌<◌, ◌^◌, [], ◌∷◌, length, reverse, OnOk, MatchOption};
 ghost use Rattle.star_machine.specs.Pending as spec;
 
 use star_grammar::{Action, Choice, Symbol};
@@ -80,7 +80,8 @@ impl Pending {
 
     /// Opens an alternative: its symbols, and then its end.
     pub fn open(&mut self, choice: Choice) -> Result<(), Memory>
-        ensures { OnOk result (self.new ≡ spec.opened choice self.old) }
+        ensures opened { OnOk result (self.new ≡ spec.opened choice self.old) }
+        ensures few { OnOk result (length self.new < 2 ^ 63) }
     {
         self.end(choice)?;
         put_wanted(&mut self.items, symbols_of(choice))

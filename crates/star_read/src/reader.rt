@@ -8,13 +8,14 @@ ghost use Rattle.star_read.specs.Answers.{HasParts, HasRead, head_in, program_in
 ghost use Rattle.star_read.specs.Passing.{IsEmpty, Passes};
 ghost use Rattle.star_machine.specs.Pending.{begun};
 ghost use Rattle.star_machine.specs.Turns.{value_of};
+ghost use Rattle.star_machine.specs.Weights.{Weighed};
 
 use crate::standing::{at_first, opens_too_many, stand_after};
 use ll::{Shape, Shapes};
 use sqlite_items::{Boxed, Items};
 use star_build::{Blocks, Parts, args_of, boxed_of, code_of, header_in};
 use star_grammar::{Kind, Part, Rule, Stand, Start, Symbol, Terminal, Token};
-use star_machine::{Item, Machine, Pending, is_low, step};
+use star_machine::{Item, Machine, Pending, Weight, is_low, step};
 use star_tables::kind_of;
 use star_token::Tokens;
 use star_tree::code::{Args, Expr, Header, Program};
@@ -135,14 +136,17 @@ fn read_token(
     stand: Stand,
     token: &Token,
     machine: &mut Machine,
+    weight: &mut Weight,
 ) -> Result<Stand, Stop>
-    ensures { Passes start file stand token.now machine.old machine.new result }
+    requires weighed { Weighed weight.old machine.old.pending machine.old.shapes }
+    ensures passes { Passes start file stand token.now machine.old machine.new result }
+    ensures weighed { OnOk result (Weighed weight.new machine.new.pending machine.new.shapes) }
 {
-    if !step(alloc, token, machine)? {
+    if !step(alloc, token, machine, weight)? {
         return Err(refuse(alloc, file, stand, token));
     }
     let next = stand_after(start, stand, kind_of(&token.kind), token.line);
-    if !is_low(alloc, &machine.pending, &machine.shapes)? {
+    if !is_low(alloc, &machine.pending, &machine.shapes, weight)? {
         return Err(fault(alloc, FaultKind::TooDeep, file, next.line));
     }
     Ok(next)
@@ -160,10 +164,19 @@ fn read_tokens(
     ensures { HasParts start tokens.now result machine.new.parts }
 {
     begin(alloc, start, machine)?;
+    let mut weight = Weight::new();
     let mut stand = at_first();
     let found = tokens.tokens.as_slice();
     for token in found {
-        stand = read_token(alloc, start, tokens.file, stand, token, machine)?;
+        stand = read_token(
+            alloc,
+            start,
+            tokens.file,
+            stand,
+            token,
+            machine,
+            &mut weight,
+        )?;
     }
     match machine.pending.pop() {
         None => Ok(()),

@@ -11,18 +11,19 @@ returns-in_err-stand c =
     let stops : c.from_residual-in_err-stand.result ≡ Err c.in_err-stand.field-0.0 = search rules in
     rw stops
     (stopped (Unit {0}) c.args.start c.args.tokens.now c.as_slice-found.result.now at.token-index c.token-item.result at.machine c.read_token.new.machine at.stand c.in_err-stand.field-0.0 _ c.as_slice-found.ensures
-    c.loop-token-test.true c.token-item.is at.invariant.same at.invariant.stand_is c.in_err-stand.ensures)
+    c.loop-token-test.true c.token-item.is at.invariant.same at.invariant.stand_is c.in_err-stand.ensures.passes)
 
 pub loop-token-preserved : goal.loop-token-preserved
 loop-token-preserved c =
     let at = c.loop-token in
     let k = c.token-item.result in
     let after = c.read_token.new.machine in
-    let went = c.in_ok-stand.ensures in
+    let went = c.in_ok-stand.ensures.passes in
     record {
       same = turn c.args.start c.as_slice-found.result.now at.token-index k at.machine.pending (value_of at.machine) c.loop-token-test.true c.token-item.is at.invariant.same after.pending (value_of after) went.1 went.2;
       stand_is = went.0 ∙ stands_on c.args.start c.as_slice-found.result.now at.token-index k at.machine.pending (value_of at.machine) c.loop-token-test.true c.token-item.is at.invariant.same at.stand at.invariant.stand_is;
       anchored = still_anchored k at.machine.pending after.pending (value_of at.machine) (value_of after) at.invariant.anchored went.1;
+      weighed = c.in_ok-stand.ensures.weighed;
     }
 
 pub unreachable-requires : goal.unreachable-requires

@@ -1,7 +1,7 @@
 use Rattle.std.proofs.Common.{◌≡◌, ◌∙◌, ap}
 use Rattle.ll.specs.Shapes as shape
 use Rattle.star_machine.specs.Turns.{along, weigh}
-use Rattle.star_machine.proofs.weight.is_low.Goals as goal
+use Rattle.star_machine.proofs.weight.weighs_little.Goals as goal
 
 pub returns : goal.returns
 returns c =
