@@ -296,7 +296,8 @@ fn formatted(
     requires { OwnsArguments (seen arena.now) args.now }
     ensures { Meets string_bytes result (state_in (seen arena.now) steps.new) (unless_twice (seen arena.now) place args.now (formatted_here (seen arena.now) place args.now none_met text.now) (state_in (seen arena.now) steps.old)) }
 {
-    if has_twice(args.named.as_slice()) {
+    let twice = has_twice(arena.alloc(), args.named.as_slice())?;
+    if twice {
         return Err(refusal(arena, FaultKind::ArgBind, place));
     }
     let mut made = String::new(arena.alloc());

@@ -1,4 +1,4 @@
-use Rattle.std.proofs.Common.{◌≡◌, ◌∙◌, Err, ap, false, not, rules, string_bytes}
+use Rattle.std.proofs.Common.{◌≡◌, ◌∙◌, Err, ap, false, not, rules, string_bytes, sym}
 use Rattle.ytt_base.specs.declared.fault.FaultKind.TheVariants as kind
 use Rattle.star_steps.proofs.Meeting.{meets_same, meets_stop}
 use Rattle.star_steps.proofs.Names.{seen, state_in, then_give}
@@ -16,7 +16,7 @@ returns-in_err-fill c =
     let p = c.args.place in
     let m = formatted_here a p c.args.args.now none_met c.args.text.now in
     let s = state_in a c.args.steps.now in
-    let once : has_twice (fields_in a.held c.args.args.now.named) ≡ false = search rules in
+    let once : has_twice (fields_in a.held c.args.args.now.named) ≡ false = sym (sym c.if-twice.false ∙ c.in_ok-twice.ensures a ∙ ap (λ fs. has_twice (fields_in a.held fs)) c.as_slice.ensures) in
     let stopped : c.from_residual.result ≡ Err c.in_err-fill.field-0.0 = search rules in
     meets_same string_bytes c.from_residual.result _ _ _ (ap (λ b. then_do (need kind.ArgBind p (not b) s) (λ u. m)) once ∙ shown_alone m s _ c.new-made.ensures.bytes ∙ then_give _)
     (meets_stop (λ (u : Unit {0}). string_bytes c.fill.new.made) string_bytes c.in_err-fill.field-0.0 _ _ give c.from_residual.result c.in_err-fill.ensures stopped)
@@ -27,5 +27,5 @@ returns c =
     let p = c.args.place in
     let m = formatted_here a p c.args.args.now none_met c.args.text.now in
     let s = state_in a c.args.steps.now in
-    let once : has_twice (fields_in a.held c.args.args.now.named) ≡ false = search rules in
+    let once : has_twice (fields_in a.held c.args.args.now.named) ≡ false = sym (sym c.if-twice.false ∙ c.in_ok-twice.ensures a ∙ ap (λ fs. has_twice (fields_in a.held fs)) c.as_slice.ensures) in
     ap (λ b. then_do (need kind.ArgBind p (not b) s) (λ u. m)) once ∙ shown_alone m s _ c.new-made.ensures.bytes ∙ c.in_ok-fill.ensures
