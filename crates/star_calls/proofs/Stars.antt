@@ -4,10 +4,10 @@ use Rattle.ytt_base.specs.Outcomes.{fault_at}
 use Rattle.ytt_base.specs.declared.fault.FaultKind.TheVariants as kind
 use Rattle.ytt_base.specs.declared.fault.Place.{Place}
 use Rattle.code_spec.specs.Code.{Name}
-use Rattle.value_spec.specs.Members.{as_text, members_in}
+use Rattle.value_spec.specs.Members.{as_text}
 use Rattle.value_spec.specs.Outcomes.{State, bad, done, give, or_fail, then_do}
 use Rattle.value_spec.specs.Values as plain
-use Rattle.value_spec.specs.Values.{Arguments, arguments, Fields, no_fields, a_field, no_values, none_value, bool_value, int_value, text_value, tuple_value, range_value, struct_value, fragment_value, list_value, dict_value, function_value, module_value, native_value, values_from}
+use Rattle.value_spec.specs.Values.{Arguments, arguments, Fields, no_fields, a_field, no_values, none_value, bool_value, int_value, text_value, tuple_value, range_value, struct_value, fragment_value, list_value, dict_value, function_value, module_value, native_value}
 use Rattle.star_spec.specs.Eval.{as_fields, field_in_front, spread_fields}
 use Rattle.star_values.specs.Objects.{pairs_in}
 use Rattle.star_values.specs.View.{fields_in, value_in}

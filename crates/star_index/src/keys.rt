@@ -1,6 +1,6 @@
 // What stands under a key.
 ghost use Rattle.index_spec.specs.Index.{absent_field};
-ghost use Rattle.star_steps.specs.Names.{None, field_of, index_row, key_offence, max_depth, missing, other_key, IsKeyWithin, seen, Owns, OwnsFields, fields_in, value_of, Gives, state_in};
+ghost use Rattle.star_steps.specs.Names.{field_of, index_row, key_offence, max_depth, missing, other_key, IsKeyWithin, seen, Owns, OwnsFields, fields_in, value_of, Gives, state_in};
 ghost use Rattle.star_values.specs.declared.value.Value.TheVariants as value;
 ghost use Rattle.star_index.specs.Cuts.{Refuses};
 
