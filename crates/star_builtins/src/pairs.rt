@@ -31,7 +31,8 @@ pub(crate) fn dict(arena: &mut Arena, steps: &mut u64, args: &CallArgs, at: Plac
     requires { OwnsArguments (seen arena.old) args.now }
     ensures { Yields (dict_row at (arguments_in (seen arena.old).held args.now)) result arena.old arena.new steps.old steps.new }
 {
-    if !pairs_bound(args) {
+    let bound = pairs_bound(arena.alloc(), args)?;
+    if !bound {
         return Err(refusal(arena, FaultKind::ArgBind, at));
     }
     let named = named_pairs(arena, args.named.as_slice())?;
@@ -70,7 +71,8 @@ pub(crate) fn update(
     requires args { OwnsArguments (seen arena.old) args.now }
     ensures { Yields (update_row dict.at at (arguments_in (seen arena.old).held args.now)) result arena.old arena.new steps.old steps.new }
 {
-    if !pairs_bound(args) {
+    let bound = pairs_bound(arena.alloc(), args)?;
+    if !bound {
         return Err(refusal(arena, FaultKind::ArgBind, at));
     }
     let named = named_pairs(arena, args.named.as_slice())?;
@@ -101,10 +103,14 @@ fn update_from(
 }
 
 /// Whether there is at most one argument by position, and no name twice.
-fn pairs_bound(args: &CallArgs) -> bool
-    ensures { (a : View) → result ≡ pairs_bound (values_from (values_of a args.now.positional)) (fields_in a.held args.now.named) }
+fn pairs_bound(alloc: Global, args: &CallArgs) -> Result<bool, Memory>
+    ensures { (a : View) → IfOk result (λ bound. bound ≡ pairs_bound (values_from (values_of a args.now.positional)) (fields_in a.held args.now.named)) }
 {
-    args.positional.as_slice().len() <= 1 && !has_twice(args.named.as_slice())
+    if args.positional.as_slice().len() > 1 {
+        return Ok(false);
+    }
+    let twice = has_twice(alloc, args.named.as_slice())?;
+    Ok(!twice)
 }
 
 /// The pairs that the argument by position is, and behind them those of arguments by name: `ValueKind` of a value that isn't one of

@@ -1,4 +1,5 @@
 pub mod Named
+pub mod Passed
 pub mod Kept
 pub mod Filled
 pub mod Dicts

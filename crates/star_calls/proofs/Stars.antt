@@ -4,16 +4,16 @@ use Rattle.ytt_base.specs.Outcomes.{fault_at}
 use Rattle.ytt_base.specs.declared.fault.FaultKind.TheVariants as kind
 use Rattle.ytt_base.specs.declared.fault.Place.{Place}
 use Rattle.code_spec.specs.Code.{Name}
-use Rattle.value_spec.specs.Members.{as_text, members_in}
+use Rattle.value_spec.specs.Members.{as_text}
 use Rattle.value_spec.specs.Outcomes.{State, bad, done, give, or_fail, then_do}
 use Rattle.value_spec.specs.Values as plain
-use Rattle.value_spec.specs.Values.{Arguments, arguments, Fields, no_fields, a_field, no_values, none_value, bool_value, int_value, text_value, tuple_value, range_value, struct_value, fragment_value, list_value, dict_value, function_value, module_value, native_value, values_from}
+use Rattle.value_spec.specs.Values.{Arguments, arguments, Fields, no_fields, a_field, no_values, none_value, bool_value, int_value, text_value, tuple_value, range_value, struct_value, fragment_value, list_value, dict_value, function_value, module_value, native_value}
 use Rattle.star_spec.specs.Eval.{as_fields, field_in_front, spread_fields}
 use Rattle.star_values.specs.Objects.{pairs_in}
 use Rattle.star_values.specs.View.{fields_in, value_in}
 use Rattle.star_values.specs.declared.value.NamedValue.{NamedValue}
 use Rattle.star_values.specs.declared.value.Value.{Value}
-use Rattle.star_calls.specs.Arguments.{and_argument, both, fields_behind, star, two_stars}
+use Rattle.star_calls.specs.Arguments.{and_argument, both, fields_behind, two_stars}
 use Rattle.star_calls.specs.View.{fields_of_dict}
 use Rattle.star_calls.proofs.Behind.{fields_behind_none, fields_in_a_row, fields_joined}
 
@@ -21,12 +21,6 @@ abbrev Here : Type 0
 Here = State (Unit {0})
 
 -- ---- stars
-
-pub star_gives : (p : Place) (v : plain.Value) (given : Arguments) (ws : List plain.Value) (s : Here) → members_in s.store v ≡ Some ws → and_argument (star p) v given s ≡ done (both given (arguments (values_from ws) no_fields)) s
-star_gives p v given ws s e = ap (λ o. then_do (then_do (or_fail kind.ValueKind p o s) (λ vs. give (arguments (values_from vs) no_fields))) (λ mine. give (both given mine))) e
-
-pub star_refused : (p : Place) (v : plain.Value) (given : Arguments) (s : Here) → members_in s.store v ≡ None → and_argument (star p) v given s ≡ bad (fault_at kind.ValueKind p) s
-star_refused p v given s e = ap (λ o. then_do (then_do (or_fail kind.ValueKind p o s) (λ vs. give (arguments (values_from vs) no_fields))) (λ mine. give (both given mine))) e
 
 spread : (p : Place) (v : plain.Value) (s : Here) → spread_fields p v s ≡ or_fail kind.ValueKind p (fields_of_dict s.store v) s
 spread p none_value s = refl

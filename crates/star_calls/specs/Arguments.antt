@@ -1,7 +1,8 @@
 -- Arguments of a call or a note, one behind another.
 use Rattle.ytt_base.specs.declared.fault.Place.{Place}
 use Rattle.code_spec.specs.Code.{Name}
-use Rattle.star_spec.specs.Eval.{members_of, spread_fields}
+use Rattle.builtin_spec.specs.Sorting.{members_taken}
+use Rattle.star_spec.specs.Eval.{spread_fields}
 use Rattle.value_spec.specs.Outcomes.{Computation, give, ◌>>=◌}
 use Rattle.value_spec.specs.Values.{Arguments, arguments, Fields, no_fields, a_field, Value, Values, no_values, a_value, values_from}
 
@@ -27,11 +28,11 @@ pub data Form : Type 0 where
   star : Place → Form
   two_stars : Place → Form
 
--- what one argument gives
+-- what one argument gives; of a range's numbers there are no more than steps are left
 abbrev pub one_argument : {H : Type 0} → Form → Value → Computation H Arguments
 one_argument positional v = give (arguments (a_value v no_values) no_fields)
 one_argument (by_name x) v = give (arguments no_values (a_field x v no_fields))
-one_argument (star p) v = members_of p v >>= λ vs. give (arguments (values_from vs) no_fields)
+one_argument (star p) v = members_taken p v >>= λ vs. give (arguments (values_from vs) no_fields)
 one_argument (two_stars p) v = spread_fields p v >>= λ fs. give (arguments no_values fs)
 
 -- the arguments that are given, and this one behind them

@@ -1,13 +1,13 @@
--- What the forms of arguments are, and what their stars give, in the words of the definitions.
-use Rattle.std.specs.Prelude.{List, Option, Some, None}
+-- What the forms of arguments are, and what their stars give or have room for, in the words of the definitions.
+use Rattle.std.specs.Prelude.{ℕ, nat_le, Bool, true, List, Option, Some, None}
+use Rattle.value_spec.specs.Numbers.{range_count}
 use Rattle.value_spec.specs.Store.{pairs_at}
 use Rattle.value_spec.specs.Values as plain
-use Rattle.value_spec.specs.Values.{Fields, Store, dict_value}
+use Rattle.value_spec.specs.Values.{Fields, Store, dict_value, range_value}
 use Rattle.star_spec.specs.Eval.{as_fields}
-use Rattle.star_values.specs.Owns.{OwnsAll, OwnsFields}
-use Rattle.star_values.specs.View.{View, fields_in, values_of}
+use Rattle.star_values.specs.Owns.{OwnsFields}
+use Rattle.star_values.specs.View.{View, fields_in}
 use Rattle.star_values.specs.declared.value.NamedValue.{NamedValue}
-use Rattle.star_values.specs.declared.value.Value.{Value}
 use Rattle.star_calls.specs.Arguments.{Form, positional, by_name, star, two_stars}
 use Rattle.star_calls.specs.declared.arguments.ArgumentForm.{ArgumentForm}
 use Rattle.star_calls.specs.declared.arguments.ArgumentForm.TheVariants as form
@@ -20,13 +20,10 @@ form_of (form.Stars p) = two_stars p
 
 -- ---- members
 
-abbrev pub listed : View → Option (List Value) → Option (List plain.Value)
-listed a None = None
-listed a (Some vs) = Some (values_of a vs)
-
-abbrev pub OwnsIfListed : View → Option (List Value) → Type 0
-OwnsIfListed a None = Unit {0}
-OwnsIfListed a (Some vs) = OwnsAll a vs
+-- a range has no more members than this
+abbrev pub room_within : ℕ → plain.Value → Bool
+room_within n (range_value start stop step) = nat_le (range_count start stop step) n
+room_within n _ = true
 
 -- ---- pairs
 

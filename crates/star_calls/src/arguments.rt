@@ -8,7 +8,7 @@ ghost use Rattle.value_spec.specs.Values.{a_field, a_value, arguments, no_fields
 ghost use Rattle.star_calls.specs.Arguments.{and_argument, both, star, two_stars};
 ghost use Rattle.star_calls.specs.View.{form_of};
 
-use crate::spread::{fields_if_any, members_if_any};
+use crate::spread::{fields_if_any, members_taken};
 use object_arena::Arena;
 use star_steps::refusal;
 use star_values::{CallArgs, NamedValue, NamedValues, Value, Values};
@@ -24,38 +24,44 @@ pub enum ArgumentForm<'p> {
     Stars(Place),
 }
 
-/// The arguments that are given, and behind them what one more gives, which has this value. It refuses with `ValueKind` at its
-/// place where it is `*e` of what has no members, or `**e` of what is no dict with texts as keys.
+/// The arguments that are given, and behind them what one more gives, which has this value, where so many steps are left. It takes
+/// none. It refuses at its place, with `ValueKind` where it is `*e` of what has no members, or `**e` of what is no dict with texts
+/// as keys, and with `Steps` where it is `*e` of a range with more members than steps are left.
 pub fn add_argument(
     arena: &Arena,
+    steps: u64,
     form: ArgumentForm<'_>,
     value: Value,
     given: CallArgs,
 ) -> Result<CallArgs, Stop>
     requires value { Owns (seen arena.now) value }
     requires given { OwnsArguments (seen arena.now) given }
-    ensures meaning { (n : ℕ) → Meets (arguments_in (seen arena.now).held) result (state_in (seen arena.now) n) (and_argument (form_of form.entry) (value_of (seen arena.now) value) (arguments_in (seen arena.now).held given) (state_in (seen arena.now) n)) }
+    ensures meaning { Meets (arguments_in (seen arena.now).held) result (state_in (seen arena.now) steps) (and_argument (form_of form.entry) (value_of (seen arena.now) value) (arguments_in (seen arena.now).held given) (state_in (seen arena.now) steps)) }
     ensures owns { IfOk result (OwnsArguments (seen arena.now)) }
 {
     match form {
         ArgumentForm::Positional => Ok(with_position(given, value)?),
         ArgumentForm::Named(name) => Ok(with_name(given, name.copy()?, value)?),
-        ArgumentForm::Star(at) => add_members(arena, at, value, given),
+        ArgumentForm::Star(at) => add_members(arena, steps, at, value, given),
         ArgumentForm::Stars(at) => add_pairs(arena, at, value, given),
     }
 }
 
 /// The members of a value behind the arguments that are given.
-fn add_members(arena: &Arena, at: Place, value: Value, given: CallArgs) -> Result<CallArgs, Stop>
+fn add_members(
+    arena: &Arena,
+    steps: u64,
+    at: Place,
+    value: Value,
+    given: CallArgs,
+) -> Result<CallArgs, Stop>
     requires value { Owns (seen arena.now) value }
     requires given { OwnsArguments (seen arena.now) given }
-    ensures meaning { (n : ℕ) → Meets (arguments_in (seen arena.now).held) result (state_in (seen arena.now) n) (and_argument (star at) (value_of (seen arena.now) value) (arguments_in (seen arena.now).held given) (state_in (seen arena.now) n)) }
+    ensures meaning { Meets (arguments_in (seen arena.now).held) result (state_in (seen arena.now) steps) (and_argument (star at) (value_of (seen arena.now) value) (arguments_in (seen arena.now).held given) (state_in (seen arena.now) steps)) }
     ensures owns { IfOk result (OwnsArguments (seen arena.now)) }
 {
-    match members_if_any(arena, value)? {
-        None => Err(refusal(arena, FaultKind::ValueKind, at)),
-        Some(members) => Ok(with_positions(given, members)?),
-    }
+    let members = members_taken(arena, steps, value, at)?;
+    Ok(with_positions(given, members)?)
 }
 
 /// The pairs of a dict behind the arguments that are given.

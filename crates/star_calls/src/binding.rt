@@ -32,7 +32,8 @@ pub fn bind(
     ensures { (file n : ℕ) → GivesAll (bound_values at (parameters_of file params.now) (values_of (seen arena.old) defaults.now) (arguments_in (seen arena.old).held args) (state_in (seen arena.old) n)) result (seen arena.old) (seen arena.new) n }
 {
     let CallArgs { positional, named } = args;
-    if has_twice(named.as_slice()) {
+    let twice = has_twice(arena.alloc(), named.as_slice())?;
+    if twice {
         return Err(refusal(arena, FaultKind::ArgBind, at));
     }
     let left = Left {

@@ -8,7 +8,7 @@
 //! then the defaults. A star takes the positions that are left, as a tuple, and two stars the names that are left, as a new
 //! dict. Where a parameter gets nothing, or an argument has no parameter, or a name is given twice, it refuses with `ArgBind`,
 //! and no dict is made. `bind_named` does the same for the parameters of the language's own functions, which are None where they
-//! may be left out and aren't given; `has_twice` tells whether two arguments have one name.
+//! may be left out and aren't given; `has_twice` tells whether two arguments have one name, in time about linear in their count.
 #![tactic(auto)]
 
 mod arguments;

@@ -30,7 +30,8 @@ pub fn bind_named(
     ensures { (n : ℕ) → GivesAll (bound_values at (parameters_named (each (λ w. w.now) needed.now) (each (λ w. w.now) optional.now)) (none_for_each (each (λ w. w.now) optional.now)) (arguments_in (seen arena.now).held args) (state_in (seen arena.now) n)) result (seen arena.now) (seen arena.now) n }
 {
     let CallArgs { positional, named } = args;
-    if has_twice(named.as_slice()) {
+    let twice = has_twice(arena.alloc(), named.as_slice())?;
+    if twice {
         return Err(refusal(arena, FaultKind::ArgBind, at));
     }
     let nones = none_for_each(arena, optional)?;

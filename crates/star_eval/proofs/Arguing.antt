@@ -2,9 +2,10 @@
 use Rattle.std.proofs.Common.{◌≡◌, List, [], ◌∷◌, ◌++◌, refl, ap, sym, ◌∙◌}
 use Rattle.ytt_base.specs.declared.fault.Place.{Place}
 use Rattle.code_spec.specs.Code as plain
+use Rattle.builtin_spec.specs.Sorting.{members_taken}
 use Rattle.star_calls.proofs.Behind.{both_in_a_row, both_none, with_fields_both, with_values_both}
 use Rattle.star_calls.specs.Arguments.{both, positional, star, two_stars}
-use Rattle.star_spec.specs.Eval.{eval_arguments, members_of, spread_fields, with_fields, with_values}
+use Rattle.star_spec.specs.Eval.{eval_arguments, spread_fields, with_fields, with_values}
 use Rattle.star_values.proofs.Growing.{each_joined}
 use Rattle.star_values.specs.Owns.{Owns, OwnsAll, OwnsArguments, OwnsFields, field_values, note_values}
 use Rattle.star_values.specs.View.{View}
@@ -40,10 +41,10 @@ module _ {A : Type 0} (c : Setting) (before : Arguments) (f : Arguments → Comp
   positional_first e es = put_first (evaluated c e) (λ v. with_values (v ∷ [])) (λ v. arguments (a_value v no_values) no_fields) es (λ v. with_values_both (v ∷ []))
 
   star_first : (p : Place) (es : plain.Exprs) (v : Value) →
-      ((members_of p v >>= λ vs. eval_arguments (all_calls c) es c.env >>= λ rest. give (with_values vs rest)) >>= λ rest. f (both before rest)) ≡ argument_then c (star p) es before f v
+      ((members_taken p v >>= λ vs. eval_arguments (all_calls c) es c.env >>= λ rest. give (with_values vs rest)) >>= λ rest. f (both before rest)) ≡ argument_then c (star p) es before f v
   star_first p es v =
-      put_first (members_of p v) with_values (λ vs. arguments (values_from vs) no_fields) es with_values_both
-      ∙ (λ i s. sym (given_once (members_of p v s) (λ vs. arguments (values_from vs) no_fields) (both before) (λ more. arguments_then c es more f)) i)
+      put_first (members_taken p v) with_values (λ vs. arguments (values_from vs) no_fields) es with_values_both
+      ∙ (λ i s. sym (given_once (members_taken p v s) (λ vs. arguments (values_from vs) no_fields) (both before) (λ more. arguments_then c es more f)) i)
 
   stars_first : (p : Place) (es : plain.Exprs) (v : Value) →
       ((spread_fields p v >>= λ fs. eval_arguments (all_calls c) es c.env >>= λ rest. give (with_fields fs rest)) >>= λ rest. f (both before rest)) ≡ argument_then c (two_stars p) es before f v
@@ -56,7 +57,7 @@ module _ {A : Type 0} (c : Setting) (before : Arguments) (f : Arguments → Comp
   argument_first (plain.named p x e) es =
       put_first (evaluated c e) (λ v. with_fields (a_field x v no_fields)) (λ v. arguments no_values (a_field x v no_fields)) es (λ v. with_fields_both (a_field x v no_fields))
   argument_first (plain.starred p e) es =
-      chained (evaluated c e) (λ v. members_of p v >>= λ vs. eval_arguments (all_calls c) es c.env >>= λ rest. give (with_values vs rest)) (λ rest. f (both before rest)) ∙ (λ i. evaluated c e >>= λ v. star_first p es v i)
+      chained (evaluated c e) (λ v. members_taken p v >>= λ vs. eval_arguments (all_calls c) es c.env >>= λ rest. give (with_values vs rest)) (λ rest. f (both before rest)) ∙ (λ i. evaluated c e >>= λ v. star_first p es v i)
   argument_first (plain.double_starred p e) es =
       chained (evaluated c e) (λ v. spread_fields p v >>= λ fs. eval_arguments (all_calls c) es c.env >>= λ rest. give (with_fields fs rest)) (λ rest. f (both before rest)) ∙ (λ i. evaluated c e >>= λ v. stars_first p es v i)
   argument_first e es = positional_first e es

@@ -106,7 +106,8 @@ pub(crate) fn argued<'p>(
     requires value { Owns (arena_in m.old) value }
     ensures { GoesToValue result m.new m.old (argument_then (setting_of m.old) (form_of form.entry) (exprs_of m.old.code.file rest.now) (arguments_in (arena_in m.old).held given) (all_calls (setting_of m.old) place (value_of (arena_in m.old) function)) (value_of (arena_in m.old) value)) }
 {
-    match add_argument(&m.session.arena, form, value, given) {
+    let steps = m.session.work.steps;
+    match add_argument(&m.session.arena, steps, form, value, given) {
         Ok(more) => call_with(m, place, function, rest, more),
         Err(Stop::Fault(fault)) => Ok(Control::Failed(fault)),
         Err(Stop::Memory) => Err(Memory),
@@ -159,7 +160,8 @@ pub(crate) fn note_argued<'p>(
     requires value { Owns (arena_in m.old) value }
     ensures { GoesToFlow result m.new m.old (argument_then (setting_of m.old) (form_of form.entry) (exprs_of m.old.code.file rest.now) (arguments_in (arena_in m.old).held given) (λ vs. noting name.now vs (nodes_in m.old)) (value_of (arena_in m.old) value)) }
 {
-    match add_argument(&m.session.arena, form, value, given) {
+    let steps = m.session.work.steps;
+    match add_argument(&m.session.arena, steps, form, value, given) {
         Ok(more) => note_with(m, name, rest, more),
         Err(Stop::Fault(fault)) => Ok(Control::Left(fault)),
         Err(Stop::Memory) => Err(Memory),

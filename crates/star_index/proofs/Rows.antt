@@ -1,7 +1,8 @@
 -- Rows of the definitions, by what stands in their parts.
-use Rattle.star_steps.proofs.Names.{◌≡◌, ℕ, suc, ◌+◌, add-one, ℤ, List, length, Option, Some, None, refl, sym, ap, ◌∙◌, Place, State, Computation, done, fail, give, new_list, or_fail, reads, take_steps, then_do, ◌>>=◌, as_int, as_text, list_at, pairs_at, value_of_key, Fields, dict_value, int_value, range_value, text_value, tuple_value, list_value, values_from, then_assoc, named_values, if_one, key_sized, by_place, character_at, cut_text, field_of, found_value, index_row, member_at, number_at, other_key, place_among, value_under, bytes_cut, cut_row, give_tuple, members_slice, places_of, View, value_of, Ref, Value as Held, tuple_members}
+use Rattle.star_steps.proofs.Names.{◌≡◌, ℕ, suc, ◌+◌, add-one, ℤ, List, length, Option, Some, None, refl, sym, ap, ◌∙◌, Place, State, Computation, done, fail, give, new_list, or_fail, reads, take_steps, then_do, ◌>>=◌, as_int, as_text, list_at, pairs_at, value_of_key, Fields, dict_value, int_value, range_value, text_value, tuple_value, list_value, values_from, then_assoc, named_values, if_one, key_sized, by_place, character_at, cut_text, field_of, found_value, index_row, member_at, number_at, key_offence, max_depth, place_among, value_under, bytes_cut, cut_row, give_tuple, members_slice, places_of, View, value_of, Ref, Value as Held, tuple_members}
 use Rattle.ytt_base.specs.declared.fault.FaultKind.TheVariants as kind
 use Rattle.value_spec.specs.Values.{Value}
+use Rattle.index_spec.specs.Index.{absent_field}
 use Rattle.index_spec.specs.Slices.{Cut}
 use Rattle.star_values.specs.declared.value.Value.TheVariants as value
 use Rattle.star_index.specs.Cuts.{bytes_paid, character, members_paid}
@@ -61,8 +62,8 @@ no_text : (a : View) (v : Held) → ((r : Ref) → v ≡ value.Text r → ⊥) �
 no_text a (value.Text r) h = absurd (h r refl)
 no_text a _ h = refl
 
-pub other_field : (p : Place) (fs : Fields) (a : View) (v : Held) (s : S) → ((r : Ref) → v ≡ value.Text r → ⊥) → field_of p fs (value_of a v) s ≡ other_key p (value_of a v) s
-other_field p fs a v s h = ap (λ o. if_one o (λ x. value_under p (value_of a v) (named_values fs)) (other_key p (value_of a v)) s) (no_text a v h)
+pub other_field : (p : Place) (fs : Fields) (a : View) (v : Held) (s : S) → ((r : Ref) → v ≡ value.Text r → ⊥) → field_of p fs (value_of a v) s ≡ absent_field p (value_of a v) (key_offence max_depth (value_of a v)) s
+other_field p fs a v s h = ap (λ o. if_one o (λ x. value_under p (value_of a v) (named_values fs)) (absent_field p (value_of a v) (key_offence max_depth (value_of a v))) s) (no_text a v h)
 
 pub key_row : (p : Place) (r : ℕ) (k : Value) (found : Option Value) (s t : S) → key_sized p k s ≡ done tt t → found ≡ value_of_key k (pairs_at r t.store) → index_row p (dict_value r) k s ≡ found_value p k found t
 key_row p r k found s t e h = ap (λ o. then_do o (λ u. reads (pairs_at r) >>= value_under p k)) e ∙ ap (λ o. found_value p k o t) (sym h)

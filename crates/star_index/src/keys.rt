@@ -1,12 +1,13 @@
 // What stands under a key.
-ghost use Rattle.star_steps.specs.Names.{field_of, index_row, missing, other_key, IsKeyWithin, seen, Owns, OwnsFields, fields_in, value_of, Gives, state_in};
+ghost use Rattle.index_spec.specs.Index.{absent_field};
+ghost use Rattle.star_steps.specs.Names.{field_of, index_row, key_offence, max_depth, missing, other_key, IsKeyWithin, seen, Owns, OwnsFields, fields_in, value_of, Gives, state_in};
 ghost use Rattle.star_values.specs.declared.value.Value.TheVariants as value;
 ghost use Rattle.star_index.specs.Cuts.{Refuses};
 
 use crate::key_text::key_text;
 use object_arena::{Arena, NamedValue, Ref, Shape, Value};
-use star_compare::{field_under, key_size, value_under};
-use star_steps::Given;
+use star_compare::{field_under, key_offence, key_size, value_under};
+use star_steps::{Given, refusal};
 use ytt_base::fault::{Fault, FaultKind, Place, Stop};
 use ytt_base::text::Memory;
 
@@ -39,7 +40,7 @@ pub fn value_of_key(arena: &Arena, place: Place, dict: Ref, key: Value, steps: &
     }
 }
 
-/// The value of a name of a struct.
+/// The value of a name of a struct. A key takes no steps, of whatever kind and length it is.
 pub fn field_of(arena: &Arena, place: Place, fields: Ref, key: Value, steps: &mut u64) -> Given
     requires fields { Owns (seen arena.now) (value.Struct fields) }
     requires key { Owns (seen arena.now) key }
@@ -67,7 +68,18 @@ fn field_named(
             Some(value) => Ok(value),
             None => Err(missing(arena, place, key)),
         },
-        _ => other_key(arena, place, key, steps),
+        _ => Err(absent_field(arena, place, key)),
+    }
+}
+
+/// The refusal of a key that is no text: the offence of a value that is no key, and else `KeyMissing`.
+fn absent_field(arena: &Arena, place: Place, key: Value) -> Stop
+    requires { Owns (seen arena.now) key }
+    ensures { Refuses result (absent_field place (value_of (seen arena.now) key) (key_offence max_depth (value_of (seen arena.now) key))) }
+{
+    match key_offence(arena, key) {
+        Some(offence) => refusal(arena, offence, place),
+        None => missing(arena, place, key),
     }
 }
 

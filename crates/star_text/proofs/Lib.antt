@@ -3,3 +3,4 @@ pub mod Converting
 pub mod Formatting
 pub mod Paying
 pub mod Reading
+pub mod FirstNamed

@@ -11,9 +11,11 @@ ghost use Rattle.value_spec.specs.Outcomes.{fail_with};
 ghost use Rattle.value_spec.specs.Values as plain;
 ghost use Rattle.ytt_base.specs.declared.fault.FaultKind.TheVariants as kind;
 ghost use Rattle.star_shown.specs.Pushes.{behind};
+ghost use Rattle.star_text.specs.ByName.{HasFirstIfAny};
 ghost use Rattle.star_text.specs.Filling.{GoesOn};
 ghost use Rattle.star_text.specs.Formatting.{HasNoBrace, IsCut, IsPlace, IsWhich, argument_here, brace, filled_here, formatted_here, met_in, unless_twice, value_and_met};
 
+use crate::by_name::ByName;
 use crate::costs::pay_operation;
 use crate::fields::{Which, field_in};
 use crate::percent::{Filled, first_ascii, push_converted};
@@ -101,21 +103,22 @@ fn by_number(
 fn argument_for(
     arena: &Arena,
     place: Place,
-    args: &CallArgs,
+    args: &ByName<'_>,
     met: Met,
     which: Which<'_>,
 ) -> Result<(Value, Met), Stop>
-    requires { OwnsArguments (seen arena.now) args.now }
-    ensures found { (w : fields.Which) (n : ℕ) → IsWhich which.entry w → Meets (value_and_met (seen arena.now)) result (state_in (seen arena.now) n) (argument_here (seen arena.now) place args.now (met_in met) w (state_in (seen arena.now) n)) }
+    requires args { OwnsArguments (seen arena.now) args.now.given.now }
+    requires first { HasFirstIfAny args.now.values args.now.given.now.named }
+    ensures found { (w : fields.Which) (n : ℕ) → IsWhich which.entry w → Meets (value_and_met (seen arena.now)) result (state_in (seen arena.now) n) (argument_here (seen arena.now) place args.now.given.now (met_in met) w (state_in (seen arena.now) n)) }
     ensures owned { IfOk result (λ q. Owns (seen arena.now) q.0) }
 {
-    let values = args.positional.as_slice();
+    let values = args.given.positional.as_slice();
     match (which, met) {
         (Which::Next, Met::Nothing) => by_number(arena, place, values, Some(0), Met::ByTurn(1)),
         (Which::Next, Met::ByTurn(turn)) => by_turn(arena, place, values, turn),
         (Which::Numbered(at), Met::Nothing) => by_number(arena, place, values, at, Met::ByNumber),
         (Which::Numbered(at), Met::ByNumber) => by_number(arena, place, values, at, Met::ByNumber),
-        (Which::Named(name), _) => match named_value(args.named.as_slice(), name) {
+        (Which::Named(name), _) => match args.value(name) {
             None => missing(arena.alloc(), place, name),
             Some(value) => Ok((value, met)),
         },
@@ -142,13 +145,14 @@ fn fill_field(
     arena: &Arena,
     place: Place,
     field: &str,
-    args: &CallArgs,
+    args: &ByName<'_>,
     met: Met,
     made: &mut String,
     steps: &mut u64,
 ) -> Result<Met, Stop>
-    requires { OwnsArguments (seen arena.now) args.now }
-    ensures { Meets (λ m. (string_bytes made.new, met_in m)) result (state_in (seen arena.now) steps.new) (filled_here (seen arena.now) place args.now (string_bytes made.old) (met_in met) (fields.field_in field.now) (state_in (seen arena.now) steps.old)) }
+    requires args { OwnsArguments (seen arena.now) args.now.given.now }
+    requires first { HasFirstIfAny args.now.values args.now.given.now.named }
+    ensures { Meets (λ m. (string_bytes made.new, met_in m)) result (state_in (seen arena.now) steps.new) (filled_here (seen arena.now) place args.now.given.now (string_bytes made.old) (met_in met) (fields.field_in field.now) (state_in (seen arena.now) steps.old)) }
 {
     let (which, conversion) = field_in(field);
     match conversion {
@@ -195,14 +199,15 @@ fn fill_opened<'t>(
     arena: &Arena,
     place: Place,
     text: &'t str,
-    args: &CallArgs,
+    args: &ByName<'_>,
     met: Met,
     made: &mut String,
     steps: &mut u64,
 ) -> Result<(&'t str, Met), Stop>
-    requires args { OwnsArguments (seen arena.now) args.now }
+    requires args { OwnsArguments (seen arena.now) args.now.given.now }
+    requires first { HasFirstIfAny args.now.values args.now.given.now.named }
     requires single { begins 123 text.now ≡ false }
-    ensures goes { GoesOn result (behind (string_bytes made.old) (formatted_here (seen arena.now) place args.now (met_in met) (123 ∷ text.now)) (state_in (seen arena.now) steps.old)) (λ q. behind (string_bytes made.new) (formatted_here (seen arena.now) place args.now (met_in q.1) q.0.now) (state_in (seen arena.now) steps.new)) (state_in (seen arena.now) steps.new) }
+    ensures goes { GoesOn result (behind (string_bytes made.old) (formatted_here (seen arena.now) place args.now.given.now (met_in met) (123 ∷ text.now)) (state_in (seen arena.now) steps.old)) (λ q. behind (string_bytes made.new) (formatted_here (seen arena.now) place args.now.given.now (met_in q.1) q.0.now) (state_in (seen arena.now) steps.new)) (state_in (seen arena.now) steps.new) }
     ensures shorter { IfOk result (λ q. length q.0.now ≤ length text.now) }
 {
     match text.split_once('}') {
@@ -220,13 +225,14 @@ fn fill_brace<'t>(
     place: Place,
     opens: bool,
     text: &'t str,
-    args: &CallArgs,
+    args: &ByName<'_>,
     met: Met,
     made: &mut String,
     steps: &mut u64,
 ) -> Result<(&'t str, Met), Stop>
-    requires { OwnsArguments (seen arena.now) args.now }
-    ensures goes { GoesOn result (behind (string_bytes made.old) (formatted_here (seen arena.now) place args.now (met_in met) (brace opens ∷ text.now)) (state_in (seen arena.now) steps.old)) (λ q. behind (string_bytes made.new) (formatted_here (seen arena.now) place args.now (met_in q.1) q.0.now) (state_in (seen arena.now) steps.new)) (state_in (seen arena.now) steps.new) }
+    requires args { OwnsArguments (seen arena.now) args.now.given.now }
+    requires first { HasFirstIfAny args.now.values args.now.given.now.named }
+    ensures goes { GoesOn result (behind (string_bytes made.old) (formatted_here (seen arena.now) place args.now.given.now (met_in met) (brace opens ∷ text.now)) (state_in (seen arena.now) steps.old)) (λ q. behind (string_bytes made.new) (formatted_here (seen arena.now) place args.now.given.now (met_in q.1) q.0.now) (state_in (seen arena.now) steps.new)) (state_in (seen arena.now) steps.new) }
     ensures shorter { IfOk result (λ q. length q.0.now ≤ length text.now) }
 {
     match behind_brace(opens, text) {
@@ -249,12 +255,13 @@ fn fill(
     arena: &Arena,
     place: Place,
     text: &str,
-    args: &CallArgs,
+    args: &ByName<'_>,
     made: &mut String,
     steps: &mut u64,
 ) -> Filled
-    requires { OwnsArguments (seen arena.now) args.now }
-    ensures { Meets (λ u. string_bytes made.new) result (state_in (seen arena.now) steps.new) (behind (string_bytes made.old) (formatted_here (seen arena.now) place args.now none_met text.now) (state_in (seen arena.now) steps.old)) }
+    requires args { OwnsArguments (seen arena.now) args.now.given.now }
+    requires first { HasFirstIfAny args.now.values args.now.given.now.named }
+    ensures { Meets (λ u. string_bytes made.new) result (state_in (seen arena.now) steps.new) (behind (string_bytes made.old) (formatted_here (seen arena.now) place args.now.given.now none_met text.now) (state_in (seen arena.now) steps.old)) }
 {
     let mut rest = text;
     let mut met = Met::Nothing;
@@ -296,11 +303,13 @@ fn formatted(
     requires { OwnsArguments (seen arena.now) args.now }
     ensures { Meets string_bytes result (state_in (seen arena.now) steps.new) (unless_twice (seen arena.now) place args.now (formatted_here (seen arena.now) place args.now none_met text.now) (state_in (seen arena.now) steps.old)) }
 {
-    if has_twice(args.named.as_slice()) {
+    let twice = has_twice(arena.alloc(), args.named.as_slice())?;
+    if twice {
         return Err(refusal(arena, FaultKind::ArgBind, place));
     }
+    let args = ByName::of(arena.alloc(), args)?;
     let mut made = String::new(arena.alloc());
-    fill(arena, place, text, args, &mut made, steps)?;
+    fill(arena, place, text, &args, &mut made, steps)?;
     Ok(made)
 }
 

@@ -9,6 +9,7 @@
 #![tactic(auto)]
 
 mod answers;
+mod by_name;
 mod costs;
 mod fields;
 mod format;

@@ -12,5 +12,5 @@ pub returns-in-Ok : goal.returns-in-Ok
 returns-in-Ok c =
     let m = c.args.m.now in
     goes _ c.call_with.result c.call_with.new.m
-    (ap (λ r. around_value m (waiting_in m) (then_do r (λ more. arguments_then (setting_of m) (exprs_of m.code.file c.args.rest.now) more (all_calls (setting_of m) c.args.place (value_of (arena_in m) c.args.function))))) (sym (c.in-Ok.ensures.meaning m.session.work.steps)))
+    (ap (λ r. around_value m (waiting_in m) (then_do r (λ more. arguments_then (setting_of m) (exprs_of m.code.file c.args.rest.now) more (all_calls (setting_of m) c.args.place (value_of (arena_in m) c.args.function))))) (sym c.in-Ok.ensures.meaning))
     c.call_with.ensures

@@ -12,5 +12,5 @@ pub returns-in-Ok : goal.returns-in-Ok
 returns-in-Ok c =
     let m = c.args.m.now in
     goes _ c.note_with.result c.note_with.new.m
-    (ap (λ r. around_flow m (waiting_in m) (then_do r (λ more. arguments_then (setting_of m) (exprs_of m.code.file c.args.rest.now) more (λ vs. noting c.args.name.now vs (nodes_in m))))) (sym (c.in-Ok.ensures.meaning m.session.work.steps)))
+    (ap (λ r. around_flow m (waiting_in m) (then_do r (λ more. arguments_then (setting_of m) (exprs_of m.code.file c.args.rest.now) more (λ vs. noting c.args.name.now vs (nodes_in m))))) (sym c.in-Ok.ensures.meaning))
     c.note_with.ensures

@@ -1,5 +1,5 @@
 use Rattle.star_steps.proofs.Names.{◌∙◌}
-use Rattle.star_index.proofs.Names.{None, Some, ap, field_row, fields_in, gives_refused, gives_same, gives_value, missing, other_field, seen, state_in, sym, text_value, value_of}
+use Rattle.star_index.proofs.Names.{None, Some, ap, field_row, fields_in, absent_field, gives_refused, gives_value, key_offence, max_depth, missing, other_field, seen, state_in, sym, text_value, value_of}
 use Rattle.star_values.specs.declared.value.Value.TheVariants as value
 use Rattle.star_index.proofs.keys.field_named.Goals as goal
 
@@ -23,6 +23,6 @@ returns-in-None c =
 pub returns-in_default : goal.returns-in_default
 returns-in_default c =
     let a = seen c.args.arena.now in
-    gives_same _ _ c.other_key.result a a c.other_key.new.steps
+    let k = value_of a c.args.key in
+    gives_refused c.absent_field.result (absent_field c.args.place k (key_offence max_depth k)) a c.args.steps.now _ c.absent_field.ensures
     (other_field c.args.place (fields_in a.held c.args.fields.now) a c.args.key (state_in a c.args.steps.now) c.in_default.not-Text)
-    c.other_key.ensures

@@ -12,5 +12,5 @@ returns-in_ok-append-in-Some-clause-goes c =
       | then-opens w ↦ search rules
       | else-opens w ↦ search rules
     ] in
-    doubled a c.args.place c.args.args.now (string_bytes c.args.made.now) (state_in a c.args.steps.now) (met_in c.args.met) c.args.opens c.args.text.now c.in-Some.more.now (string_bytes c.append.new.text) c.in-Some.ensures
+    doubled a c.args.place c.args.args.now.given.now (string_bytes c.args.made.now) (state_in a c.args.steps.now) (met_in c.args.met) c.args.opens c.args.text.now c.in-Some.more.now (string_bytes c.append.new.text) c.in-Some.ensures
     (c.in_ok-append-in-Some.ensures ∙ ap (λ x. string_bytes c.args.made.now ++ x) text)

@@ -1,7 +1,7 @@
 use Rattle.std.proofs.Common.{◌≡◌, length}
 use Rattle.value_spec.specs.Binding.{has_twice}
 use Rattle.star_values.specs.View.{View, fields_in}
-use Rattle.star_calls.proofs.names.has_twice.Given as goal
+use Rattle.star_calls.proofs.names.few_have_twice.Given as goal
 
 -- what is left decides
 abbrev pub invariant-loop-field : goal.invariant-loop-field
