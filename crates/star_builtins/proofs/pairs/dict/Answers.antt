@@ -22,6 +22,6 @@ returns c =
     let p = c.args.at in
     let vs = values_of a c.args.args.now.positional in
     let fs = fields_in a.held c.args.args.now.named in
-    let bound : pairs_bound (values_from vs) fs ≡ true = sym (c.pairs_bound.ensures a) ∙ c.if-not-pairs_bound.false in
+    let bound : pairs_bound (values_from vs) fs ≡ true = sym (c.in_ok-bound.ensures a) ∙ c.if-not-bound.false in
     let made = c.in_ok-named.ensures in
     given_later c.args.args.now a (seen c.named_pairs.new.arena) n made.grows c.requires made.store (seen c.dict_from.new.arena) c.dict_from.new.steps c.dict_from.result _ (dict_from p) (dict_fits p vs fs (state_in a n) bound) c.dict_from.ensures
