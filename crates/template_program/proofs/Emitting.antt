@@ -53,6 +53,11 @@ pub emits_taken : {file m k : ℕ} {b c : List Stmt} {one : List Instruction →
     (is : List Instruction) → followed file c k (after is) ≡ followed file a n (all is)
 emits_taken {file} {m = m} {b = b} n a all before after first h l is = l.emitted (after is) ∙ ap (λ (f : List Instruction → List Instruction). followed file b m (f is)) (sym first) ∙ h is
 
+-- the last part behind a loop
+pub emits_last : {file n m k : ℕ} {a b c : List Stmt} {f : List Instruction → List Instruction} (all left : List Instruction → List Instruction) → left ≡ f →
+    ((is : List Instruction) → followed file b m (left is) ≡ followed file a n (all is)) → Emits file b c m k f → Emits file a c n k all
+emits_last {n = n} {a = a} all left e h l = record { emitted = emits_taken n a all left (λ is. is) e h l }
+
 -- where nothing is left
 pub emits_whole : {file n m : ℕ} {a b : List Stmt} (all left : List Instruction → List Instruction) → left ≡ (λ is. is) →
     ((is : List Instruction) → followed file b m (left is) ≡ followed file a n (all is)) → Emits file a b n m all

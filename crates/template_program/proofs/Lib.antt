@@ -1,3 +1,4 @@
+pub mod Branches
 pub mod Emitting
 pub mod Finding
 pub mod Items

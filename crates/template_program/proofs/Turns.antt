@@ -28,7 +28,7 @@ first_of_two r a b t e = t ∙ ap (λ x. x || b) (sym t ∙ e)
 pub second_of_two : (r a b s : Bool) → r ≡ false → r ≡ a → s ≡ b → s ≡ (a || b)
 second_of_two r a b s f e k = k ∙ ap (λ x. x || b) (sym f ∙ e)
 
-or_swap : (a b c : Bool) → (a || (b || c)) ≡ (b || (a || c))
+pub or_swap : (a b c : Bool) → (a || (b || c)) ≡ (b || (a || c))
 or_swap true true c = refl
 or_swap true false c = refl
 or_swap false b c = refl

@@ -1,12 +1,12 @@
 // What the items of a collection and of a block are.
-ghost use Rattle.std.specs.Prelude.{◌≡◌, ℕ, option_map};
+ghost use Rattle.std.specs.Prelude.{◌≡◌, ℕ, [], None, option_map};
 ghost use Rattle.star_tree.specs.View.{holds_of as plain_holds, item_kind_of};
 ghost use Rattle.template_tree.specs.View.{branches_of, content_of, in_content, item_of, items_of};
 ghost use Rattle.template_spec.specs.Compiled.{fragment_of, holds_of};
 ghost use Rattle.template_spec.specs.Template.{branches_have_nodes, branches_have_written, has_nodes, has_written, is_node, is_void, is_written};
 
 use star_tree::{Holds, ItemKind};
-use template_tree::{TBranches, TContent, TItem, TItems, TNode};
+use template_tree::{TContent, TElifs, TElse, TItem, TItems, TNode};
 
 /// Whether an item stands among these, outside the blocks of functions.
 #[cycle(nodes)]
@@ -28,20 +28,36 @@ fn is_node(item: &TItem) -> bool
     match item {
         TItem::Node(_) => true,
         TItem::Code(_) => false,
-        TItem::If(_, _, body, more) => has_nodes(body) || branches_have_nodes(more),
+        TItem::If(_, _, body, elifs, last) => {
+            if has_nodes(body) {
+                return true;
+            }
+            elifs_have_nodes(elifs) || else_has_nodes(last)
+        }
         TItem::For(_, _, _, body) => has_nodes(body),
         TItem::Def(_, _, _, _, _) => false,
     }
 }
 
 #[cycle(nodes)]
-fn branches_have_nodes(branches: &TBranches) -> bool
-    ensures { (file : ℕ) → result ≡ branches_have_nodes (branches_of file branches.now) }
+fn elifs_have_nodes(elifs: &TElifs) -> bool
+    ensures { (file : ℕ) → result ≡ branches_have_nodes (branches_of file elifs.now None) }
 {
-    match branches {
-        TBranches::Nothing => false,
-        TBranches::Else(_, body) => has_nodes(body),
-        TBranches::Elif(_, _, body, more) => has_nodes(body) || branches_have_nodes(more.get()),
+    for elif in elifs.as_slice() {
+        if has_nodes(&elif.body) {
+            return true;
+        }
+    }
+    false
+}
+
+#[cycle(nodes)]
+fn else_has_nodes(last: &Option<TElse>) -> bool
+    ensures { (file : ℕ) → result ≡ branches_have_nodes (branches_of file [] last.now) }
+{
+    match last {
+        Some(last) => has_nodes(&last.body),
+        None => false,
     }
 }
 
@@ -65,22 +81,36 @@ fn is_written(item: &TItem) -> bool
     match item {
         TItem::Node(_) => true,
         TItem::Code(_) => false,
-        TItem::If(_, _, body, more) => has_written(body) || branches_have_written(more),
+        TItem::If(_, _, body, elifs, last) => {
+            if has_written(body) {
+                return true;
+            }
+            elifs_have_written(elifs) || else_has_written(last)
+        }
         TItem::For(_, _, _, body) => has_written(body),
         TItem::Def(_, _, _, _, body) => has_written(body),
     }
 }
 
 #[cycle(written)]
-fn branches_have_written(branches: &TBranches) -> bool
-    ensures { (file : ℕ) → result ≡ branches_have_written (branches_of file branches.now) }
+fn elifs_have_written(elifs: &TElifs) -> bool
+    ensures { (file : ℕ) → result ≡ branches_have_written (branches_of file elifs.now None) }
 {
-    match branches {
-        TBranches::Nothing => false,
-        TBranches::Else(_, body) => has_written(body),
-        TBranches::Elif(_, _, body, more) => {
-            has_written(body) || branches_have_written(more.get())
+    for elif in elifs.as_slice() {
+        if has_written(&elif.body) {
+            return true;
         }
+    }
+    false
+}
+
+#[cycle(written)]
+fn else_has_written(last: &Option<TElse>) -> bool
+    ensures { (file : ℕ) → result ≡ branches_have_written (branches_of file [] last.now) }
+{
+    match last {
+        Some(last) => has_written(&last.body),
+        None => false,
     }
 }
 

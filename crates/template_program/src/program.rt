@@ -1,5 +1,5 @@
 // Items as instructions, with the numbers of their functions. `next` is the next number.
-ghost use Rattle.std.specs.Prelude.{◌≡◌, ℕ, IfOk, OnOk};
+ghost use Rattle.std.specs.Prelude.{◌≡◌, ℕ, [], IfOk, OnOk};
 ghost use Rattle.star_tree.specs.Whole.{program_of};
 ghost use Rattle.template_tree.specs.View.{branches_of, content_of, in_content, item_of, items_of, node_of, template_of};
 ghost use Rattle.template_program.specs.Emits.{Emits};
@@ -13,7 +13,7 @@ use sqlite_items::{Boxed, Items};
 use star_number::number_owned;
 use star_tree::code::{Expr, NodeOp, Program, Stmt};
 use std::alloc::Global;
-use template_tree::{TBranches, TContent, TItem, TItems, TNode, Template};
+use template_tree::{TContent, TElif, TElifs, TElse, TItem, TItems, TNode, Template};
 use ytt_base::fault::Place;
 use ytt_base::text::Memory;
 
@@ -61,10 +61,10 @@ fn put_item(
     match item {
         TItem::Node(node) => put_node(alloc, file, node, next, code),
         TItem::Code(stmt) => put_simple(alloc, file, stmt, next, code),
-        TItem::If(place, test, body, more) => {
+        TItem::If(place, test, body, elifs, last) => {
             put_if(alloc, file, place.line, test, next, code)?;
             put_items(alloc, file, body, next, code)?;
-            put_branches(alloc, file, place.line, more, next, code)
+            put_branches(alloc, file, place.line, elifs, last, next, code)
         }
         TItem::For(place, target, members, body) => {
             put_for(alloc, file, place.line, target, members, next, code)?;
@@ -85,23 +85,38 @@ fn put_branches(
     alloc: Global,
     file: u32,
     line: u32,
-    branches: TBranches,
+    mut elifs: TElifs,
+    last: Option<TElse>,
     next: &mut usize,
     code: &mut Items<Stmt>,
 ) -> Result<(), Memory>
-    ensures { OnOk result (Emits file code.old code.new next.old next.new (branches_code (place_at file line) (branches_of file branches))) }
+    ensures { OnOk result (Emits file code.old code.new next.old next.new (branches_code (place_at file line) (branches_of file elifs last))) }
 {
-    match branches {
-        TBranches::Nothing => put(code, Stmt::Close(line)),
-        TBranches::Else(place, body) => {
+    while let Some(elif) = elifs.pop() {
+        let TElif { place, test, body } = elif;
+        put_elif(alloc, file, place.line, test, next, code)?;
+        put_items(alloc, file, body, next, code)?;
+    }
+    put_else(alloc, file, line, last, next, code)
+}
+
+#[cycle(compile)]
+fn put_else(
+    alloc: Global,
+    file: u32,
+    line: u32,
+    last: Option<TElse>,
+    next: &mut usize,
+    code: &mut Items<Stmt>,
+) -> Result<(), Memory>
+    ensures { OnOk result (Emits file code.old code.new next.old next.new (branches_code (place_at file line) (branches_of file [] last))) }
+{
+    match last {
+        None => put(code, Stmt::Close(line)),
+        Some(TElse { place, body }) => {
             put(code, Stmt::Else(place.line))?;
             put_items(alloc, file, body, next, code)?;
             put(code, Stmt::Close(line))
-        }
-        TBranches::Elif(place, test, body, more) => {
-            put_elif(alloc, file, place.line, test, next, code)?;
-            put_items(alloc, file, body, next, code)?;
-            put_branches(alloc, file, line, more.into_inner(), next, code)
         }
     }
 }

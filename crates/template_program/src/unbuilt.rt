@@ -1,5 +1,5 @@
 // Where a template isn't built yet.
-ghost use Rattle.std.specs.Prelude.{◌≡◌, [], ◌∷◌, ◌++◌};
+ghost use Rattle.std.specs.Prelude.{◌≡◌, [], ◌∷◌, ◌++◌, None};
 ghost use Rattle.star_tree.specs.Whole.{instruction_of};
 ghost use Rattle.template_tree.specs.View.{branches_of, code_of, content_of, in_content, item_of, items_of, node_of, notes_of, template_of};
 ghost use Rattle.template_program.specs.Places.{earlier};
@@ -9,7 +9,7 @@ ghost use Rattle.ytt_base.specs.Outcomes.{place_at};
 
 use crate::holds::has_nodes;
 use star_tree::code::Stmt;
-use template_tree::{TBranches, TContent, TItem, TItems, TNode, TNotes, Template};
+use template_tree::{TContent, TElif, TElifs, TElse, TItem, TItems, TNode, TNotes, Template};
 use ytt_base::fault::Place;
 
 /// Sees a place: it is the first from here on where it stands on a line before the first so far.
@@ -78,9 +78,10 @@ fn see_item(file: u32, item: &TItem, first: &mut Option<Place>)
     match item {
         TItem::Node(node) => see_node(file, node, first),
         TItem::Code(stmt) => see_statement(file, stmt, first),
-        TItem::If(_, _, body, more) => {
+        TItem::If(_, _, body, elifs, last) => {
             see_items(file, body, first);
-            see_branches(file, more, first);
+            see_elifs(file, elifs, first);
+            see_else(file, last, first);
         }
         TItem::For(_, _, _, body) => see_items(file, body, first),
         TItem::Def(place, _, _, _, body) => {
@@ -91,16 +92,31 @@ fn see_item(file: u32, item: &TItem, first: &mut Option<Place>)
 }
 
 #[cycle(unbuilt)]
-fn see_branches(file: u32, branches: &TBranches, first: &mut Option<Place>)
-    ensures { first.new ≡ earlier first.old (unbuilt_branches (branches_of file branches.now)) }
+fn see_elifs(file: u32, elifs: &TElifs, first: &mut Option<Place>)
+    ensures { first.new ≡ earlier first.old (unbuilt_branches (branches_of file elifs.now None)) }
 {
-    match branches {
-        TBranches::Nothing => {}
-        TBranches::Else(_, body) => see_items(file, body, first),
-        TBranches::Elif(_, _, body, more) => {
-            see_items(file, body, first);
-            see_branches(file, more.get(), first);
-        }
+    let elifs = elifs.as_slice();
+    let mut left = elifs.len();
+    while left > 0 {
+        left -= 1;
+        see_elif(file, &elifs[left], first);
+    }
+}
+
+#[cycle(unbuilt)]
+fn see_elif(file: u32, elif: &TElif, first: &mut Option<Place>)
+    ensures { first.new ≡ earlier first.old (unbuilt_items (items_of file elif.now.body)) }
+{
+    see_items(file, &elif.body, first);
+}
+
+#[cycle(unbuilt)]
+fn see_else(file: u32, last: &Option<TElse>, first: &mut Option<Place>)
+    ensures { first.new ≡ earlier first.old (unbuilt_branches (branches_of file [] last.now)) }
+{
+    match last {
+        Some(last) => see_items(file, &last.body, first),
+        None => {}
     }
 }
 

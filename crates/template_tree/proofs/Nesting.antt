@@ -1,5 +1,6 @@
 -- What parts of a collection become, one after another.
-use Rattle.std.proofs.Common.{◌≡◌, ℕ, true, false, List, [], ◌∷◌, ◌++◌, reverse, map as each, Option, Some, None, Result, Ok, Err, OnOk, Vec, Global, refl, ap, sym, ◌∙◌, append_assoc, rules}
+use Rattle.std.proofs.Common.{◌≡◌, ℕ, Bool, true, false, List, [], ◌∷◌, ◌++◌, reverse, map as each, Option, Some, None, Result, Ok, Err, OnOk, Vec, Global, refl, ap, sym, ◌∙◌, append_assoc, rules}
+use Rattle.std.specs.Prelude.{◌↔◌, IsTrue, is_some, not, option_map}
 use Rattle.std.proofs.lemmas.List.{map-append, reverse-append, reverse-reverse}
 use Rattle.ytt_base.specs.declared.fault.Place.{Place}
 use Rattle.ytt_base.specs.Outcomes.{place_at}
@@ -19,18 +20,18 @@ use Rattle.notes_read.specs.declared.comment.Comment.{Comment}
 use Rattle.notes_read.specs.View.{said_of}
 use Rattle.template_spec.specs.Nesting as nesting
 use Rattle.template_spec.specs.Nesting.{broken, at_top, inside, a_node, a_mark, nest, put, put_statements}
-use Rattle.template_spec.specs.Template.{Item, Items, Branches, an_item, code, no_items, no_branch, else_branch, elif_branch}
+use Rattle.template_spec.specs.Template.{Item, Items, Branches, code, no_items, no_branch, else_branch, elif_branch}
 use Rattle.template_tree.specs.declared.nest.Nested as held
 use Rattle.template_tree.specs.declared.nest.Nested.{Nested, the_lemmas}
 use Rattle.template_tree.specs.declared.nest.Part.{Part}
-use Rattle.template_tree.specs.declared.tree.TBranches.{TBranches}
-use Rattle.template_tree.specs.declared.tree.TBranches as branches
+use Rattle.template_tree.specs.declared.tree.TElif.{TElif}
+use Rattle.template_tree.specs.declared.tree.TElse.{TElse}
 use Rattle.ytt_base.specs.declared.text.Memory.{Memory}
 use Rattle.template_tree.specs.declared.tree.TItem.{TItem}
 use Rattle.template_tree.specs.declared.tree.TItem as item
 use Rattle.template_tree.specs.Nests.{is_no_branch, is_statement, nest_step, nested_of, part_of, parts_of}
-use Rattle.template_tree.specs.View.{branches_of, code_of, item_of, items_of}
-use Rattle.template_tree.proofs.Views.{item_of-Node, item_of-Code, item_of-If, item_of-For, item_of-Def, branches_of-Nothing, branches_of-Else, branches_of-Elif}
+use Rattle.template_tree.specs.View.{Onward, branches_of, code_of, elif_of, else_of, in_turn, item_of, items_of, or_nothing}
+use Rattle.template_tree.proofs.Views.{item_of-Node, item_of-Code, item_of-If, item_of-For, item_of-Def, branches_of-last, elif_of-elif, else_of-else}
 
 pub nested_of-Broken : (file : ℕ) → nested_of file held.Broken ≡ broken
 nested_of-Broken file = search (rules, the_lemmas)
@@ -38,10 +39,10 @@ nested_of-Broken file = search (rules, the_lemmas)
 pub nested_of-AtTop : (file : ℕ) (is : Vec TItem Global) → nested_of file (held.AtTop is) ≡ at_top (items_of file is.items)
 nested_of-AtTop file is = search (rules, the_lemmas)
 
-pub nested_of-Inside : (file : ℕ) (is : Vec TItem Global) (more : TBranches) (outer : Nested) → nested_of file (held.Inside is more outer) ≡ inside (items_of file is.items) (branches_of file more) (nested_of file outer)
-nested_of-Inside file is more outer = search (rules, the_lemmas)
+pub nested_of-Inside : (file : ℕ) (is : Vec TItem Global) (elifs : List TElif) (last : Option TElse) (outer : Nested) → nested_of file (held.Inside is elifs last outer) ≡ inside (items_of file is.items) (branches_of file elifs last) (nested_of file outer)
+nested_of-Inside file is elifs last outer = search (rules, the_lemmas)
 
-pub ruleset nests = (nested_of-Broken, nested_of-AtTop, nested_of-Inside, item_of-Code, item_of-If, item_of-For, item_of-Def, branches_of-Nothing, branches_of-Else, branches_of-Elif)
+pub ruleset nests = (nested_of-Broken, nested_of-AtTop, nested_of-Inside, item_of-Code, item_of-If, item_of-For, item_of-Def)
 
 -- ---- statements
 
@@ -123,6 +124,38 @@ done_same (Err m) new a b h e = tt
 pub statement_same : (file : ℕ) (s : Stmt) (n : nesting.Nested) → true ≡ is_statement (instruction_of file s) → put (item_of file (item.Code s)) n ≡ put_statements (instruction_of file s ∷ []) n
 statement_same file s n e = ap (λ i. put i n) (item_of-Code file s) ∙ sym (one_statement file (instruction_of file s) n (sym e))
 
+-- where something follows, whatever branches stand before it
+still_some : (file : ℕ) (bs : List TElif) (more : Branches) → is_no_branch more ≡ false → is_no_branch (in_turn (each (elif_of file) bs) more) ≡ false
+still_some file [] more e = e
+still_some file (b ∷ bs) more e = still_some file bs (elif_of file b more) (ap (λ (f : Onward). is_no_branch (f more)) (elif_of-elif file b))
+
+never : (b : Bool) (bs : List TElif) → true ≡ b → b ≡ false → bs ≡ []
+never true bs e h = cc
+never false bs e h = cc
+
+some_elif : (file : ℕ) (bs : List TElif) (more : Branches) → true ≡ is_no_branch (in_turn (each (elif_of file) bs) more) → bs ≡ []
+some_elif file [] more e = refl
+some_elif file (b ∷ bs) more e = never _ (b ∷ bs) e (still_some file bs (elif_of file b more) (ap (λ (f : Onward). is_no_branch (f more)) (elif_of-elif file b)))
+
+clash : (r b : Bool) → r ≡ true → r ≡ false → b ≡ false
+clash true b h e = cc
+clash false b h e = cc
+
+-- where some branch has a test
+pub elif_is : (file : ℕ) (bs : List TElif) (last : Option TElse) (r : Bool) → (IsTrue r ↔ (bs ≡ [])) → r ≡ false → false ≡ is_no_branch (branches_of file bs last)
+elif_is file [] last r h e = sym (clash r _ (h.1 refl) e)
+elif_is file (b ∷ bs) last r h e = sym (still_some file bs (elif_of file b (or_nothing (option_map (else_of file) last))) (ap (λ (f : Onward). is_no_branch (f (or_nothing (option_map (else_of file) last)))) (elif_of-elif file b)))
+
+else_is : (file : ℕ) (o : Option TElse) (b : Bool) → is_some o ≡ not b → b ≡ is_no_branch (or_nothing (option_map (else_of file) o))
+else_is file None true e = refl
+else_is file None false e = cc
+else_is file (Some x) true e = cc
+else_is file (Some x) false e = sym (ap is_no_branch (else_of-else file x))
+
+-- where no branch has a test
+pub last_is : (file : ℕ) (bs : List TElif) (last : Option TElse) (r b : Bool) → (IsTrue r ↔ (bs ≡ [])) → r ≡ true → is_some last ≡ not b → b ≡ is_no_branch (branches_of file bs last)
+last_is file bs last r b h t e = else_is file last b e ∙ ap (λ (cs : List TElif). is_no_branch (branches_of file cs last)) (sym (h.0 t))
+
 branch_is : (m : Branches) → true ≡ is_no_branch m → m ≡ no_branch
 branch_is no_branch e = refl
 branch_is (else_branch p is) e = cc
@@ -138,58 +171,69 @@ def_none kind p x ps is no_branch e = cc
 def_none kind p x ps is (else_branch q js) e = refl
 def_none kind p x ps is (elif_branch q z js m) e = refl
 
-pub for_given : (file : ℕ) (kind : ItemKind) (p : Place) (h : Header) (x y : held_expr.Expr) (is : List TItem) (more : TBranches) → h ≡ header.For x y → true ≡ is_no_branch (branches_of file more)
-    → Some (item_of file (item.For p x y is)) ≡ nesting.block_of kind (place_at file p.line) (header_of file h) (items_of file is) (branches_of file more)
-for_given file kind p h x y is more e b =
-    ap (λ i. Some i) (item_of-For file p x y is) ∙ ap (λ (m : Branches). nesting.block_of kind (place_at file p.line) (header_of file (header.For x y)) (items_of file is) m) (sym (branch_is (branches_of file more) b))
-    ∙ ap (λ (g : Header). nesting.block_of kind (place_at file p.line) (header_of file g) (items_of file is) (branches_of file more)) (sym e)
+pub for_given : (file : ℕ) (kind : ItemKind) (p : Place) (h : Header) (x y : held_expr.Expr) (is : List TItem) (elifs : List TElif) (last : Option TElse) → h ≡ header.For x y → true ≡ is_no_branch (branches_of file elifs last)
+    → Some (item_of file (item.For p x y is)) ≡ nesting.block_of kind (place_at file p.line) (header_of file h) (items_of file is) (branches_of file elifs last)
+for_given file kind p h x y is elifs last e b =
+    ap (λ i. Some i) (item_of-For file p x y is) ∙ ap (λ (m : Branches). nesting.block_of kind (place_at file p.line) (header_of file (header.For x y)) (items_of file is) m) (sym (branch_is (branches_of file elifs last) b))
+    ∙ ap (λ (g : Header). nesting.block_of kind (place_at file p.line) (header_of file g) (items_of file is) (branches_of file elifs last)) (sym e)
 
-pub for_not_given : (file : ℕ) (kind : ItemKind) (p : Place) (h : Header) (x y : held_expr.Expr) (is : List TItem) (more : TBranches) → h ≡ header.For x y → false ≡ is_no_branch (branches_of file more)
-    → None ≡ nesting.block_of kind (place_at file p.line) (header_of file h) (items_of file is) (branches_of file more)
-for_not_given file kind p h x y is more e b =
-    for_none kind (place_at file p.line) (expr_of file x) (expr_of file y) (items_of file is) (branches_of file more) b
-    ∙ ap (λ (g : Header). nesting.block_of kind (place_at file p.line) (header_of file g) (items_of file is) (branches_of file more)) (sym e)
+pub for_not_given : (file : ℕ) (kind : ItemKind) (p : Place) (h : Header) (x y : held_expr.Expr) (is : List TItem) (elifs : List TElif) (last : Option TElse) → h ≡ header.For x y → false ≡ is_no_branch (branches_of file elifs last)
+    → None ≡ nesting.block_of kind (place_at file p.line) (header_of file h) (items_of file is) (branches_of file elifs last)
+for_not_given file kind p h x y is elifs last e b =
+    for_none kind (place_at file p.line) (expr_of file x) (expr_of file y) (items_of file is) (branches_of file elifs last) b
+    ∙ ap (λ (g : Header). nesting.block_of kind (place_at file p.line) (header_of file g) (items_of file is) (branches_of file elifs last)) (sym e)
 
-pub def_given : (file : ℕ) (kind : held_kind.ItemKind) (p : Place) (h : Header) (x : Name) (ps : List Param) (is : List TItem) (more : TBranches) → h ≡ header.Def x ps → true ≡ is_no_branch (branches_of file more)
-    → Some (item_of file (item.Def p x ps kind is)) ≡ nesting.block_of (item_kind_of kind) (place_at file p.line) (header_of file h) (items_of file is) (branches_of file more)
-def_given file kind p h x ps is more e b =
-    ap (λ i. Some i) (item_of-Def file p x ps kind is) ∙ ap (λ (m : Branches). nesting.block_of (item_kind_of kind) (place_at file p.line) (header_of file (header.Def x ps)) (items_of file is) m) (sym (branch_is (branches_of file more) b))
-    ∙ ap (λ (g : Header). nesting.block_of (item_kind_of kind) (place_at file p.line) (header_of file g) (items_of file is) (branches_of file more)) (sym e)
+pub def_given : (file : ℕ) (kind : held_kind.ItemKind) (p : Place) (h : Header) (x : Name) (ps : List Param) (is : List TItem) (elifs : List TElif) (last : Option TElse) → h ≡ header.Def x ps → true ≡ is_no_branch (branches_of file elifs last)
+    → Some (item_of file (item.Def p x ps kind is)) ≡ nesting.block_of (item_kind_of kind) (place_at file p.line) (header_of file h) (items_of file is) (branches_of file elifs last)
+def_given file kind p h x ps is elifs last e b =
+    ap (λ i. Some i) (item_of-Def file p x ps kind is) ∙ ap (λ (m : Branches). nesting.block_of (item_kind_of kind) (place_at file p.line) (header_of file (header.Def x ps)) (items_of file is) m) (sym (branch_is (branches_of file elifs last) b))
+    ∙ ap (λ (g : Header). nesting.block_of (item_kind_of kind) (place_at file p.line) (header_of file g) (items_of file is) (branches_of file elifs last)) (sym e)
 
-pub def_not_given : (file : ℕ) (kind : ItemKind) (p : Place) (h : Header) (x : Name) (ps : List Param) (is : List TItem) (more : TBranches) → h ≡ header.Def x ps → false ≡ is_no_branch (branches_of file more)
-    → None ≡ nesting.block_of kind (place_at file p.line) (header_of file h) (items_of file is) (branches_of file more)
-def_not_given file kind p h x ps is more e b =
-    def_none kind (place_at file p.line) x (parameters_of file ps) (items_of file is) (branches_of file more) b
-    ∙ ap (λ (g : Header). nesting.block_of kind (place_at file p.line) (header_of file g) (items_of file is) (branches_of file more)) (sym e)
+pub def_not_given : (file : ℕ) (kind : ItemKind) (p : Place) (h : Header) (x : Name) (ps : List Param) (is : List TItem) (elifs : List TElif) (last : Option TElse) → h ≡ header.Def x ps → false ≡ is_no_branch (branches_of file elifs last)
+    → None ≡ nesting.block_of kind (place_at file p.line) (header_of file h) (items_of file is) (branches_of file elifs last)
+def_not_given file kind p h x ps is elifs last e b =
+    def_none kind (place_at file p.line) x (parameters_of file ps) (items_of file is) (branches_of file elifs last) b
+    ∙ ap (λ (g : Header). nesting.block_of kind (place_at file p.line) (header_of file g) (items_of file is) (branches_of file elifs last)) (sym e)
 
 no_else : (p : Place) (is : Items) (m : Branches) (o : nesting.Nested) → false ≡ is_no_branch m → broken ≡ nesting.last_branch p (inside is m o)
 no_else p is no_branch o e = cc
 no_else p is (else_branch q js) o e = refl
 no_else p is (elif_branch q z js m) o e = refl
 
-pub else_given : (file : ℕ) (p : Place) (n : Nested) (is new : Vec TItem Global) (body : List TItem) (more : TBranches) (outer : Nested) → n ≡ held.Inside is more outer → true ≡ is_no_branch (branches_of file more) → body ≡ is.items → new.items ≡ []
-    → nested_of file (held.Inside new (branches.Else p body) outer) ≡ nesting.last_branch (place_at file p.line) (nested_of file n)
-else_given file p n is new body more outer e b t f =
-    nested_of-Inside file new (branches.Else p body) outer
-    ∙ ap (λ (js : List TItem). inside (items_of file js) (branches_of file (branches.Else p body)) (nested_of file outer)) f
-    ∙ ap (λ (m : Branches). inside no_items m (nested_of file outer)) (branches_of-Else file p body ∙ ap (λ (js : List TItem). else_branch (place_at file p.line) (items_of file js)) t)
-    ∙ ap (λ (m : Branches). nesting.last_branch (place_at file p.line) (inside (items_of file is.items) m (nested_of file outer))) (sym (branch_is (branches_of file more) b))
-    ∙ ap (nesting.last_branch (place_at file p.line)) (sym (nested_of-Inside file is more outer) ∙ ap (nested_of file) (sym e))
+pub else_given : (file : ℕ) (n : Nested) (is new : Vec TItem Global) (elifs elifs2 : List TElif) (last last2 : Option TElse) (b : TElse) (outer outer2 : Nested) → n ≡ held.Inside is elifs last outer
+    → elifs2 ≡ elifs → outer2 ≡ outer → true ≡ is_no_branch (branches_of file elifs last) → last2 ≡ Some b → b.body ≡ is.items → new.items ≡ []
+    → nested_of file (held.Inside new elifs2 last2 outer2) ≡ nesting.last_branch (place_at file b.place.line) (nested_of file n)
+else_given file n is new elifs elifs2 last last2 b outer outer2 e k o h l t f =
+    (λ i. nested_of file (held.Inside new (k i) (l i) (o i)))
+    ∙ nested_of-Inside file new elifs (Some b) outer
+    ∙ ap (λ (js : List TItem). inside (items_of file js) (branches_of file elifs (Some b)) (nested_of file outer)) f
+    ∙ ap (λ (bs : List TElif). inside no_items (branches_of file bs (Some b)) (nested_of file outer)) (some_elif file elifs _ h)
+    ∙ ap (λ (m : Branches). inside no_items m (nested_of file outer)) (else_of-else file b ∙ ap (λ (js : List TItem). else_branch (place_at file b.place.line) (items_of file js)) t)
+    ∙ ap (λ (m : Branches). nesting.last_branch (place_at file b.place.line) (inside (items_of file is.items) m (nested_of file outer))) (sym (branch_is (branches_of file elifs last) h))
+    ∙ ap (nesting.last_branch (place_at file b.place.line)) (sym (nested_of-Inside file is elifs last outer) ∙ ap (nested_of file) (sym e))
 
-pub inside_as : (file : ℕ) (is : Vec TItem Global) (more same : TBranches) (outer other : Nested) → more ≡ same → outer ≡ other → nested_of file (held.Inside is more outer) ≡ nested_of file (held.Inside is same other)
-inside_as file is more same outer other e h = λ i. nested_of file (held.Inside is (e i) (h i))
+pub elif_given : (file : ℕ) (n : Nested) (is new : Vec TItem Global) (elifs elifs2 : List TElif) (last last2 : Option TElse) (b : TElif) (outer outer2 : Nested) → n ≡ held.Inside is elifs last outer
+    → elifs2 ≡ elifs ++ b ∷ [] → last2 ≡ last → outer2 ≡ outer → b.body ≡ is.items → new.items ≡ []
+    → nested_of file (held.Inside new elifs2 last2 outer2) ≡ nesting.next_branch (place_at file b.place.line) (expr_of file b.test) (nested_of file n)
+elif_given file n is new elifs elifs2 last last2 b outer outer2 e k l o t f =
+    (λ i. nested_of file (held.Inside new (k i) (l i) (o i)))
+    ∙ nested_of-Inside file new (elifs ++ b ∷ []) last outer
+    ∙ ap (λ (js : List TItem). inside (items_of file js) (branches_of file (elifs ++ b ∷ []) last) (nested_of file outer)) f
+    ∙ ap (λ (m : Branches). inside no_items m (nested_of file outer))
+    (branches_of-last file elifs b last ∙ ap (λ (js : List TItem). elif_branch (place_at file b.place.line) (expr_of file b.test) (items_of file js) (branches_of file elifs last)) t)
+    ∙ ap (nesting.next_branch (place_at file b.place.line) (expr_of file b.test)) (sym (nested_of-Inside file is elifs last outer) ∙ ap (nested_of file) (sym e))
 
-pub else_not_given : (file : ℕ) (p : Place) (n : Nested) (is : Vec TItem Global) (more : TBranches) (outer : Nested) → n ≡ held.Inside is more outer → false ≡ is_no_branch (branches_of file more)
+pub else_not_given : (file : ℕ) (p : Place) (n : Nested) (is : Vec TItem Global) (elifs : List TElif) (last : Option TElse) (outer : Nested) → n ≡ held.Inside is elifs last outer → false ≡ is_no_branch (branches_of file elifs last)
     → nested_of file held.Broken ≡ nesting.last_branch (place_at file p.line) (nested_of file n)
-else_not_given file p n is more outer e b =
-    nested_of-Broken file ∙ no_else (place_at file p.line) (items_of file is.items) (branches_of file more) (nested_of file outer) b
-    ∙ ap (nesting.last_branch (place_at file p.line)) (sym (nested_of-Inside file is more outer) ∙ ap (nested_of file) (sym e))
+else_not_given file p n is elifs last outer e b =
+    nested_of-Broken file ∙ no_else (place_at file p.line) (items_of file is.items) (branches_of file elifs last) (nested_of file outer) b
+    ∙ ap (nesting.last_branch (place_at file p.line)) (sym (nested_of-Inside file is elifs last outer) ∙ ap (nested_of file) (sym e))
 
-pub block_opened : (file : ℕ) (kind : ItemKind) (p : Place) (h : plain_header.Header) (n : Nested) (items : Vec TItem Global) (body : List TItem) (more : TBranches) (outer inner : Nested) (b : Option Item) (front : nesting.Nested) → n ≡ held.Inside items more outer
-    → body ≡ items.items → inner ≡ outer → b ≡ nesting.block_of kind p h (items_of file body) (branches_of file more) → front ≡ nesting.put_block b (nested_of file inner) → front ≡ nesting.open_block kind p h (nested_of file n)
-block_opened file kind p h n items body more outer inner b front e t o k f =
-    f ∙ (λ j. nesting.put_block (k j) (nested_of file (o j))) ∙ ap (λ (is : List TItem). nesting.put_block (nesting.block_of kind p h (items_of file is) (branches_of file more)) (nested_of file outer)) t
-    ∙ ap (nesting.open_block kind p h) (sym (nested_of-Inside file items more outer) ∙ ap (nested_of file) (sym e))
+pub block_opened : (file : ℕ) (kind : ItemKind) (p : Place) (h : plain_header.Header) (n : Nested) (items : Vec TItem Global) (body : List TItem) (elifs : List TElif) (last : Option TElse) (outer inner : Nested) (b : Option Item) (front : nesting.Nested) → n ≡ held.Inside items elifs last outer
+    → body ≡ items.items → inner ≡ outer → b ≡ nesting.block_of kind p h (items_of file body) (branches_of file elifs last) → front ≡ nesting.put_block b (nested_of file inner) → front ≡ nesting.open_block kind p h (nested_of file n)
+block_opened file kind p h n items body elifs last outer inner b front e t o k f =
+    f ∙ (λ j. nesting.put_block (k j) (nested_of file (o j))) ∙ ap (λ (is : List TItem). nesting.put_block (nesting.block_of kind p h (items_of file is) (branches_of file elifs last)) (nested_of file outer)) t
+    ∙ ap (nesting.open_block kind p h) (sym (nested_of-Inside file items elifs last outer) ∙ ap (nested_of file) (sym e))
 
 pub statements_on : (file : ℕ) (left left2 : List Stmt) (s : Stmt) (front front2 b : nesting.Nested) → left ≡ left2 ++ s ∷ [] → front2 ≡ put_statements (instruction_of file s ∷ []) front
     → put_statements (instructions_of file left) front ≡ b → put_statements (instructions_of file left2) front2 ≡ b

@@ -7,7 +7,7 @@ use Rattle.code_spec.specs.Program.{ItemKind, Instruction, statement}
 use Rattle.notes_read.specs.View.{said_of}
 use Rattle.template_spec.specs.Nesting as nesting
 use Rattle.template_spec.specs.Nesting.{broken, at_top, inside, a_node, a_mark, nest_said, put}
-use Rattle.template_spec.specs.Template.{Items, Branches, an_item, no_branch, no_items}
+use Rattle.template_spec.specs.Template.{Branches, an_item, no_branch, no_items}
 use Rattle.template_tree.specs.declared.nest.Nested.{Nested, fold-Nested}
 use Rattle.template_tree.specs.declared.nest.Nested.TheOpen.{Nested-F}
 use Rattle.template_tree.specs.declared.nest.Part.{Part}
@@ -26,7 +26,7 @@ parts_of file ps = each (part_of file) (reverse ps)
 abbrev pub nested_step : (file : ℕ) → Nested-F nesting.Nested → nesting.Nested
 nested_step file Nested-F.Broken = broken
 nested_step file (Nested-F.AtTop is) = at_top (items_of file is.items)
-nested_step file (Nested-F.Inside is more outer) = inside (items_of file is.items) (branches_of file more) outer
+nested_step file (Nested-F.Inside is elifs last outer) = inside (items_of file is.items) (branches_of file elifs last) outer
 
 abbrev pub nested_of : (file : ℕ) → Nested → nesting.Nested
 nested_of file = fold-Nested nesting.Nested (nested_step file)

@@ -13,4 +13,4 @@ mod slots;
 mod tree;
 
 pub use placing::place;
-pub use tree::{TBranches, TContent, TItem, TItems, TNode, TNote, TNotes, Template};
+pub use tree::{TContent, TElif, TElifs, TElse, TItem, TItems, TNode, TNote, TNotes, Template};

@@ -10,7 +10,7 @@ ghost use Rattle.template_tree.specs.View.{branches_of, item_of, items_of};
 ghost use Rattle.template_tree.specs.declared.nest.Nested as Nested;
 ghost use Rattle.ytt_base.specs.Outcomes.{place_at};
 
-use crate::tree::{TBranches, TItem, TItems};
+use crate::tree::{TElif, TElifs, TElse, TItem, TItems};
 use notes_read::Comment;
 use sqlite_items::{Boxed, Items};
 use star_tree::ItemKind;
@@ -34,7 +34,7 @@ pub type Parts = Vec<Part>;
 pub enum Nested {
     Broken,
     AtTop(Vec<TItem>),
-    Inside(Vec<TItem>, TBranches, Boxed<Nested>),
+    Inside(Vec<TItem>, TElifs, Option<TElse>, Boxed<Nested>),
 }
 
 // ---- items
@@ -64,7 +64,7 @@ fn put_item(item: TItem, nested: &mut Nested) -> Result<(), Memory>
             Ok(())
         }
         Nested::AtTop(items) => push_item(items, item),
-        Nested::Inside(items, _, _) => push_item(items, item),
+        Nested::Inside(items, _, _, _) => push_item(items, item),
     }
 }
 
@@ -116,21 +116,19 @@ fn put_statements(stmts: Items<Stmt>, nested: &mut Nested) -> Result<(), Memory>
 // ---- blocks
 
 #[tactic(auto, using(crate::proofs::Nesting::nests))]
-fn is_nothing(more: &TBranches) -> bool
-    ensures { (file : ℕ) → result ≡ is_no_branch (branches_of file more.now) }
+fn is_nothing(elifs: &TElifs, last: &Option<TElse>) -> bool
+    ensures { (file : ℕ) → result ≡ is_no_branch (branches_of file elifs.now last.now) }
 {
-    match more {
-        TBranches::Nothing => true,
-        TBranches::Else(_, _) | TBranches::Elif(_, _, _, _) => false,
-    }
+    elifs.is_empty() && last.is_none()
 }
 
 /// The same of branches that are let fall.
-fn is_no_more(more: TBranches) -> bool
-    ensures { (file : ℕ) → result ≡ is_no_branch (branches_of file more) }
+fn is_no_more(elifs: TElifs, last: Option<TElse>) -> bool
+    ensures { (file : ℕ) → result ≡ is_no_branch (branches_of file elifs last) }
 {
-    let nothing = is_nothing(&more);
-    drop(more);
+    let nothing = is_nothing(&elifs, &last);
+    drop(elifs);
+    drop(last);
     nothing
 }
 
@@ -141,21 +139,22 @@ fn block_of(
     place: Place,
     header: Header,
     items: TItems,
-    more: TBranches,
+    elifs: TElifs,
+    last: Option<TElse>,
 ) -> Option<TItem>
-    ensures { (file : ℕ) → option_map (item_of file) result ≡ nesting.block_of (item_kind_of kind) (place_at file place.line) (header_of file header) (items_of file items) (branches_of file more) }
+    ensures { (file : ℕ) → option_map (item_of file) result ≡ nesting.block_of (item_kind_of kind) (place_at file place.line) (header_of file header) (items_of file items) (branches_of file elifs last) }
 {
     match header {
-        Header::If(test) => Some(TItem::If(place, test, items, more)),
+        Header::If(test) => Some(TItem::If(place, test, items, elifs, last)),
         Header::For(target, members) => {
-            if is_no_more(more) {
+            if is_no_more(elifs, last) {
                 return Some(TItem::For(place, target, members, items));
             }
             drop(items);
             None
         }
         Header::Def(name, params) => {
-            if is_no_more(more) {
+            if is_no_more(elifs, last) {
                 return Some(TItem::Def(place, name, params, kind, items));
             }
             drop(items);
@@ -163,7 +162,8 @@ fn block_of(
         }
         Header::Elif(_) | Header::Else | Header::End => {
             drop(items);
-            drop(more);
+            drop(elifs);
+            drop(last);
             None
         }
     }
@@ -192,10 +192,10 @@ fn open_block(
     ensures { (file : ℕ) → OnOk result (nested_of file nested.new ≡ nesting.open_block (item_kind_of kind) (place_at file place.line) (header_of file header) (nested_of file nested.old)) }
 {
     match std::mem::replace(nested, Nested::Broken) {
-        Nested::Inside(items, more, outer) => {
+        Nested::Inside(items, elifs, last, outer) => {
             drop(std::mem::replace(nested, outer.into_inner()));
             put_block(
-                block_of(kind, place, header, Items::from_vec(items), more),
+                block_of(kind, place, header, Items::from_vec(items), elifs, last),
                 nested,
             )
         }
@@ -219,7 +219,7 @@ fn block_around(
 {
     let mut items: TItems = Items::new(alloc);
     items.push(item)?;
-    Ok(block_of(kind, place, header, items, TBranches::Nothing))
+    Ok(block_of(kind, place, header, items, Items::new(alloc), None))
 }
 
 /// Takes the first of the items that were read.
@@ -228,7 +228,7 @@ fn pop_item(nested: &mut Nested) -> Option<TItem>
 {
     match nested {
         Nested::AtTop(items) => items.pop(),
-        Nested::Inside(items, _, _) => items.pop(),
+        Nested::Inside(items, _, _, _) => items.pop(),
         Nested::Broken => None,
     }
 }
@@ -266,10 +266,9 @@ fn next_branch(
     ensures { (file : ℕ) → OnOk result (nested_of file nested.new ≡ nesting.next_branch (place_at file place.line) (expr_of file test) (nested_of file nested.old)) }
 {
     match nested {
-        Nested::Inside(items, more, _) => {
+        Nested::Inside(items, elifs, _last, _outer) => {
             let body = Items::from_vec(std::mem::replace(items, Vec::new(alloc)));
-            let rest = Boxed::new(alloc, std::mem::replace(more, TBranches::Nothing))?;
-            drop(std::mem::replace(more, TBranches::Elif(place, test, body, rest)));
+            elifs.push(TElif { place, test, body })?;
             Ok(())
         }
         Nested::Broken | Nested::AtTop(_) => {
@@ -284,10 +283,10 @@ fn last_branch(alloc: Global, place: Place, nested: &mut Nested)
     ensures { (file : ℕ) → nested_of file nested.new ≡ nesting.last_branch (place_at file place.line) (nested_of file nested.old) }
 {
     match nested {
-        Nested::Inside(items, more, _outer) => {
-            if is_nothing(more) {
+        Nested::Inside(items, elifs, last, _outer) => {
+            if is_nothing(elifs, last) {
                 let body = Items::from_vec(std::mem::replace(items, Vec::new(alloc)));
-                drop(std::mem::replace(more, TBranches::Else(place, body)));
+                drop(std::mem::replace(last, Some(TElse { place, body })));
                 return;
             }
             break_off(nested);
@@ -303,7 +302,7 @@ fn close_block(alloc: Global, nested: &mut Nested) -> Result<(), Memory>
     let outer = Boxed::new(alloc, std::mem::replace(nested, Nested::Broken))?;
     drop(std::mem::replace(
         nested,
-        Nested::Inside(Vec::new(alloc), TBranches::Nothing, outer),
+        Nested::Inside(Vec::new(alloc), Items::new(alloc), None, outer),
     ));
     Ok(())
 }
@@ -375,7 +374,7 @@ fn whole(alloc: Global, nested: Nested) -> TItems
 {
     match nested {
         Nested::AtTop(items) => Items::from_vec(items),
-        Nested::Broken | Nested::Inside(_, _, _) => Items::new(alloc),
+        Nested::Broken | Nested::Inside(_, _, _, _) => Items::new(alloc),
     }
 }
 

@@ -26,8 +26,8 @@ pub enum TItem {
     Node(TNode),
     /// A simple statement.
     Code(Stmt),
-    /// The place, the test, the first branch, and what follows it.
-    If(Place, Boxed<Expr>, TItems, TBranches),
+    /// The place, the test, the first branch, the further ones with a test, and the one where no test holds.
+    If(Place, Boxed<Expr>, TItems, TElifs, Option<TElse>),
     /// The place, the target and the members, and the body.
     For(Place, Boxed<Expr>, Boxed<Expr>, TItems),
     /// The place, the name and the parameters, the kind of the items of the collection that it stands in, and the body.
@@ -37,14 +37,24 @@ pub enum TItem {
 /// Items, the first one of the text last.
 pub type TItems = Items<TItem>;
 
-/// What follows the first branch of an `if`.
+/// Further branches of an `if` that have a test, the first one of the text last.
+pub type TElifs = Items<TElif>;
+
+/// A further branch with a test.
 #[cycle(template)]
 #[derive(Drop)]
-pub enum TBranches {
-    Nothing,
-    Else(Place, TItems),
-    /// The place, the test, the branch, and what follows it.
-    Elif(Place, Boxed<Expr>, TItems, Boxed<TBranches>),
+pub struct TElif {
+    pub place: Place,
+    pub test: Boxed<Expr>,
+    pub body: TItems,
+}
+
+/// The branch where no test holds.
+#[cycle(template)]
+#[derive(Drop)]
+pub struct TElse {
+    pub place: Place,
+    pub body: TItems,
 }
 
 /// A document, a pair of a map, or an element of a list.

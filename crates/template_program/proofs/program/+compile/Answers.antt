@@ -1,4 +1,4 @@
-use Rattle.std.proofs.Common.{◌∷◌, List, Option, arith, ap, sym, ◌∙◌, refl}
+use Rattle.std.proofs.Common.{[], ◌∷◌, List, Option, arith, ap, sym, ◌∙◌, refl}
 use Rattle.ytt_base.specs.Outcomes.{place_at}
 use Rattle.ytt_base.specs.View.{key_of}
 use Rattle.code_spec.specs.Numbering.{number_expr}
@@ -8,41 +8,54 @@ use Rattle.star_tree.specs.Whole.{expr_of, parameters_of}
 use Rattle.star_tree.specs.declared.code.Expr.{Expr}
 use Rattle.star_number.proofs.Formed.{one_part}
 use Rattle.template_spec.specs.Compiled.{branches_code, content_code, item_code, items_code, key_code, notes_code}
-use Rattle.template_tree.specs.declared.tree.TBranches.{TBranches}
 use Rattle.template_tree.specs.declared.tree.TContent.{TContent}
+use Rattle.template_tree.specs.declared.tree.TElif.{TElif}
+use Rattle.template_tree.specs.declared.tree.TElse.{TElse}
 use Rattle.template_tree.specs.declared.tree.TItem.{TItem}
 use Rattle.template_tree.specs.View.{branches_of, content_of, in_content, in_key, item_of, items_of, notes_of}
-use Rattle.template_tree.proofs.Views.{branches_of-Elif, branches_of-Else, branches_of-Nothing, content_of-List, content_of-Map, content_of-Scalar, item_of-Code, item_of-Def, item_of-For, item_of-If, item_of-Node, items_of-last, node_of-node}
+use Rattle.template_tree.proofs.Views.{branches_of-last, content_of-List, content_of-Map, content_of-Scalar, else_of-else, item_of-Code, item_of-Def, item_of-For, item_of-If, item_of-Node, items_of-last, node_of-node}
 use Rattle.template_program.specs.Emits.{held}
-use Rattle.template_program.proofs.Emitting.{emits_same, emits_taken, emits_then, emits_whole, where_room}
-use Rattle.template_program.proofs.Sizes.{branches_size, content_size, item_size, taken_size}
+use Rattle.template_program.proofs.Emitting.{emits_last, emits_same, emits_taken, emits_then, emits_whole, where_room}
+use Rattle.template_program.proofs.Sizes.{branch_size, branches_size, content_size, item_size, taken_size}
 use Rattle.template_program.proofs.program.+compile.Goals as goal
 
-pub put_branches-returns-in-Nothing : goal.put_branches-returns-in-Nothing
-put_branches-returns-in-Nothing t c =
+pub put_branches-loop-elif-preserved : goal.put_branches-loop-elif-preserved
+put_branches-loop-elif-preserved t c =
     let file = c.args.file in
-    let n = c.args.next.now in
     let end = place_at file c.args.line in
-    where_room c.put.result _ _ (c.put.ensures file n n (close end) refl) (λ h. emits_same h
-    (ap (λ (b : TBranches). branches_code end (branches_of file b)) c.in-Nothing.is ∙ ap (branches_code end) (branches_of-Nothing file)))
+    let last = c.args.last in
+    let now = ap (λ (bs : List TElif). branches_of file bs last) c.in-Some.ensures ∙ branches_of-last file c.pop.new.self c.in-Some.elif last in
+    record {
+      kept = c.loop-elif.invariant.kept;
+      fewer = let h = c.loop-elif.invariant.fewer in let k = ap branches_size now in omega (arith, h, k);
+      emitted = emits_taken c.args.next.now c.args.code.now (branches_code end (branches_of file c.args.elifs last)) (branches_code end (branches_of file c.loop-elif.elifs last)) (branches_code end (branches_of file c.pop.new.self last))
+          (ap (branches_code end) now) c.loop-elif.invariant.emitted (emits_then c.in_ok-put_elif.ensures c.in_ok-put_items.ensures);
+    }
 
-pub put_branches-returns-in_ok-put_items-in-Else : goal.put_branches-returns-in_ok-put_items-in-Else
-put_branches-returns-in_ok-put_items-in-Else t c =
+pub put_branches-returns : goal.put_branches-returns
+put_branches-returns t c =
+    let file = c.args.file in
+    let end = place_at file c.args.line in
+    where_room c.put_else.result _ _ c.put_else.ensures
+    (emits_last (branches_code end (branches_of file c.args.elifs c.args.last)) (branches_code end (branches_of file c.loop-elif.elifs c.args.last))
+    (ap (λ (bs : List TElif). branches_code end (branches_of file bs c.args.last)) c.in_default.ensures.0 ∙ ap (λ (o : Option TElse). branches_code end (branches_of file [] o)) (sym c.loop-elif.invariant.kept))
+    c.loop-elif.invariant.emitted)
+
+pub put_else-returns-in-None : goal.put_else-returns-in-None
+put_else-returns-in-None t c =
+    let n = c.args.next.now in
+    let end = place_at c.args.file c.args.line in
+    where_room c.put.result _ _ (c.put.ensures c.args.file n n (close end) refl) (λ h. emits_same h (ap (λ (o : Option TElse). branches_code end (branches_of c.args.file [] o)) c.in-None.is))
+
+pub put_else-returns-in_ok-put_items-in-Some : goal.put_else-returns-in_ok-put_items-in-Some
+put_else-returns-in_ok-put_items-in-Some t c =
     let file = c.args.file in
     let n = c.args.next.now in
     let k = c.put_items.new.next in
     let end = place_at file c.args.line in
-    where_room c.put-in-Else-2.result _ _ (c.put-in-Else-2.ensures file k k (close end) refl) (λ h. emits_same
-    (emits_then (c.in_ok-put-in-Else.ensures file n n (begin_else (place_at file c.in-Else.place.line)) refl) (emits_then c.in_ok-put_items-in-Else.ensures h))
-    (ap (λ (b : TBranches). branches_code end (branches_of file b)) c.in-Else.is ∙ ap (branches_code end) (branches_of-Else file _ _)))
-
-pub put_branches-returns-in_ok-put_items-in-Elif : goal.put_branches-returns-in_ok-put_items-in-Elif
-put_branches-returns-in_ok-put_items-in-Elif t c =
-    let file = c.args.file in
-    let end = place_at file c.args.line in
-    where_room c.put_branches.result _ _ c.put_branches.ensures (λ h. emits_same
-    (emits_then c.in_ok-put_elif-in-Elif.ensures (emits_then c.in_ok-put_items-in-Elif.ensures (emits_same h (ap (λ (b : TBranches). branches_code end (branches_of file b)) (sym c.into_inner.ensures)))))
-    (ap (λ (b : TBranches). branches_code end (branches_of file b)) c.in-Elif.is ∙ ap (branches_code end) (branches_of-Elif file _ _ _ _)))
+    where_room c.put-in-Some-2.result _ _ (c.put-in-Some-2.ensures file k k (close end) refl) (λ h. emits_same
+    (emits_then (c.in_ok-put-in-Some.ensures file n n (begin_else (place_at file c.in-Some.field-0.place.line)) refl) (emits_then c.in_ok-put_items-in-Some.ensures h))
+    (ap (λ (o : Option TElse). branches_code end (branches_of file [] o)) c.in-Some.is ∙ ap (branches_code end) (else_of-else file _)))
 
 pub put_content-returns-in_ok-numbered-in-Some : goal.put_content-returns-in_ok-numbered-in-Some
 put_content-returns-in_ok-numbered-in-Some t c =
@@ -72,7 +85,7 @@ pub put_item-returns-in_ok-put_items-in-If : goal.put_item-returns-in_ok-put_ite
 put_item-returns-in_ok-put_items-in-If t c =
     where_room c.put_branches.result _ _ c.put_branches.ensures (λ h. emits_same
     (emits_then c.in_ok-put_if-in-If.ensures (emits_then c.in_ok-put_items-in-If.ensures h))
-    (ap (λ (i : TItem). item_code (item_of c.args.file i)) c.in-If.is ∙ ap item_code (item_of-If c.args.file _ _ _ _)))
+    (ap (λ (i : TItem). item_code (item_of c.args.file i)) c.in-If.is ∙ ap item_code (item_of-If c.args.file _ _ _ _ _)))
 
 pub put_item-returns-in_ok-put_items-in-For : goal.put_item-returns-in_ok-put_items-in-For
 put_item-returns-in_ok-put_items-in-For t c =
@@ -116,12 +129,12 @@ put_node-put_content-requires t c =
 
 pub put_item-put_items-requires : goal.put_item-put_items-requires
 put_item-put_items-requires t c =
-    let k = ap (λ (i : TItem). item_size (item_of c.args.file i)) c.in-If.is ∙ ap item_size (item_of-If c.args.file _ _ _ _) in
+    let k = ap (λ (i : TItem). item_size (item_of c.args.file i)) c.in-If.is ∙ ap item_size (item_of-If c.args.file _ _ _ _ _) in
     (omega (arith, k, c.decreases), tt)
 
 pub put_item-put_branches-requires : goal.put_item-put_branches-requires
 put_item-put_branches-requires t c =
-    let k = ap (λ (i : TItem). item_size (item_of c.args.file i)) c.in-If.is ∙ ap item_size (item_of-If c.args.file _ _ _ _) in
+    let k = ap (λ (i : TItem). item_size (item_of c.args.file i)) c.in-If.is ∙ ap item_size (item_of-If c.args.file _ _ _ _ _) in
     (omega (arith, k, c.decreases), tt)
 
 pub put_item-put_items-requires-in-For : goal.put_item-put_items-requires-in-For
@@ -136,19 +149,21 @@ put_item-put_items-requires-in-Def t c =
 
 pub put_branches-put_items-requires : goal.put_branches-put_items-requires
 put_branches-put_items-requires t c =
-    let k = ap (λ (b : TBranches). branches_size (branches_of c.args.file b)) c.in-Else.is ∙ ap branches_size (branches_of-Else c.args.file _ _) in
-    (omega (arith, k, c.decreases), tt)
+    let h = c.loop-elif.invariant.fewer in
+    let k = branch_size c.args.file c.loop-elif.elifs c.pop.new.self c.in-Some.elif c.args.last c.in-Some.ensures in
+    (omega (arith, h, k, c.decreases), tt)
 
-pub put_branches-put_items-requires-in-Elif : goal.put_branches-put_items-requires-in-Elif
-put_branches-put_items-requires-in-Elif t c =
-    let k = ap (λ (b : TBranches). branches_size (branches_of c.args.file b)) c.in-Elif.is ∙ ap branches_size (branches_of-Elif c.args.file _ _ _ _) in
-    (omega (arith, k, c.decreases), tt)
+pub put_branches-put_else-requires : goal.put_branches-put_else-requires
+put_branches-put_else-requires t c =
+    let h = c.loop-elif.invariant.fewer in
+    let k = ap (λ (bs : List TElif). branches_size (branches_of c.args.file bs c.args.last)) c.in_default.ensures.0 in
+    let last = ap (λ (o : Option TElse). branches_size (branches_of c.args.file [] o)) c.loop-elif.invariant.kept in
+    (omega (arith, h, k, last, c.decreases), tt)
 
-pub put_branches-put_branches-requires : goal.put_branches-put_branches-requires
-put_branches-put_branches-requires t c =
-    let k = ap (λ (b : TBranches). branches_size (branches_of c.args.file b)) c.in-Elif.is ∙ ap branches_size (branches_of-Elif c.args.file _ _ _ _) in
-    let left = ap (λ (b : TBranches). branches_size (branches_of c.args.file b)) c.into_inner.ensures in
-    (omega (arith, k, c.decreases, left), tt)
+pub put_else-put_items-requires : goal.put_else-put_items-requires
+put_else-put_items-requires t c =
+    let k = ap (λ (o : Option TElse). branches_size (branches_of c.args.file [] o)) c.in-Some.is ∙ ap branches_size (else_of-else c.args.file _) in
+    (omega (arith, k, c.decreases), tt)
 
 pub put_written-put_items-requires : goal.put_written-put_items-requires
 put_written-put_items-requires t c =

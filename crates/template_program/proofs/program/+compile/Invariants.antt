@@ -1,8 +1,9 @@
-use Rattle.std.proofs.Common.{◌≡◌, ◌+◌, ◌*◌, ◌≤◌, List, length}
+use Rattle.std.proofs.Common.{◌≡◌, ◌+◌, ◌*◌, ◌≤◌, List, [], length}
+use Rattle.ytt_base.specs.Outcomes.{place_at}
 use Rattle.code_spec.specs.Program.{Instruction}
 use Rattle.template_program.specs.Emits.{followed}
 use Rattle.template_program.proofs.Sizes.{branches_size, content_size, item_size, items_size}
-use Rattle.template_spec.specs.Compiled.{items_code}
+use Rattle.template_spec.specs.Compiled.{branches_code, items_code}
 use Rattle.template_tree.specs.View.{branches_of, content_of, in_content, item_of, items_of, node_of}
 use Rattle.template_program.proofs.program.+compile.Given as goal
 
@@ -12,6 +13,17 @@ invariant-put_items-loop-item l = record {
   emitted : (is : List Instruction) → followed l.file l.code l.next (items_code (items_of l.file l.items) is)
       ≡ followed l.file l.initial.code l.initial.next (items_code (items_of l.file l.fn.items) is);
 }
+
+abbrev pub invariant-put_branches-loop-elif : goal.invariant-put_branches-loop-elif
+invariant-put_branches-loop-elif l = record {
+  kept : l.last ≡ l.fn.last;
+  fewer : branches_size (branches_of l.file l.elifs l.fn.last) ≤ branches_size (branches_of l.file l.fn.elifs l.fn.last);
+  emitted : (is : List Instruction) → followed l.file l.code l.next (branches_code (place_at l.file l.line) (branches_of l.file l.elifs l.fn.last) is)
+      ≡ followed l.file l.initial.code l.initial.next (branches_code (place_at l.file l.line) (branches_of l.file l.fn.elifs l.fn.last) is);
+}
+
+abbrev pub decreases-put_branches-loop-elif : goal.decreases-put_branches-loop-elif
+decreases-put_branches-loop-elif l = length l.elifs
 
 abbrev pub decreases-put_items-loop-item : goal.decreases-put_items-loop-item
 decreases-put_items-loop-item l = length l.items
@@ -24,7 +36,10 @@ abbrev pub decreases-put_item : goal.decreases-put_item
 decreases-put_item l = 8 * item_size (item_of l.file l.item) + 6
 
 abbrev pub decreases-put_branches : goal.decreases-put_branches
-decreases-put_branches l = 8 * branches_size (branches_of l.file l.branches) + 7
+decreases-put_branches l = 8 * branches_size (branches_of l.file l.elifs l.last) + 7
+
+abbrev pub decreases-put_else : goal.decreases-put_else
+decreases-put_else l = 8 * branches_size (branches_of l.file [] l.last) + 6
 
 abbrev pub decreases-put_node : goal.decreases-put_node
 decreases-put_node l = 8 * item_size (node_of l.file l.node) + 5

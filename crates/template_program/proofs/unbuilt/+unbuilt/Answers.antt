@@ -1,10 +1,11 @@
-use Rattle.std.proofs.Common.{◌-◌, ◌++◌, take, ap, sym, ◌∙◌, arith}
+use Rattle.std.proofs.Common.{◌-◌, [], ◌++◌, Option, None, take, ap, sym, ◌∙◌, arith}
 use Rattle.template_spec.specs.Unbuilt.{unbuilt_branches, unbuilt_content, unbuilt_item, unbuilt_items, unbuilt_notes}
-use Rattle.template_tree.specs.declared.tree.TBranches.{TBranches}
+use Rattle.template_tree.specs.declared.tree.TElse.{TElse}
 use Rattle.template_tree.specs.declared.tree.TItem.{TItem}
 use Rattle.template_tree.specs.View.{branches_of, content_of, in_content, item_of, items_of, notes_of}
-use Rattle.template_tree.proofs.Views.{branches_of-Elif, item_of-If, node_of-node}
+use Rattle.template_tree.proofs.Views.{else_of-else, item_of-If, node_of-node}
 use Rattle.template_program.specs.Places.{earlier}
+use Rattle.template_program.proofs.Branches.{branches_up_to, unbuilt_both}
 use Rattle.template_program.proofs.Finding.{earlier_after, earlier_before, key_built}
 use Rattle.template_program.proofs.Items.{items_up_to}
 use Rattle.template_program.proofs.unbuilt.+unbuilt.Goals as goal
@@ -22,14 +23,26 @@ see_items-loop-left-preserved t c =
 
 pub see_item-returns-in-If : goal.see_item-returns-in-If
 see_item-returns-in-If t c =
-    earlier_after _ _ _ _ _ c.see_items.ensures c.see_branches.ensures
-    ∙ ap (earlier c.args.first.now) (sym (ap (λ (i : TItem). unbuilt_item (item_of c.args.file i)) c.in-If.is ∙ ap unbuilt_item (item_of-If c.args.file _ _ _ _)))
+    let file = c.args.file in
+    earlier_after _ _ _ _ _ c.see_items.ensures (earlier_after _ _ _ _ _ c.see_elifs.ensures c.see_else.ensures)
+    ∙ ap (earlier c.args.first.now) (ap (λ l. unbuilt_items (items_of file c.in-If.body) ++ l) (sym (unbuilt_both file c.in-If.elifs c.in-If.last))
+    ∙ sym (ap (λ (i : TItem). unbuilt_item (item_of file i)) c.in-If.is ∙ ap unbuilt_item (item_of-If file _ _ _ _ _)))
 
-pub see_branches-returns-in-Elif : goal.see_branches-returns-in-Elif
-see_branches-returns-in-Elif t c =
-    earlier_after _ _ _ _ _ c.see_items-in-Elif.ensures c.see_branches.ensures
-    ∙ ap (earlier c.args.first.now) (ap (λ (b : TBranches). unbuilt_items (items_of c.args.file c.in-Elif.body) ++ unbuilt_branches (branches_of c.args.file b)) c.get.ensures
-    ∙ sym (ap (λ (b : TBranches). unbuilt_branches (branches_of c.args.file b)) c.in-Elif.is ∙ ap unbuilt_branches (branches_of-Elif c.args.file _ _ _ _)))
+pub see_elifs-loop-left-preserved : goal.see_elifs-loop-left-preserved
+see_elifs-loop-left-preserved t c =
+    let file = c.args.file in
+    let elifs = c.as_slice-elifs.result.now in
+    let at = c.loop-left in
+    let front = branches_up_to file elifs (at.left - 1) at.left c.index-elifs-left.result None (omega (arith, c.loop-left-test.true)) (omega (arith, c.loop-left-test.true, at.invariant.within)) c.index-elifs-left.is in
+    record {
+      within = omega (arith, at.invariant.within);
+      same = earlier_before _ at.first _ _ (unbuilt_branches (branches_of file (take (at.left - 1) elifs) None)) _ (ap unbuilt_branches front) at.invariant.same c.see_elif.ensures;
+    }
+
+pub see_else-returns-in-Some : goal.see_else-returns-in-Some
+see_else-returns-in-Some t c =
+    let file = c.args.file in
+    c.see_items.ensures ∙ ap (earlier c.args.first.now) (sym (ap (λ (o : Option TElse). unbuilt_branches (branches_of file [] o)) c.in-Some.is ∙ ap unbuilt_branches (else_of-else file c.in-Some.last)))
 
 pub see_node-returns : goal.see_node-returns
 see_node-returns t c =

@@ -8,4 +8,4 @@ use Rattle.template_tree.proofs.nest.open_block.Goals as goal
 pub returns-in-Inside : goal.returns-in-Inside
 returns-in-Inside c = λ file.
     done_same _ _ _ _ (c.put_block.ensures file)
-    (block_opened file (item_kind_of c.args.kind) (place_at file c.args.place.line) (header_of file c.args.header) c.args.nested.now _ _ _ _ _ _ _ (sym c.replace.ensures.value ∙ c.in-Inside.is) c.from_vec.ensures (c.replace-in-Inside.ensures.after ∙ c.into_inner.ensures) (c.block_of.ensures file) refl)
+    (block_opened file (item_kind_of c.args.kind) (place_at file c.args.place.line) (header_of file c.args.header) c.args.nested.now _ _ _ _ _ _ _ _ (sym c.replace.ensures.value ∙ c.in-Inside.is) c.from_vec.ensures (c.replace-in-Inside.ensures.after ∙ c.into_inner.ensures) (c.block_of.ensures file) refl)
