@@ -1,4 +1,5 @@
 pub mod Frozen
+pub mod Looping
 pub mod Names
 pub mod Pushing
 pub mod Reading

@@ -4,6 +4,7 @@ use Rattle.object_arena.proofs.Names.{ℕ, Bool, List, [], length, get_or, Optio
 use Rattle.value_spec.specs.Values as plain
 use Rattle.star_values.specs.declared.value.Sort.TheVariants as sort
 use Rattle.star_values.specs.declared.value.Value.TheVariants as value
+use Rattle.star_values.specs.declared.lent.Lent.TheVariants as lent
 use Rattle.star_values.specs.declared.object.Contents.TheVariants as contents
 use Rattle.star_values.specs.Objects.{pairs_in as pairs_seen}
 
@@ -42,6 +43,8 @@ tuple_length a r vs k o e =
 pairs_same : (held : List plain.Value) (c : Contents) → pairs_of_contents (contents_in held c) ≡ pairs_seen held (pairs_of c)
 pairs_same held (contents.List vs) = refl
 pairs_same held (contents.Dict m) = refl
+pairs_same held (contents.Lent (lent.List vs) more) = refl
+pairs_same held (contents.Lent (lent.Dict m) more) = refl
 pairs_same held (contents.Box v) = refl
 pairs_same held (contents.Func f) = refl
 

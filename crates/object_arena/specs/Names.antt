@@ -8,9 +8,10 @@ pub use Rattle.value_spec.specs.Values.{of_box, dict_value, fragment_value, func
 pub use Rattle.star_tree.specs.View.{item_kind_of}
 pub use Rattle.star_values.specs.Answers.{Answers, TakesNone}
 pub use Rattle.star_values.specs.Changing.{contents_kind, IsBack, IsOut, MeansSame}
-pub use Rattle.star_values.specs.Objects.{contents_in, held_value, object_in, seen, thing_value, pair_in, env_in, native_by, function_in, pairs_in}
-pub use Rattle.star_values.specs.Owns.{Each, Grows, NumberedAt, OwnsContents, OwnsHeld, SameHeld, held_at, held_sort, object_at, OneKey, Owns, OwnsPair, OwnsAll, OwnsBuilt, OwnsEnv, OwnsFields, OwnsObjectRef, OwnsOption, OwnsFunction, OwnsThing}
+pub use Rattle.star_values.specs.Objects.{contents_in, lent_in, loops_in, held_value, object_in, seen, thing_value, pair_in, env_in, native_by, function_in, pairs_in}
+pub use Rattle.star_values.specs.Owns.{Each, Grows, NumberedAt, OwnsContents, OwnsHeld, OwnsLent, SameHeld, held_at, held_sort, object_at, OneKey, Owns, OwnsPair, OwnsAll, OwnsBuilt, OwnsEnv, OwnsFields, OwnsObjectRef, OwnsOption, OwnsFunction, OwnsThing}
 pub use Rattle.star_values.specs.View.{View, value_of, values_of, built_in, fields_in, option_in, members_in}
+pub use Rattle.star_values.specs.declared.lent.Lent.{Lent}
 pub use Rattle.star_values.specs.declared.value.Ref.{Ref}
 pub use Rattle.star_values.specs.declared.value.Sort.{Sort}
 pub use Rattle.star_values.specs.declared.value.Value.{Value}

@@ -1,5 +1,7 @@
 -- What stands at a place of an arena.
-use Rattle.object_arena.specs.Names.{ℕ, Bool, true, false, List, [], length, Option, Some, None, slice_get, count_of, values_in, of_list, of_dict, of_box, of_function, Sort, Ref, held_at, object_at, View, members_in}
+use Rattle.object_arena.specs.Names.{ℕ, Bool, true, false, List, [], length, Option, Some, None, slice_get, count_of, values_in, of_list, of_dict, of_box, of_function, Sort, Ref, Lent, lent_in, held_at, object_at, View, members_in}
+use Rattle.std.specs.Prelude.{◌≡◌}
+use Rattle.std.specs.Option.{option_map}
 use Rattle.value_spec.specs.Values as plain
 use Rattle.star_values.specs.declared.value.Sort.TheVariants as sort
 
@@ -65,6 +67,10 @@ is_walked (Some o) = elim o.contents [ of_list vs ↦ true | of_dict ps ↦ true
 abbrev pub loops_of : Option plain.Object → ℕ
 loops_of None = 0
 loops_of (Some o) = o.loops
+
+-- what the object at a place holds is lent
+abbrev pub Lends : View → ℕ → Lent → Type 0
+Lends a at l = option_map (λ (o : plain.Object). o.contents) (slice_get a.store at) ≡ Some (lent_in a.held l)
 
 -- the members of a tuple that is held at a place
 abbrev pub tuple_members : Option plain.Value → List plain.Value

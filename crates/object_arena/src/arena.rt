@@ -1,6 +1,6 @@
 // The arena, and the few steps by which all its calls go.
 ghost use Rattle.std.specs.Prelude.{◌≡◌, ◌<◌};
-ghost use Rattle.object_arena.specs.Names.{[], ℕ, length, slice_get, slice_set, IsSome, Some, IfOk, OnErr, OnOk, with_object, contents_kind, contents_in, held_value, object_in, seen, thing_value, Grows, NumberedAt, OwnsContents, OwnsHeld, SameHeld, held_at, held_sort, object_at, View, IsBack, IsOut, MeansSame};
+ghost use Rattle.object_arena.specs.Names.{[], ℕ, length, slice_get, slice_set, IsSome, Some, IfOk, OnErr, OnOk, with_object, contents_kind, contents_in, held_value, loops_in, object_in, seen, thing_value, Grows, NumberedAt, OwnsContents, OwnsHeld, SameHeld, held_at, held_sort, object_at, View, IsBack, IsOut, MeansSame};
 ghost use Rattle.star_values.specs.declared.held.Held.TheVariants as held;
 
 use indexmap::IndexSet;
@@ -101,7 +101,8 @@ impl Arena {
 
     /// Where a new object stands, which is behind the others.
     pub(crate) fn push_object(&mut self, contents: Contents) -> Result<usize, Memory>
-        requires { OwnsContents (seen self.old) contents }
+        requires owns { OwnsContents (seen self.old) contents }
+        requires still { loops_in contents ≡ 0 }
         ensures here { IfOk result (λ i. i ≡ length (seen self.old).store) }
         ensures store { OnOk result ((seen self.new).store ≡ with_object (contents_in (seen self.old).held contents) (seen self.old).store) }
         ensures held { (seen self.new).held ≡ (seen self.old).held }

@@ -6,7 +6,7 @@ ghost use Rattle.star_values.specs.declared.value.Sort.TheVariants as sort;
 use crate::arena::Arena;
 use indexmap::IndexMap;
 use indexmap::map::Slice;
-use star_values::{ArenaStop, Contents, Ref, Value, equal_values_are_one};
+use star_values::{ArenaStop, Ref, Value, equal_values_are_one};
 
 /// The value under a key.
 pub(crate) fn value_under(pairs: &IndexMap<Value, Value>, key: Value) -> Option<Value>
@@ -36,12 +36,9 @@ impl Arena {
     {
         equal_values_are_one();
         self.keys_stand_once(key);
-        match &self.object(dict.at).contents {
-            Contents::Dict(pairs) => match value_under(pairs, key) {
-                None => Err(ArenaStop::KeyMissing),
-                Some(value) => Ok(value),
-            },
-            _ => unreachable!(),
+        match value_under(self.object(dict.at).contents.dict(), key) {
+            None => Err(ArenaStop::KeyMissing),
+            Some(value) => Ok(value),
         }
     }
 
@@ -52,10 +49,7 @@ impl Arena {
         ensures owns { Each (OwnsPair (seen self.now)) result }
         ensures fits { length result < 2 ^ 63 }
     {
-        match &self.object(dict.at).contents {
-            Contents::Dict(pairs) => pairs.as_slice(),
-            _ => unreachable!(),
-        }
+        self.object(dict.at).contents.dict().as_slice()
     }
 
     /// The pair of a dict at a place, in the order in which the keys came. It refuses with `IndexRange` past the last.
@@ -65,12 +59,9 @@ impl Arena {
         ensures owns { IfOk result (OwnsPair (seen self.now)) }
         ensures no_memory { TakesNone result }
     {
-        match &self.object(dict.at).contents {
-            Contents::Dict(pairs) => match pairs.get_index(at as usize) {
-                None => Err(ArenaStop::IndexRange),
-                Some((key, value)) => Ok((*key, *value)),
-            },
-            _ => unreachable!(),
+        match self.object(dict.at).contents.dict().get_index(at as usize) {
+            None => Err(ArenaStop::IndexRange),
+            Some((key, value)) => Ok((*key, *value)),
         }
     }
 

@@ -21,5 +21,6 @@ pub use pairs::Pairs;
 pub use readers::Shape;
 pub use star_values::{
     Answerer, ArenaStop, Boxes, Built, BuiltItem, BuiltNote, BuiltNotes, BuiltValue, CallArgs, Cut,
-    Function, ItemKind, NamedBox, NamedValue, NamedValues, Ref, Reply, Sort, Value, Values, Work,
+    Function, ItemKind, Lent, NamedBox, NamedValue, NamedValues, Ref, Reply, Sort, Value, Values,
+    Work,
 };

@@ -1,10 +1,11 @@
 // Loops that walk objects, and marks.
-ghost use Rattle.std.specs.Prelude.{◌≡◌, ◌<◌, ◌^◌, ◌≤◌};
-ghost use Rattle.object_arena.specs.Names.{IsSome, IsTrue, Some, length, nat_lt, slice_get, as_frozen, begin_loop, change, end_loop, freeze_since, object_at, seen, Grows};
-ghost use Rattle.object_arena.specs.Stands.{is_walked, loops_of};
+ghost use Rattle.std.specs.Prelude.{◌≡◌, ◌<◌, ◌^◌};
+ghost use Rattle.object_arena.specs.Names.{IfOk, IsSome, IsTrue, OnErr, OnOk, Some, length, nat_lt, slice_get, as_frozen, begin_loop, change, end_loop, freeze_since, object_at, seen, Grows, OwnsLent};
+ghost use Rattle.object_arena.specs.Stands.{Lends, is_walked, loops_of};
 
 use crate::arena::Arena;
-use star_values::Ref;
+use star_values::{Lent, Ref};
+use ytt_base::text::Memory;
 
 /// How far an arena had grown.
 #[derive(Clone, Copy)]
@@ -51,31 +52,37 @@ impl Arena {
         requires { IsSome (object_at (seen self.now) r.at) }
         ensures { result ≡ nat_lt (loops_of (slice_get (seen self.now).store r.at)) (2 ^ 63) }
     {
-        self.object(r.at).loops < 1 << 63
+        self.object(r.at).contents.loops() < 1 << 63
     }
 
-    /// One more loop walks a list or a dict.
-    pub fn begin_loop(&mut self, r: Ref)
+    /// One more loop walks a list or a dict, and goes over what is given. Where memory is wanting no member is changed.
+    pub fn begin_loop(&mut self, r: Ref) -> Result<Lent, Memory>
         requires kind { IsTrue (is_walked (slice_get (seen self.old).store r.at)) }
         requires room { loops_of (slice_get (seen self.old).store r.at) < 2 ^ 63 }
-        ensures store { (seen self.new).store ≡ begin_loop (Some r.at) (seen self.old).store }
+        ensures store { OnOk result ((seen self.new).store ≡ begin_loop (Some r.at) (seen self.old).store) }
+        ensures lent { IfOk result (Lends (seen self.old) r.at) }
+        ensures owns { IfOk result (OwnsLent (seen self.new)) }
         ensures held { (seen self.new).held ≡ (seen self.old).held }
         ensures grows { Grows (seen self.old) (seen self.new) }
     {
         let mut object = self.take(r.at);
-        object.begin_loop();
+        let lent = object.begin_loop(self.alloc);
         self.put_back(r.at, object);
+        lent
     }
 
-    /// One loop less walks a list or a dict.
-    pub fn end_loop(&mut self, r: Ref)
+    /// One loop less walks a list or a dict. What was lent to the loop is dropped before; where it is still held, and the loop
+    /// is the last, nothing is changed, since taking it back would be a copy.
+    pub fn end_loop(&mut self, r: Ref) -> Result<(), Memory>
         requires { IsTrue (is_walked (slice_get (seen self.old).store r.at)) }
-        ensures store { (seen self.new).store ≡ end_loop (Some r.at) (seen self.old).store }
+        ensures store { OnOk result ((seen self.new).store ≡ end_loop (Some r.at) (seen self.old).store) }
+        ensures err { OnErr result ((seen self.new).store ≡ (seen self.old).store) }
         ensures held { (seen self.new).held ≡ (seen self.old).held }
         ensures grows { Grows (seen self.old) (seen self.new) }
     {
         let mut object = self.take(r.at);
-        object.end_loop();
+        let ended = object.end_loop();
         self.put_back(r.at, object);
+        ended
     }
 }

@@ -70,10 +70,7 @@ impl Arena {
         ensures members { list_at list.at (seen self.now).store ≡ values_of (seen self.now) result.now }
         ensures owns { OwnsAll (seen self.now) result.now }
     {
-        match &self.object(list.at).contents {
-            Contents::List(members) => members.as_slice(),
-            _ => unreachable!(),
-        }
+        self.object(list.at).contents.list()
     }
 
     /// What a box has.

@@ -20,7 +20,7 @@ is_free o c f l e = λ i. record { contents = e i; frozen = f i; loops = eqb-tru
 
 -- what an act on it answers, where the members come to be others
 abbrev ListActs : {B C : Type 0} → (f : Value → plain.Value) → (B → C) → Result B ArenaStop → (old new : List Value) → plain.Object → (plain.Object → Answer plain.Object C) → Type 0
-ListActs f view r old new o act = Answers view r o (record o { contents = of_list (map f new) }) (act o)
+ListActs f view r old new o act = Answers view r o (record o { contents = of_list (map f new); loops = 0 }) (act o)
 
 at_free : {B C : Type 0} (f : Value → plain.Value) (view : B → C) (r : Result B ArenaStop) (old new : List Value) (o : plain.Object) (act : plain.Object → Answer plain.Object C) → o.frozen ≡ false → (o.loops == 0) ≡ true → o.contents ≡ of_list (map f old) → ListActs f view r old new (free (of_list (map f old))) act → ListActs f view r old new o act
 at_free f view r old new o act z l e h = subst (λ o. ListActs f view r old new o act) (sym (is_free o (of_list (map f old)) z l e)) h
@@ -39,7 +39,7 @@ insertion f (Err stop.IndexRange) i v old new h = (rw (length-map, not_within i 
 insertion f (Err stop.Memory) i v old new h = same_members f old new h
 insertion f (Err _) i v old new h = absurd h
 
-pub inserted : (f : Value → plain.Value) (r : Result (Unit {0}) ArenaStop) (i : ℕ) (v : Value) (old new : List Value) (o : plain.Object) → o.frozen ≡ false → (o.loops == 0) ≡ true → o.contents ≡ of_list (map f old) → InsertsAt r old i v new → Answers (λ u. u) r o (record o { contents = of_list (map f new) }) (insert_member i (f v) o)
+pub inserted : (f : Value → plain.Value) (r : Result (Unit {0}) ArenaStop) (i : ℕ) (v : Value) (old new : List Value) (o : plain.Object) → o.frozen ≡ false → (o.loops == 0) ≡ true → o.contents ≡ of_list (map f old) → InsertsAt r old i v new → Answers (λ u. u) r o (record o { contents = of_list (map f new); loops = 0 }) (insert_member i (f v) o)
 inserted f r i v old new o z l e h = at_free f (λ u. u) r old new o (insert_member i (f v)) z l e (insertion f r i v old new h)
 
 -- ---- a member that goes
@@ -49,7 +49,7 @@ removal f (Ok v) i old new h = rw (h.1, map-remove, map_at f old i v h.0)
 removal f (Err stop.IndexRange) i old new h = (rw (slice_get_past (map f old) i (rw length-map h.0)), same_members f old new h.1)
 removal f (Err _) i old new h = absurd h
 
-pub removed : (f : Value → plain.Value) (r : Result Value ArenaStop) (i : ℕ) (old new : List Value) (o : plain.Object) → o.frozen ≡ false → (o.loops == 0) ≡ true → o.contents ≡ of_list (map f old) → RemovesAt r old i new → Answers f r o (record o { contents = of_list (map f new) }) (remove_member i o)
+pub removed : (f : Value → plain.Value) (r : Result Value ArenaStop) (i : ℕ) (old new : List Value) (o : plain.Object) → o.frozen ≡ false → (o.loops == 0) ≡ true → o.contents ≡ of_list (map f old) → RemovesAt r old i new → Answers f r o (record o { contents = of_list (map f new); loops = 0 }) (remove_member i o)
 removed f r i old new o z l e h = at_free f f r old new o (remove_member i) z l e (removal f r i old new h)
 
 pub given_owned : (a : View) (r : Result Value ArenaStop) (i : ℕ) (old new : List Value) → RemovesAt r old i new → OwnsAll a old → IfOk r (Owns a)
@@ -63,7 +63,7 @@ setting f (Ok u) i v old new h = rw (h.1, map-set, map_at f old i (get_or old i 
 setting f (Err stop.IndexRange) i v old new h = (rw (slice_get_past (map f old) i (rw length-map h.0)), same_members f old new h.1)
 setting f (Err _) i v old new h = absurd h
 
-pub set : (f : Value → plain.Value) (r : Result (Unit {0}) ArenaStop) (i : ℕ) (v : Value) (old new : List Value) (o : plain.Object) → o.frozen ≡ false → (o.loops == 0) ≡ true → o.contents ≡ of_list (map f old) → SetsAt r old i v new → Answers (λ u. u) r o (record o { contents = of_list (map f new) }) (set_member i (f v) o)
+pub set : (f : Value → plain.Value) (r : Result (Unit {0}) ArenaStop) (i : ℕ) (v : Value) (old new : List Value) (o : plain.Object) → o.frozen ≡ false → (o.loops == 0) ≡ true → o.contents ≡ of_list (map f old) → SetsAt r old i v new → Answers (λ u. u) r o (record o { contents = of_list (map f new); loops = 0 }) (set_member i (f v) o)
 set f r i v old new o z l e h = at_free f (λ u. u) r old new o (set_member i (f v)) z l e (setting f r i v old new h)
 
 -- ---- two tests of one key
@@ -98,10 +98,10 @@ put_seen eq held k v (e ∷ es) d known =
     rw (key_tested eq held k e.0 d known.0 known.1.0) (elim (eq k e.0) as (λ b. pairs_in held (if b then (e.0, v) ∷ es else e ∷ insert_entry eq es k v) ≡ with_pair (value_in held k) (value_in held v) (pairs_in held (e ∷ es)) (place_here b place)) [ true ↦ refl | false ↦ ap (λ ps. pair_in held e ∷ ps) more ∙ sym (with_pair_further (value_in held k) (value_in held v) (pair_in held e) (pairs_in held es) place) ])
 
 -- the act puts what was put
-pub put_act : (eq : Value → Value → Bool) (held : List plain.Value) (k v : Value) (es new : List (Value × Value)) (o : plain.Object) → DecidesOne eq → o.frozen ≡ false → (o.loops == 0) ≡ true → o.contents ≡ of_dict (pairs_in held es) → Identified held k es → new ≡ insert_entry eq es k v → put_key (value_in held k) (value_in held v) o ≡ did tt (record o { contents = of_dict (pairs_in held new) })
+pub put_act : (eq : Value → Value → Bool) (held : List plain.Value) (k v : Value) (es new : List (Value × Value)) (o : plain.Object) → DecidesOne eq → o.frozen ≡ false → (o.loops == 0) ≡ true → o.contents ≡ of_dict (pairs_in held es) → Identified held k es → new ≡ insert_entry eq es k v → put_key (value_in held k) (value_in held v) o ≡ did tt (record o { contents = of_dict (pairs_in held new); loops = 0 })
 put_act eq held k v es new o d f l c known n =
-    let e : put_key (value_in held k) (value_in held v) o ≡ did tt (record o { contents = of_dict (put_pair (value_in held k) (value_in held v) (pairs_in held es)) }) = rw (is_free o (of_dict (pairs_in held es)) f l c) in
-    e ∙ ap (λ ps. did tt (record o { contents = of_dict ps })) (sym (put_seen eq held k v es d known) ∙ ap (pairs_in held) (sym n))
+    let e : put_key (value_in held k) (value_in held v) o ≡ did tt (record o { contents = of_dict (put_pair (value_in held k) (value_in held v) (pairs_in held es)); loops = 0 }) = rw (is_free o (of_dict (pairs_in held es)) f l c) in
+    e ∙ ap (λ ps. did tt (record o { contents = of_dict ps; loops = 0 })) (sym (put_seen eq held k v es d known) ∙ ap (pairs_in held) (sym n))
 
 pub put_owned : (a : View) (eq : Value → Value → Bool) (k v : Value) (es : List (Value × Value)) → Each (OwnsPair a) es → Owns a k → Owns a v → IsKey (value_of a k) → Each (OwnsPair a) (insert_entry eq es k v)
 put_owned a eq k v [] h o w key = ((o, w, key), tt)
@@ -155,13 +155,13 @@ cut_place o ps None = refl
 cut_place o ps (Some i) = elim (value_at_place ps (Some i)) as (λ found. cut_by o ps (Some i) found ≡ cut_answer found (with_contents (with_pairs (remove ps i) o.contents) o)) [ None ↦ refl | Some v ↦ refl ]
 
 -- the act cuts what was cut
-pub cut_act : (eq : Value → Value → Bool) (held : List plain.Value) (k : Value) (found : Option Value) (es new : List (Value × Value)) (o : plain.Object) → DecidesOne eq → o.frozen ≡ false → (o.loops == 0) ≡ true → o.contents ≡ of_dict (pairs_in held es) → Identified held k es → found ≡ lookup (eq k) es → new ≡ remove_entry (eq k) es → cut_key (value_in held k) o ≡ cut_answer (option_map (value_in held) found) (record o { contents = of_dict (pairs_in held new) })
+pub cut_act : (eq : Value → Value → Bool) (held : List plain.Value) (k : Value) (found : Option Value) (es new : List (Value × Value)) (o : plain.Object) → DecidesOne eq → o.frozen ≡ false → (o.loops == 0) ≡ true → o.contents ≡ of_dict (pairs_in held es) → Identified held k es → found ≡ lookup (eq k) es → new ≡ remove_entry (eq k) es → cut_key (value_in held k) o ≡ cut_answer (option_map (value_in held) found) (record o { contents = of_dict (pairs_in held new); loops = 0 })
 cut_act eq held k found es new o d f l c known value n =
     let ps = pairs_in held es in
-    let freely : cut_key (value_in held k) o ≡ cut_by (record o { contents = of_dict ps }) ps (place_of_key (value_in held k) ps) (value_of_key (value_in held k) ps) = rw (is_free o (of_dict ps) f l c) in
+    let freely : cut_key (value_in held k) o ≡ cut_by (record o { contents = of_dict ps; loops = 0 }) ps (place_of_key (value_in held k) ps) (value_of_key (value_in held k) ps) = rw (is_free o (of_dict ps) f l c) in
     freely
-    ∙ cut_place (record o { contents = of_dict ps }) ps (place_of_key (value_in held k) ps)
-    ∙ (λ i. cut_answer ((sym (value_seen eq held k es d known) ∙ ap (option_map (value_in held)) (sym value)) i) (record o { contents = of_dict ((sym (cut_seen eq held k es d known) ∙ ap (pairs_in held) (sym n)) i) }))
+    ∙ cut_place (record o { contents = of_dict ps; loops = 0 }) ps (place_of_key (value_in held k) ps)
+    ∙ (λ i. cut_answer ((sym (value_seen eq held k es d known) ∙ ap (option_map (value_in held)) (sym value)) i) (record o { contents = of_dict ((sym (cut_seen eq held k es d known) ∙ ap (pairs_in held) (sym n)) i); loops = 0 }))
 
 pub cut_owned : (a : View) (test : Value → Bool) (es : List (Value × Value)) → Each (OwnsPair a) es → Each (OwnsPair a) (remove_entry test es)
 cut_owned a test [] h = tt

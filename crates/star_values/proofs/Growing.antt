@@ -1,11 +1,12 @@
 -- What is owned stays owned, and the same, as an arena grows.
 use Rattle.std.proofs.Common.{◌≡◌, ◌∷◌, ◌++◌}
-use Rattle.star_values.proofs.Names.{ℕ, zero, suc, List, [], map, get_or, Option, Some, None, slice_get, slice_set, refl, sym, ap, subst, ◌∙◌, rules, get_or_from_slice_get, none_value, item_kind_of, Sort, Ref, Value, NamedValue, BuiltNote, BuiltItem, ind-BuiltItem, BuiltValue, fold-BuiltValue, BuiltItem-F, BuiltValue-F, Thing, Held, NamedBox, Contents, Object, fold-roll-BuiltItem, fold-roll-BuiltValue, IsKey, map-BuiltItem, map-BuiltValue, roll-BuiltItem, roll-BuiltValue, native_by, thing_value, held_value, variable_in, pair_in, contents_in, object_in, store_in, held_sort, OwnsHeldRef, OwnsObjectRef, Owns, Each, OwnsAll, OwnsOption, OwnsFields, OwnsVariable, OwnsPair, field_values, note_values, all_values, body_values, item_values, values_of_item, OwnsItem, OwnsBuilt, OwnsThing, OwnsHeld, OwnsContents, OwnsObject, Grows, View, text_in, members_in, bounds_in, struct_in, module_in, item_kind_in, children_in, native_in, option_in, fields_in, scalar_key, notes_in, in_children, value_step, item_step, body_in, child_in, built_in, value_of, values_of}
+use Rattle.star_values.proofs.Names.{ℕ, zero, suc, List, [], map, get_or, Option, Some, None, slice_get, slice_set, refl, sym, ap, subst, ◌∙◌, rules, get_or_from_slice_get, none_value, item_kind_of, Sort, Ref, Value, NamedValue, BuiltNote, BuiltItem, ind-BuiltItem, BuiltValue, fold-BuiltValue, BuiltItem-F, BuiltValue-F, Thing, Held, NamedBox, Lent, Contents, Object, fold-roll-BuiltItem, fold-roll-BuiltValue, IsKey, map-BuiltItem, map-BuiltValue, roll-BuiltItem, roll-BuiltValue, native_by, thing_value, held_value, variable_in, pair_in, lent_in, contents_in, loops_in, object_in, store_in, held_sort, OwnsHeldRef, OwnsObjectRef, Owns, Each, OwnsAll, OwnsOption, OwnsFields, OwnsVariable, OwnsPair, field_values, note_values, all_values, body_values, item_values, values_of_item, OwnsItem, OwnsBuilt, OwnsThing, OwnsHeld, OwnsLent, OwnsContents, OwnsObject, Grows, View, text_in, members_in, bounds_in, struct_in, module_in, item_kind_in, children_in, native_in, option_in, fields_in, scalar_key, notes_in, in_children, value_step, item_step, body_in, child_in, built_in, value_of, values_of}
 use Rattle.value_spec.specs.Values as plain
 use Rattle.star_values.specs.declared.value.Sort.TheVariants as sort
 use Rattle.star_values.specs.declared.value.Value.TheVariants as value
 use Rattle.star_values.specs.declared.held.Thing.TheVariants as thing
 use Rattle.star_values.specs.declared.held.Held.TheVariants as held
+use Rattle.star_values.specs.declared.lent.Lent.TheVariants as lent
 use Rattle.star_values.specs.declared.object.Contents.TheVariants as contents
 
 pub grows_same : (a : View) → Grows a a
@@ -217,11 +218,24 @@ held_kept a b (held.Other n) g o = thing_kept a b n.thing g o
 
 -- ---- objects
 
+lent_kept : (a b : View) (l : Lent) → Grows a b → OwnsLent a l → OwnsLent b l × (lent_in b.held l ≡ lent_in a.held l)
+lent_kept a b (lent.List vs) g o = let k = all_kept a b vs.value.items g o in (k.0, ap plain.of_list k.1)
+lent_kept a b (lent.Dict m) g o =
+    let k = each_kept (OwnsPair a) (OwnsPair b) (pair_in b.held) (pair_in a.held) m.value.entries (λ p. pair_kept a b p g) o in
+    (k.0, ap plain.of_dict k.1)
+
+pub owns_lent_kept : (a b : View) (l : Lent) → Grows a b → OwnsLent a l → OwnsLent b l
+owns_lent_kept a b l g o = (lent_kept a b l g o).0
+
+pub lent_same : (a b : View) (l : Lent) → Grows a b → OwnsLent a l → lent_in b.held l ≡ lent_in a.held l
+lent_same a b l g o = (lent_kept a b l g o).1
+
 contents_kept : (a b : View) (c : Contents) → Grows a b → OwnsContents a c → OwnsContents b c × (contents_in b.held c ≡ contents_in a.held c)
 contents_kept a b (contents.List vs) g o = let k = all_kept a b vs.items g o in (k.0, ap plain.of_list k.1)
 contents_kept a b (contents.Dict m) g o =
     let k = each_kept (OwnsPair a) (OwnsPair b) (pair_in b.held) (pair_in a.held) m.entries (λ p. pair_kept a b p g) o in
     (k.0, ap plain.of_dict k.1)
+contents_kept a b (contents.Lent l more) g o = lent_kept a b l g o
 contents_kept a b (contents.Box v) g o = let k = option_kept a b v g o in (k.0, ap plain.of_box k.1)
 contents_kept a b (contents.Func f) g o =
     let env = each_kept (OwnsVariable a) (OwnsVariable b) (variable_in b.held) (variable_in a.held) f.boxes (λ x. variable_kept a b x g) o.0 in
@@ -232,4 +246,4 @@ pub owns_contents_kept : (a b : View) (c : Contents) → Grows a b → OwnsConte
 owns_contents_kept a b c g o = (contents_kept a b c g o).0
 
 pub objects_kept : (a b : View) (os : List Object) → Grows a b → Each (OwnsObject a) os → Each (OwnsObject b) os × (store_in b.held os ≡ store_in a.held os)
-objects_kept a b os g o = each_kept (OwnsObject a) (OwnsObject b) (object_in b.held) (object_in a.held) os (λ x o. let k = contents_kept a b x.contents g o in (k.0, λ i. record { contents = k.1 i; frozen = x.frozen; loops = x.loops })) o
+objects_kept a b os g o = each_kept (OwnsObject a) (OwnsObject b) (object_in b.held) (object_in a.held) os (λ x o. let k = contents_kept a b x.contents g o in (k.0, λ i. record { contents = k.1 i; frozen = x.frozen; loops = loops_in x.contents })) o

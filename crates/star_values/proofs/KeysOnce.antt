@@ -5,6 +5,7 @@ use Rattle.value_spec.specs.Values as plain
 use Rattle.star_values.specs.declared.value.Sort.TheVariants as sort
 use Rattle.star_values.specs.declared.value.Value.TheVariants as value
 use Rattle.star_values.specs.declared.held.Held.TheVariants as held
+use Rattle.star_values.specs.declared.lent.Lent.TheVariants as lent
 use Rattle.star_values.specs.declared.object.Contents.TheVariants as contents
 use Rattle.star_values.proofs.Growing.{each_as, some_held}
 use Rattle.star_values.proofs.Slots.{thing_known}
@@ -103,6 +104,8 @@ one_key a once k o key v w h = one_value a once v k w o key (same_value _ _ h)
 pub identified : (a : View) (c : Contents) (k : Value) → OneKey a k → IsKey (value_of a k) → OwnsContents a c → Identified a.held k (pairs_of c)
 identified a (contents.List vs) k one key o = (key, tt)
 identified a (contents.Dict m) k one key o = (key, each_as (OwnsPair a) (λ (p : Value × Value). IsTrue (same_key (value_in a.held p.0) (value_in a.held k)) → p.0 ≡ k) m.entries (λ p h t. one p.0 h.0 t) o)
+identified a (contents.Lent (lent.List vs) more) k one key o = (key, tt)
+identified a (contents.Lent (lent.Dict m) more) k one key o = (key, each_as (OwnsPair a) (λ (p : Value × Value). IsTrue (same_key (value_in a.held p.0) (value_in a.held k)) → p.0 ≡ k) m.value.entries (λ p h t. one p.0 h.0 t) o)
 identified a (contents.Box v) k one key o = (key, tt)
 identified a (contents.Func f) k one key o = (key, tt)
 

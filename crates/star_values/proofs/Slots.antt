@@ -1,10 +1,11 @@
 -- What stands in an arena: held things, each made of those before it, and objects; and more of them, or others of the same kinds.
 use Rattle.std.proofs.Common.{◌≡◌, ◌⊎◌, ◌+◌, ◌<◌, ◌∷◌, ◌++◌}
-use Rattle.star_values.proofs.Names.{inl, inr, ℕ, zero, suc, List, [], length, Option, Some, None, IsSome, slice_get, slice_set, refl, sym, ap, subst, ◌∙◌, rules, arith, common_steps, map-append, length-map, map-set, slice_get_cases, IsKey, Store, Sort, Thing, Held, Contents, Object, contents_kind, thing_value, held_value, held_from, held_of, contents_in, object_in, store_in, view_of, Grows, held_sort, held_at, object_sort, contents_sort, object_at, OwnsHeld, OwnsContents, OwnsObject, Each, NumberedAt, InOrder, KeysOnce, Sound, View}
+use Rattle.star_values.proofs.Names.{inl, inr, ℕ, zero, suc, List, [], length, Option, Some, None, IsSome, slice_get, slice_set, refl, sym, ap, subst, ◌∙◌, rules, arith, common_steps, map-append, length-map, map-set, slice_get_cases, IsKey, Store, Sort, Thing, Held, Lent, Contents, Object, contents_kind, lent_kind, thing_value, held_value, held_from, held_of, lent_in, contents_in, object_in, store_in, view_of, Grows, held_sort, held_at, object_sort, contents_sort, object_at, OwnsHeld, OwnsContents, OwnsObject, Each, NumberedAt, InOrder, KeysOnce, Sound, View}
 use Rattle.value_spec.specs.Values as plain
 use Rattle.star_values.specs.declared.held.Answerer.TheVariants as answerer
 use Rattle.star_values.specs.declared.held.Thing.TheVariants as thing
 use Rattle.star_values.specs.declared.held.Held.TheVariants as held
+use Rattle.star_values.specs.declared.lent.Lent.TheVariants as lent
 use Rattle.star_values.specs.declared.object.Contents.TheVariants as contents
 use Rattle.star_values.proofs.Growing.{each_joined, each_at, each_set, held_kept, owns_contents_kept, objects_kept}
 use Rattle.star_values.proofs.Acts.{map_at}
@@ -95,9 +96,14 @@ held_kind before (held.Text w) = refl
 held_kind before (held.Tuple vs) = refl
 held_kind before (held.Other n) = (thing_known before n.thing).0
 
+lent_seen : (held : List plain.Value) (l : Lent) → contents_sort (lent_in held l) ≡ lent_kind l
+lent_seen held (lent.List vs) = refl
+lent_seen held (lent.Dict m) = refl
+
 pub contents_seen : (held : List plain.Value) (c : Contents) → contents_sort (contents_in held c) ≡ contents_kind c
 contents_seen held (contents.List vs) = refl
 contents_seen held (contents.Dict m) = refl
+contents_seen held (contents.Lent l more) = lent_seen held l
 contents_seen held (contents.Box v) = refl
 contents_seen held (contents.Func f) = refl
 

@@ -1,25 +1,31 @@
 -- Changes of one object of the code, which is taken out of an arena, changed, and put back.
 use Rattle.std.specs.Prelude.{◌≡◌, ◌↔◌, ◌<◌, ◌≤◌, ◌==◌}
-use Rattle.star_values.specs.Types.{ℕ, Bool, true, false, List, [], length, insert, remove, slice_get, slice_set, Some, None, IsTrue, Result, Ok, Err, IsKey, same_key, ArenaStop, Sort, Value, Contents, Object, Held}
+use Rattle.star_values.specs.Types.{ℕ, Bool, true, false, List, [], length, insert, remove, slice_get, slice_set, Some, None, IsTrue, Result, Ok, Err, IsKey, same_key, ArenaStop, Sort, Value, Lent, Contents, Object, Held}
 use Rattle.value_spec.specs.Values as plain
 use Rattle.star_values.specs.declared.object.ArenaStop.TheVariants as stop
 use Rattle.star_values.specs.declared.value.Sort.TheVariants as sort
+use Rattle.star_values.specs.declared.lent.Lent.TheVariants as lent
 use Rattle.star_values.specs.declared.object.Contents.TheVariants as contents
-use Rattle.star_values.specs.Objects.{object_in}
+use Rattle.star_values.specs.Objects.{loops_in, object_in}
 use Rattle.star_values.specs.View.{View, value_in}
 use Rattle.star_values.specs.Owns.{Each, Grows, SameHeld}
+
+abbrev pub lent_kind : Lent → Sort
+lent_kind (lent.List vs) = sort.List
+lent_kind (lent.Dict m) = sort.Dict
 
 abbrev pub contents_kind : Contents → Sort
 contents_kind (contents.List vs) = sort.List
 contents_kind (contents.Dict m) = sort.Dict
+contents_kind (contents.Lent l more) = lent_kind l
 contents_kind (contents.Box v) = sort.Box
 contents_kind (contents.Func f) = sort.Func
 
 -- it may be changed, or why it may not
 abbrev pub Unlocks : Result (Unit {0}) ArenaStop → Object → Type 0
-Unlocks (Ok u) o = (o.frozen ≡ false) × ((o.loops == 0) ≡ true)
+Unlocks (Ok u) o = (o.frozen ≡ false) × ((loops_in o.contents == 0) ≡ true)
 Unlocks (Err stop.Frozen) o = o.frozen ≡ true
-Unlocks (Err stop.Iterating) o = (o.frozen ≡ false) × ((o.loops == 0) ≡ false)
+Unlocks (Err stop.Iterating) o = (o.frozen ≡ false) × ((loops_in o.contents == 0) ≡ false)
 Unlocks (Err _) o = ⊥
 
 abbrev pub IsList : Contents → Type 0
@@ -28,9 +34,17 @@ IsList c = contents_kind c ≡ sort.List
 abbrev pub IsDict : Contents → Type 0
 IsDict c = contents_kind c ≡ sort.Dict
 
+abbrev pub IsBox : Contents → Type 0
+IsBox c = contents_kind c ≡ sort.Box
+
+abbrev pub lent_pairs : Lent → List (Value × Value)
+lent_pairs (lent.List vs) = []
+lent_pairs (lent.Dict m) = m.value.entries
+
 abbrev pub pairs_of : Contents → List (Value × Value)
 pairs_of (contents.List vs) = []
 pairs_of (contents.Dict m) = m.entries
+pairs_of (contents.Lent l more) = lent_pairs l
 pairs_of (contents.Box v) = []
 pairs_of (contents.Func f) = []
 
@@ -60,6 +74,7 @@ has_members _ = false
 -- a list, or a box without a value
 abbrev pub has_room : Contents → Bool
 has_room (contents.List vs) = true
+has_room (contents.Lent l more) = has_members (lent_kind l)
 has_room (contents.Box None) = true
 has_room _ = false
 

@@ -1,10 +1,12 @@
 -- The plain data that held things and objects stand for, and what contracts see of them together.
-use Rattle.star_values.specs.Types.{ℕ, List, [], get_or, Option, Some, None, Name, option_members, none_value, text_value, tuple_value, range_value, struct_value, fragment_value, module_value, native_value, builtin, method, host_native, replacement, of_list, of_dict, of_box, of_function, values_from, Env, Store, item_kind_of, Value, Answerer, Thing, Held, NamedBox, Function, Contents, Object}
-use Rattle.std.specs.Prelude.{map as each, ◌∷◌, ◌++◌}
+use Rattle.value_spec.specs.Members.{keys_in}
+use Rattle.star_values.specs.Types.{ℕ, List, [], get_or, Option, Some, None, Name, option_members, none_value, text_value, tuple_value, range_value, struct_value, fragment_value, module_value, native_value, builtin, method, host_native, replacement, of_list, of_dict, of_box, of_function, values_from, Env, Store, item_kind_of, Value, Answerer, Thing, Held, NamedBox, Function, Lent, Contents, Object}
+use Rattle.std.specs.Prelude.{suc, map as each, ◌∷◌, ◌++◌}
 use Rattle.value_spec.specs.Values as plain
 use Rattle.star_values.specs.declared.held.Answerer.TheVariants as answerer
 use Rattle.star_values.specs.declared.held.Thing.TheVariants as thing
 use Rattle.star_values.specs.declared.held.Held.TheVariants as held
+use Rattle.star_values.specs.declared.lent.Lent.TheVariants as lent
 use Rattle.star_values.specs.declared.object.Contents.TheVariants as contents
 use Rattle.star_values.specs.View.{View, text_in, value_in, values_in, option_in, fields_in, built_in}
 
@@ -55,17 +57,37 @@ env_in held bs = each (variable_in held) bs
 abbrev pub function_in : (held : List plain.Value) → Function → plain.Function
 function_in held f = record { name = f.name; file = f.file; number = f.code; env = env_in held f.boxes; defaults = values_in held f.defaults }
 
+abbrev pub key_of_pair : Option (Value × Value) → Option Value
+key_of_pair None = None
+key_of_pair (Some p) = Some p.0
+
+abbrev pub lent_in : (held : List plain.Value) → Lent → plain.Contents
+lent_in held (lent.List vs) = of_list (values_in held vs.value.items)
+lent_in held (lent.Dict m) = of_dict (pairs_in held m.value.entries)
+
 abbrev pub contents_in : (held : List plain.Value) → Contents → plain.Contents
 contents_in held (contents.List vs) = of_list (values_in held vs.items)
 contents_in held (contents.Dict m) = of_dict (pairs_in held m.entries)
+contents_in held (contents.Lent l more) = lent_in held l
 contents_in held (contents.Box v) = of_box (option_in held v)
 contents_in held (contents.Func f) = of_function (function_in held f)
 
+-- the loops that walk an object
+abbrev pub loops_in : Contents → ℕ
+loops_in (contents.Lent l more) = suc more
+loops_in _ = 0
+
 abbrev pub object_in : (held : List plain.Value) → Object → plain.Object
-object_in held o = record { contents = contents_in held o.contents; frozen = o.frozen; loops = o.loops }
+object_in held o = record { contents = contents_in held o.contents; frozen = o.frozen; loops = loops_in o.contents }
 
 abbrev pub store_in : (held : List plain.Value) → List Object → Store
 store_in held os = each (object_in held) os
+
+-- the members of a list, or the keys of a dict, which a loop goes over
+abbrev pub walked_members : plain.Contents → List plain.Value
+walked_members (of_list vs) = vs
+walked_members (of_dict ps) = keys_in ps
+walked_members _ = []
 
 -- ---- both
 

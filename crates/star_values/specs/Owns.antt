@@ -1,11 +1,12 @@
 -- Which values an arena owns, how it grows, and what holds of each.
 use Rattle.std.specs.Prelude.{◌≡◌, ◌∷◌, ◌++◌}
-use Rattle.star_values.specs.Types.{ℕ, List, [], length, Option, Some, None, IsTrue, slice_get, IsKey, same_key, Store, text_value, tuple_value, range_value, struct_value, fragment_value, module_value, native_value, of_list, of_dict, of_box, of_function, Sort, Ref, Value, NamedValue, CallArgs, BuiltNote, BuiltItem, fold-BuiltItem, BuiltItem-F, BuiltValue-F, Thing, Held, NamedBox, Function, Contents, Object}
+use Rattle.star_values.specs.Types.{ℕ, List, [], length, Option, Some, None, IsTrue, slice_get, IsKey, same_key, Store, text_value, tuple_value, range_value, struct_value, fragment_value, module_value, native_value, of_list, of_dict, of_box, of_function, Sort, Ref, Value, NamedValue, CallArgs, BuiltNote, BuiltItem, fold-BuiltItem, BuiltItem-F, BuiltValue-F, Thing, Held, NamedBox, Function, Lent, Contents, Object}
 use Rattle.value_spec.specs.Values as plain
 use Rattle.star_values.specs.declared.value.Sort.TheVariants as sort
 use Rattle.star_values.specs.declared.value.Value.TheVariants as value
 use Rattle.star_values.specs.declared.held.Thing.TheVariants as thing
 use Rattle.star_values.specs.declared.held.Held.TheVariants as held
+use Rattle.star_values.specs.declared.lent.Lent.TheVariants as lent
 use Rattle.star_values.specs.declared.object.Contents.TheVariants as contents
 use Rattle.star_values.specs.View.{View, value_of}
 use Rattle.star_values.specs.Objects.{held_value, held_of, store_in, view_of, Slots}
@@ -147,9 +148,14 @@ OwnsHeld a (held.Text w) = Unit {0}
 OwnsHeld a (held.Tuple vs) = OwnsAll a vs.items
 OwnsHeld a (held.Other n) = OwnsThing a n.thing
 
+abbrev pub OwnsLent : View → Lent → Type 0
+OwnsLent a (lent.List vs) = OwnsAll a vs.value.items
+OwnsLent a (lent.Dict m) = Each (OwnsPair a) m.value.entries
+
 abbrev pub OwnsContents : View → Contents → Type 0
 OwnsContents a (contents.List vs) = OwnsAll a vs.items
 OwnsContents a (contents.Dict m) = Each (OwnsPair a) m.entries
+OwnsContents a (contents.Lent l more) = OwnsLent a l
 OwnsContents a (contents.Box v) = OwnsOption a v
 OwnsContents a (contents.Func f) = OwnsFunction a f
 

@@ -24,5 +24,6 @@ pub use Rattle.star_values.specs.declared.held.Thing.{Thing}
 pub use Rattle.star_values.specs.declared.held.Held.{Held}
 pub use Rattle.star_values.specs.declared.object.NamedBox.{NamedBox}
 pub use Rattle.star_values.specs.declared.object.Function.{Function}
+pub use Rattle.star_values.specs.declared.lent.Lent.{Lent}
 pub use Rattle.star_values.specs.declared.object.Contents.{Contents}
 pub use Rattle.star_values.specs.declared.object.Object.{Object}

@@ -9,11 +9,13 @@
 
 mod changes;
 mod held;
+mod lent;
 mod object;
 mod value;
 
 pub use changes::{equal_values_are_one, put_under};
 pub use held::{Answerer, Held, Numbered, Thing, Word};
+pub use lent::Lent;
 pub use object::{ArenaStop, Boxes, Contents, Function, NamedBox, Object};
 pub use star_tree::ItemKind;
 pub use value::{

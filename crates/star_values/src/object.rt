@@ -1,13 +1,14 @@
 // Objects: what can be changed.
-ghost use Rattle.std.specs.Prelude.{◌≡◌, ◌<◌, ◌^◌, ◌+◌, ◌-◌, List, Some, true, false, slice_get};
-ghost use Rattle.value_spec.specs.Store.{count_of, list_of_contents};
+ghost use Rattle.std.specs.Prelude.{◌≡◌, List, Some, true, false, slice_get};
+ghost use Rattle.value_spec.specs.Store.{count_of, list_of_contents, pairs_of_contents, with_contents};
+ghost use Rattle.value_spec.specs.Values.{of_box};
 ghost use Rattle.value_spec.specs.Values as plain;
-ghost use Rattle.star_values.specs.Changing.{Unlocks, contents_kind};
-ghost use Rattle.star_values.specs.Objects.{contents_in};
-ghost use Rattle.star_values.specs.declared.object.Contents.TheVariants as contents;
-ghost use Rattle.star_values.specs.Owns.{OwnsContents, OwnsOption};
-ghost use Rattle.star_values.specs.View.{View, option_in};
+ghost use Rattle.star_values.specs.Changing.{IsBox, IsDict, IsList, Unlocks, contents_kind, pairs_of};
+ghost use Rattle.star_values.specs.Objects.{contents_in, loops_in, object_in, pairs_in};
+ghost use Rattle.star_values.specs.Owns.{Each, Owns, OwnsAll, OwnsContents, OwnsOption, OwnsPair};
+ghost use Rattle.star_values.specs.View.{View, option_in, values_in, value_in};
 
+use crate::lent::Lent;
 use crate::value::{Ref, Sort, Value, Values, value_at};
 use indexmap::IndexMap;
 use sqlite_items::Items;
@@ -35,21 +36,21 @@ pub struct Function {
     pub defaults: Values,
 }
 
-/// What an object holds.
+/// What an object holds. What loops walk is lent to them: the count says how many walk it besides one.
 #[derive(Drop)]
 pub enum Contents {
     List(Vec<Value>),
     Dict(IndexMap<Value, Value>),
+    Lent(Lent, u64),
     Box(Option<Value>),
     Func(Function),
 }
 
-/// An object: what it holds, whether it is frozen, and how many loops walk it.
+/// An object: what it holds, which also says how many loops walk it, and whether it is frozen.
 #[derive(Drop)]
 pub struct Object {
     pub contents: Contents,
     pub frozen: bool,
-    pub loops: u64,
 }
 
 impl Contents {
@@ -59,8 +60,12 @@ impl Contents {
         ensures owned { (a : View) → OwnsContents a result }
     {
         match self {
-            Contents::List(_) => Contents::List(Vec::new(alloc)),
-            Contents::Dict(_) => Contents::Dict(IndexMap::new(alloc)),
+            Contents::List(_) | Contents::Lent(Lent::List(_), _) => {
+                Contents::List(Vec::new(alloc))
+            }
+            Contents::Dict(_) | Contents::Lent(Lent::Dict(_), _) => {
+                Contents::Dict(IndexMap::new(alloc))
+            }
             Contents::Box(_) => Contents::Box(None),
             Contents::Func(_) => Contents::Func(Function {
                 name: Text::new(alloc),
@@ -77,8 +82,8 @@ impl Contents {
         ensures { result ≡ contents_kind self.now }
     {
         match self {
-            Contents::List(_) => Sort::List,
-            Contents::Dict(_) => Sort::Dict,
+            Contents::List(_) | Contents::Lent(Lent::List(_), _) => Sort::List,
+            Contents::Dict(_) | Contents::Lent(Lent::Dict(_), _) => Sort::Dict,
             Contents::Box(_) => Sort::Box,
             Contents::Func(_) => Sort::Func,
         }
@@ -91,6 +96,7 @@ impl Contents {
         match self {
             Contents::List(items) => items.len(),
             Contents::Dict(pairs) => pairs.len(),
+            Contents::Lent(lent, _) => lent.len(),
             Contents::Box(None) => 0,
             Contents::Box(Some(_)) => 1,
             Contents::Func(_) => 0,
@@ -104,21 +110,58 @@ impl Contents {
     {
         match self {
             Contents::List(items) => value_at(items.as_slice(), at),
+            Contents::Lent(Lent::List(items), _) => value_at(items.as_ref().as_slice(), at),
             Contents::Box(inside) => { if at == 0 { *inside } else { None } }
             _ => None,
+        }
+    }
+
+    /// The members of a list.
+    pub fn list(&self) -> &[Value]
+        requires { IsList self.now }
+        ensures members { (held : List plain.Value) → list_of_contents (contents_in held self.now) ≡ values_in held result.now }
+        ensures owned { (a : View) → OwnsContents a self.now → OwnsAll a result.now }
+    {
+        match self {
+            Contents::List(items) => items.as_slice(),
+            Contents::Lent(Lent::List(items), _) => items.as_ref().as_slice(),
+            _ => unreachable!(),
+        }
+    }
+
+    /// The pairs of a dict.
+    pub fn dict(&self) -> &IndexMap<Value, Value>
+        requires { IsDict self.now }
+        ensures pairs { pairs_of self.now ≡ result.now.entries }
+        ensures members { (held : List plain.Value) → pairs_of_contents (contents_in held self.now) ≡ pairs_in held result.now.entries }
+        ensures owned { (a : View) → OwnsContents a self.now → Each (OwnsPair a) result.now.entries }
+    {
+        match self {
+            Contents::Dict(pairs) => pairs,
+            Contents::Lent(Lent::Dict(pairs), _) => pairs.as_ref(),
+            _ => unreachable!(),
+        }
+    }
+
+    /// How many loops walk it.
+    pub fn loops(&self) -> u128
+        ensures { result ≡ loops_in self.now }
+    {
+        match self {
+            Contents::Lent(_, more) => u128::from(*more) + 1,
+            _ => 0,
         }
     }
 }
 
 impl Object {
-    /// A new object, which is neither frozen nor walked.
+    /// A new object, which isn't frozen.
     pub fn new(contents: Contents) -> Object
-        ensures { result ≡ record { contents = contents; frozen = false; loops = 0 } }
+        ensures { result ≡ record { contents = contents; frozen = false } }
     {
         Object {
             contents,
             frozen: false,
-            loops: 0,
         }
     }
 
@@ -129,7 +172,7 @@ impl Object {
         if self.frozen {
             return Err(ArenaStop::Frozen);
         }
-        if self.loops != 0 {
+        if self.contents.loops() != 0 {
             return Err(ArenaStop::Iterating);
         }
         Ok(())
@@ -144,24 +187,12 @@ impl Object {
 
     /// A box has this value from now on, whatever the marks say.
     pub fn fill(&mut self, value: Value)
-        ensures { self.new ≡ record self.old { contents = contents.Box (Some value) } }
+        requires { IsBox self.old.contents }
+        ensures meaning { (held : List plain.Value) → object_in held self.new ≡ with_contents (of_box (Some (value_in held value))) (object_in held self.old) }
+        ensures kind { contents_kind self.new.contents ≡ contents_kind self.old.contents }
+        ensures owned { (a : View) → Owns a value → OwnsContents a self.new.contents }
     {
         self.contents = Contents::Box(Some(value));
-    }
-
-    /// One more loop walks it.
-    pub fn begin_loop(&mut self)
-        requires { self.old.loops < 2 ^ 63 }
-        ensures { self.new ≡ record self.old { loops = self.old.loops + 1 } }
-    {
-        self.loops += 1;
-    }
-
-    /// One loop less walks it.
-    pub fn end_loop(&mut self)
-        ensures { self.new ≡ record self.old { loops = self.old.loops - 1 } }
-    {
-        self.loops = self.loops.saturating_sub(1);
     }
 }
 

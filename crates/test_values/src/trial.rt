@@ -150,11 +150,13 @@ pub fn length(arena: &Arena, r: Ref) -> Said {
     }
 }
 
-/// One more loop walks a list or a dict.
+/// One more loop walks a list or a dict, and lets go at once of what is lent to it.
 pub fn walk(arena: &mut Arena, r: Ref) -> Said {
     if is_walked(arena, r) && arena.may_walk(r) {
-        arena.begin_loop(r);
-        return Said::Done;
+        return match arena.begin_loop(r) {
+            Ok(_lent) => Said::Done,
+            Err(_) => Said::Stop(ArenaStop::Memory),
+        };
     }
     Said::Unfit
 }
@@ -162,8 +164,10 @@ pub fn walk(arena: &mut Arena, r: Ref) -> Said {
 /// One loop less walks a list or a dict.
 pub fn leave(arena: &mut Arena, r: Ref) -> Said {
     if is_walked(arena, r) {
-        arena.end_loop(r);
-        return Said::Done;
+        return match arena.end_loop(r) {
+            Ok(()) => Said::Done,
+            Err(_) => Said::Stop(ArenaStop::Memory),
+        };
     }
     Said::Unfit
 }

@@ -1,11 +1,11 @@
-use Rattle.star_values.proofs.Names.{Some, None, ap, subst, sym, ◌∙◌, of_dict, Identified, pairs_of, contents_in, object_in, pairs_in, OwnsContents}
+use Rattle.star_values.proofs.Names.{Some, None, ap, subst, sym, ◌∙◌, of_dict, Identified, pairs_of, contents_in, loops_in, object_in, pairs_in, OwnsContents}
 use Rattle.star_values.proofs.Acts.{cut_act, cut_owned, found_owned}
 use Rattle.star_values.proofs.object.Object.cut.Goals as goal
 
 pub returns-in-None-clause-meaning : goal.returns-in-None-clause-meaning
 returns-in-None-clause-meaning c = λ held known. (
   cut_act _ held c.args.key None c.in-Dict.pairs.entries c.cut_pair.new.pairs.entries (object_in held c.args.self.now) c.equal_values_are_one.ensures c.in_ok-unlocked.ensures.0 c.in_ok-unlocked.ensures.1 (ap (contents_in held) c.in-Dict.is) (subst (λ x. Identified held c.args.key (pairs_of x)) c.in-Dict.is known) c.in-None.ensures.value c.cut_pair.ensures.entries,
-  ap (λ ps. record (object_in held c.args.self.now) { contents = of_dict (pairs_in held ps) }) c.in-None.ensures.unchanged ∙ ap (λ x. record (object_in held c.args.self.now) { contents = contents_in held x }) (sym c.in-Dict.is),
+  ap (λ ps. record (object_in held c.args.self.now) { contents = of_dict (pairs_in held ps); loops = 0 }) c.in-None.ensures.unchanged ∙ ap (λ x. record (object_in held c.args.self.now) { contents = contents_in held x; loops = loops_in x }) (sym c.in-Dict.is),
 )
 
 pub returns-in-Some-clause-meaning : goal.returns-in-Some-clause-meaning
