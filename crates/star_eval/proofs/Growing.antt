@@ -5,7 +5,7 @@ use Rattle.star_blocks.specs.Nested.{ops_of}
 use Rattle.star_tree.specs.Listed.{clauses_of, entries_of, optional_of}
 use Rattle.star_tree.specs.Whole.{binary_operator_of, expr_of, exprs_of, parameters_of}
 use Rattle.node_build.proofs.Growing.{nodes_kept}
-use Rattle.star_values.proofs.Growing.{each_joined, owns_all_kept, owns_kept, value_kept, values_kept, variable_kept}
+use Rattle.star_values.proofs.Growing.{each_joined, lent_same, owns_all_kept, owns_kept, owns_lent_kept, value_kept, values_kept, variable_kept}
 use Rattle.star_values.specs.Objects.{env_in, pairs_in}
 use Rattle.star_values.specs.Owns.{Each, Grows, OwnsArguments, OwnsEnv, OwnsPair, object_at}
 use Rattle.star_values.specs.View.{View, arguments_in}
@@ -49,6 +49,8 @@ use Rattle.star_eval.specs.declared.session.Session.{Session}
 use Rattle.star_eval.specs.declared.source.Members.{Members}
 use Rattle.star_eval.specs.declared.source.Members.TheVariants as members
 use Rattle.star_eval.specs.declared.source.Source.{Source}
+use Rattle.star_values.specs.Objects.{walked_members}
+use Rattle.star_values.specs.View.{members_in as held_members}
 use Rattle.star_eval.specs.Meets.{arena_of}
 use Rattle.star_eval.specs.Sources.{OwnsMembers, OwnsSource, Walked, all_members, left_of, walked_sort}
 use Rattle.star_eval.specs.View.{OwnsBag, OwnsCaller, OwnsFrame, OwnsInBlock, OwnsInClauses, OwnsInElement, OwnsInIndex, OwnsInStatement, OwnsInValue, OwnsPending, Sound, arena_in, bag_of, block_frame, caller_of, clauses_frame, code_under, element_frame, frame_of, frames_of, gathering_of, index_frame, making_of, native_frame, nodes_in, setting_of, statement_frame, value_frame, waiting_in}
@@ -68,6 +70,8 @@ env_kept a b (x ∷ bs) g w =
 
 members_kept : (a b : View) (ms : Members) → Grows a b → OwnsMembers a ms → OwnsMembers b ms × (all_members b ms ≡ all_members a ms)
 members_kept a b (members.Listed vs) g w = (owns_all_kept a b vs g w, values_kept a b vs g w)
+members_kept a b (members.Tuple r) g w = (owns_kept a b (value.Tuple r) g w, ap (λ v. plain_value.values_in (held_members v)) (value_kept a b (value.Tuple r) g w))
+members_kept a b (members.Lent l) g w = (owns_lent_kept a b l g w, ap walked_members (lent_same a b l g w))
 members_kept a b (members.Numbers n) g w = (tt, refl)
 
 pub source_kept : (a b : View) (s : Source) → Grows a b → OwnsSource a s → OwnsSource b s × (left_of b s ≡ left_of a s)

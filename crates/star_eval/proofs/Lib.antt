@@ -18,4 +18,5 @@ pub mod Popped
 pub mod Rows
 pub mod Says
 pub mod Sorts
+pub mod Walked
 pub mod Walks

@@ -1,5 +1,5 @@
 -- Rows of targets, and steps that are taken or wanting.
-use Rattle.std.proofs.Common.{◌≡◌, ℕ, zero, suc, ◌-◌, nat_le, ◌==◌, Bool, true, false, List, [], ◌∷◌, length, Some, refl, ap, sym, ◌∙◌, rules, arith}
+use Rattle.std.proofs.Common.{◌≡◌, ℕ, zero, suc, ◌-◌, nat_le, ◌==◌, Bool, true, false, List, [], ◌∷◌, length, Option, Some, None, refl, ap, sym, ◌∙◌, rules, arith}
 use Rattle.std.proofs.lemmas.Bool.{le-leb}
 use Rattle.ytt_base.specs.declared.fault.FaultKind.TheVariants as kind
 use Rattle.ytt_base.specs.declared.fault.Place.{Place}
@@ -48,6 +48,15 @@ module _ (p : Place) (c : Setting) (es : Exprs) (v : Value) (vs : List Value) (s
 
   pub spread_refused : (length vs == count_exprs es) ≡ false → bad (fault_at kind.ValueKind p) s ≡ with_none (spread_over c p es v) s
   spread_refused h = sym (ap (λ o. then_do o (λ u. give none_value)) (spread_by ∙ ap (λ b. (need kind.ValueKind p b >>= λ u. assigned_each c p es vs) s) h))
+
+module _ (p : Place) (c : Setting) (es : Exprs) (v : Value) (s : State Here) where
+  -- what has no members, or has another number of them than there are targets
+  pub spread_uncounted : ((vs : List Value) → members_in s.store v ≡ Some vs → (length vs == count_exprs es) ≡ false) → bad (fault_at kind.ValueKind p) s ≡ with_none (spread_over c p es v) s
+  spread_uncounted h = by_members (members_in s.store v) refl
+    where
+      by_members : (o : Option (List Value)) → members_in s.store v ≡ o → bad (fault_at kind.ValueKind p) s ≡ with_none (spread_over c p es v) s
+      by_members None e = sym (ap (λ o. then_do (then_do (or_fail kind.ValueKind p o s) (λ vs. need kind.ValueKind p (length vs == count_exprs es) >>= λ u. assigned_each c p es vs)) (λ u. give none_value)) e)
+      by_members (Some vs) e = spread_refused p c es v vs s e (h vs e)
 
 -- ---- augmented assignments
 

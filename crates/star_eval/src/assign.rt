@@ -21,6 +21,7 @@ use crate::run::within;
 use crate::session::set_at;
 use crate::source::{Source, members_of};
 use object_arena::Value;
+use star_ops::member_count;
 use star_tree::code::{BinOp, Expr};
 use ytt_base::fault::{FaultKind, Place, Stop};
 use ytt_base::text::{Memory, Text};
@@ -111,14 +112,14 @@ fn spread<'p>(
     requires value { Owns (arena_in m.old) value }
     ensures { GoesToValue result m.new m.old (with_none (spread_over (setting_of m.old) place (exprs_of m.old.code.file targets.now) (value_of (arena_in m.old) value))) }
 {
-    let members = match members_of(&m.session.arena, value)? {
-        None => return Ok(failed(m, FaultKind::ValueKind, place)),
-        Some(members) => members,
-    };
-    if members.len() != targets.len() as u128 {
+    // The count comes first, so that no more members are copied than there are targets.
+    if member_count(&m.session.arena, value) != targets.len() as u128 {
         return Ok(failed(m, FaultKind::ValueKind, place));
     }
-    next_target(m, place, targets, Source::of(members))
+    match members_of(&m.session.arena, value)? {
+        None => Ok(failed(m, FaultKind::ValueKind, place)),
+        Some(members) => next_target(m, place, targets, Source::of(members)),
+    }
 }
 
 /// The first of these targets gets the first of these members, and then the others.
@@ -136,7 +137,7 @@ pub(crate) fn next_target<'p>(
         None => return Ok(Control::Gave(Value::None)),
         Some((target, rest)) => (target, rest),
     };
-    match source.advance()? {
+    match source.advance(&m.session.arena)? {
         None => Ok(Control::Gave(Value::None)),
         Some((value, source)) => {
             let frame = InValue::Targets(place, rest, source);

@@ -13,14 +13,14 @@ ghost use Rattle.star_eval.specs.Doing.{all_calls, bag_made, clause_looped, clau
 ghost use Rattle.star_eval.specs.declared.frame.Frame.TheVariants as frames;
 ghost use Rattle.star_eval.specs.Frames.{Goes, GoesToBag, GoesToValue, OpensClauses, inside};
 ghost use Rattle.star_eval.specs.Meets.{arena_of};
-ghost use Rattle.star_eval.specs.Sources.{OwnsMembers, OwnsSource, Walked, all_members, left_of};
+ghost use Rattle.star_eval.specs.Sources.{OwnsSource, Walked, left_of, members_at};
 ghost use Rattle.star_eval.specs.View.{OwnsBag, OwnsControl, OwnsInElement, Sound, arena_in, bag_of, element_frame, setting_of, waiting_in};
 ghost use Rattle.star_eval.specs.Waiting.{clause_turn_of, element_goes, in_element, walked};
 
 use crate::frame::{Bag, Control, Frame, InClauses, InElement, InValue, Machine};
 use crate::machine::{ill_formed, lost, push, push_value, settle};
 use crate::session::{Session, make_dict, make_list};
-use crate::source::{Members, Source, members_of};
+use crate::source::{Source, members_of};
 use crate::walk::{begin, walk_of};
 use object_arena::{Boxes, NamedBox, Pairs, Ref, Value};
 use sqlite_items::{Boxed, Items};
@@ -141,11 +141,11 @@ fn clause_loop<'p>(
     requires value { Owns (arena_in m.old) value }
     ensures { GoesToBag result m.new m.old (clause_looped (setting_of m.old) place (expr_of m.old.code.file target.now) (clauses_of m.old.code.file clauses.now) (value_of (arena_in m.old) value) (bag_of (arena_in m.old) m.old.code.file bag.entry)) }
 {
-    match members_of(&m.session.arena, value)? {
-        None => Ok(lost(m, FaultKind::ValueKind, place)),
-        Some(members) => match walk_of(value) {
-            None => clause_turn(m, place, target, clauses, Source::of(members), bag),
-            Some(object) => walk_clause(m, place, target, clauses, object, members, bag),
+    match walk_of(value) {
+        Some(object) => walk_clause(m, place, target, clauses, object, bag),
+        None => match members_of(&m.session.arena, value)? {
+            None => Ok(lost(m, FaultKind::ValueKind, place)),
+            Some(members) => clause_turn(m, place, target, clauses, Source::of(members), bag),
         },
     }
 }
@@ -157,16 +157,14 @@ fn walk_clause<'p>(
     target: &'p Expr,
     clauses: &'p [Clause],
     object: Ref,
-    members: Members,
     bag: Bag<'p>,
 ) -> Result<Control<'p>, Memory>
     requires sound { Sound m.old }
     requires object { Walked (arena_in m.old) object }
-    requires members { OwnsMembers (arena_in m.old) members }
     requires bag { OwnsBag (arena_in m.old) bag }
-    ensures { GoesToBag result m.new m.old (walked object.at (turns place (clause_turn_of (setting_of m.old) place (expr_of m.old.code.file target.now) (clauses_of m.old.code.file clauses.now)) (all_members (arena_in m.old) members)) (bag_of (arena_in m.old) m.old.code.file bag.entry)) }
+    ensures { GoesToBag result m.new m.old (walked object.at (turns place (clause_turn_of (setting_of m.old) place (expr_of m.old.code.file target.now) (clauses_of m.old.code.file clauses.now)) (members_at object.at (arena_in m.old).store)) (bag_of (arena_in m.old) m.old.code.file bag.entry)) }
 {
-    begin(&mut m.session, object)?;
+    let members = begin(&mut m.session, object)?;
     push_clauses(m, InClauses::WalkEnd(object))?;
     clause_turn(m, place, target, clauses, Source::of(members), bag)
 }
@@ -185,7 +183,7 @@ pub(crate) fn clause_turn<'p>(
     requires bag { OwnsBag (arena_in m.old) bag }
     ensures { GoesToBag result m.new m.old (turns place (clause_turn_of (setting_of m.old) place (expr_of m.old.code.file target.now) (clauses_of m.old.code.file clauses.now)) (left_of (arena_in m.old) source) (bag_of (arena_in m.old) m.old.code.file bag.entry)) }
 {
-    match source.advance()? {
+    match source.advance(&m.session.arena)? {
         None => Ok(Control::Bagged(bag)),
         Some((value, source)) => {
             if m.session.work.steps == 0 {

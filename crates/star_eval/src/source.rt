@@ -1,13 +1,13 @@
 // The members that a loop goes over.
-ghost use Rattle.std.specs.Prelude.{◌≡◌, IfOk, length, slice_get};
+ghost use Rattle.std.specs.Prelude.{◌≡◌, IfOk, slice_get};
 ghost use Rattle.value_spec.specs.Members.{members_in};
 ghost use Rattle.star_values.specs.Objects.{seen};
 ghost use Rattle.star_values.specs.Owns.{Owns, OwnsOption};
-ghost use Rattle.star_values.specs.View.{View, option_in, value_of};
+ghost use Rattle.star_values.specs.View.{option_in, value_of};
 ghost use Rattle.star_eval.specs.Sources.{Advances, OwnsIfAny, OwnsMembers, OwnsSource, all_members, are_members, number_found};
 
 use crate::numbers::Numbers;
-use object_arena::{Arena, Ref, Value, Values};
+use object_arena::{Arena, Lent, Ref, Value, Values};
 use star_compare::bounds;
 use star_integers::number_at;
 use star_ops::members_of as list_members;
@@ -24,10 +24,14 @@ fn number_found(numbers: &Numbers, place: u64) -> Option<Value>
     Some(Value::Int(number_at(numbers.from, numbers.step, u128::from(place))))
 }
 
-/// Members as they stood, or the numbers of a range, which are never made as a list.
+/// What members are taken from, one after another. Nothing is copied for a loop: a tuple never changes, what a loop walks is lent
+/// to it, and the numbers of a range are never made as a list.
 #[derive(Drop)]
 pub(crate) enum Members {
+    /// Members as they stood.
     Listed(Values),
+    Tuple(Ref),
+    Lent(Lent),
     Numbers(Numbers),
 }
 
@@ -49,31 +53,23 @@ pub(crate) fn members_of(arena: &Arena, value: Value) -> Result<Option<Members>,
             let (from, to, step) = bounds(arena, range);
             Ok(Some(Members::Numbers(Numbers::of(from, to, step))))
         }
-        Value::Tuple(_) | Value::List(_) | Value::Dict(_) => {
-            Ok(Some(Members::Listed(list_members(arena, value)?)))
-        }
+        Value::Tuple(tuple) => Ok(Some(Members::Tuple(tuple))),
+        Value::List(_) | Value::Dict(_) => Ok(Some(Members::Listed(list_members(arena, value)?))),
         _ => Ok(None),
     }
 }
 
 impl Members {
-    /// How many they are.
-    pub(crate) fn len(&self) -> u128
-        ensures { (a : View) → OwnsMembers a self.now → result ≡ length (all_members a self.now) }
-    {
-        match self {
-            Members::Listed(values) => values.len() as u128,
-            Members::Numbers(numbers) => numbers.count,
-        }
-    }
-
     /// The one at a place.
-    fn at(&self, place: u64) -> Option<Value>
-        ensures member { (a : View) → OwnsMembers a self.now → option_in a.held result ≡ slice_get (all_members a self.now) place }
-        ensures owned { (a : View) → OwnsMembers a self.now → OwnsOption a result }
+    fn at(&self, arena: &Arena, place: u64) -> Option<Value>
+        requires { OwnsMembers (seen arena.now) self.now }
+        ensures member { option_in (seen arena.now).held result ≡ slice_get (all_members (seen arena.now) self.now) place }
+        ensures owned { OwnsOption (seen arena.now) result }
     {
         match self {
             Members::Listed(values) => value_at(values.as_slice(), place as usize),
+            Members::Tuple(tuple) => value_at(arena.tuple(*tuple), place as usize),
+            Members::Lent(lent) => lent.member(place as usize),
             Members::Numbers(numbers) => number_found(numbers, place),
         }
     }
@@ -88,10 +84,11 @@ impl Source {
     }
 
     /// The next member, with those behind it, if there is one.
-    pub(crate) fn advance(self) -> Result<Option<(Value, Source)>, Memory>
-        ensures { IfOk result (λ found. (a : View) → OwnsSource a self → Advances a self found) }
+    pub(crate) fn advance(self, arena: &Arena) -> Result<Option<(Value, Source)>, Memory>
+        requires { OwnsSource (seen arena.now) self }
+        ensures { IfOk result (Advances (seen arena.now) self) }
     {
-        let value = match self.members.at(self.next) {
+        let value = match self.members.at(arena, self.next) {
             None => return Ok(None),
             Some(value) => value,
         };

@@ -10,7 +10,7 @@ ghost use Rattle.value_spec.specs.Store.{begin_loop};
 ghost use Rattle.star_eval.specs.Frames.{GoesToFlow, around_flow};
 ghost use Rattle.star_eval.specs.Meets.{Begins, arena_of, state_of};
 ghost use Rattle.star_eval.specs.Doing.{looped, through};
-ghost use Rattle.star_eval.specs.Sources.{IsWalkOf, OwnsMembers, OwnsSource, Walked, all_members, left_of};
+ghost use Rattle.star_eval.specs.Sources.{IsWalkOf, OwnsMembers, OwnsSource, Walked, all_members, left_of, members_at};
 ghost use Rattle.star_eval.specs.View.{Sound, arena_in, nodes_in, setting_of};
 ghost use Rattle.star_eval.specs.Waiting.{turn_of, walked};
 
@@ -49,25 +49,28 @@ pub(crate) fn walk<'p>(
     requires value { Owns (arena_in m.old) value }
     ensures { GoesToFlow result m.new m.old (looped (setting_of m.old) place (expr_of m.old.code.file target.now) (through (setting_of m.old) (ops_of m.old.code.file body.now)) (value_of (arena_in m.old) value) (nodes_in m.old)) }
 {
-    match members_of(&m.session.arena, value)? {
-        None => Ok(left(m, FaultKind::ValueKind, place)),
-        Some(members) => match walk_of(value) {
-            None => turn(m, place, target, body, Source::of(members)),
-            Some(object) => walk_object(m, place, target, body, object, members),
+    match walk_of(value) {
+        Some(object) => walk_object(m, place, target, body, object),
+        None => match members_of(&m.session.arena, value)? {
+            None => Ok(left(m, FaultKind::ValueKind, place)),
+            Some(members) => turn(m, place, target, body, Source::of(members)),
         },
     }
 }
 
-/// One more loop walks an object.
-pub(crate) fn begin(session: &mut Session, object: Ref) -> Result<(), Memory>
+/// One more loop walks an object, whose members are lent to it.
+#[tactic(auto, using(crate::proofs::Walked::lent_members))]
+pub(crate) fn begin(session: &mut Session, object: Ref) -> Result<Members, Memory>
     requires { Walked (arena_of session.old) object }
-    ensures { IfOk result (λ u. Begins object.at session.new session.old) }
+    ensures begins { IfOk result (λ ms. Begins object.at session.new session.old) }
+    ensures members { IfOk result (λ ms. members_at object.at (arena_of session.old).store ≡ all_members (arena_of session.new) ms) }
+    ensures owned { IfOk result (OwnsMembers (arena_of session.new)) }
 {
     if !session.arena.may_walk(object) {
         return Err(Memory);
     }
-    session.arena.begin_loop(object);
-    Ok(())
+    let lent = session.arena.begin_loop(object)?;
+    Ok(Members::Lent(lent))
 }
 
 /// A loop over the members of an object, which it walks until its end.
@@ -77,14 +80,12 @@ fn walk_object<'p>(
     target: &'p Expr,
     body: &'p [Op],
     object: Ref,
-    members: Members,
 ) -> Result<Control<'p>, Memory>
     requires sound { Sound m.old }
     requires object { Walked (arena_in m.old) object }
-    requires members { OwnsMembers (arena_in m.old) members }
-    ensures { GoesToFlow result m.new m.old (walked object.at (turns place (turn_of (setting_of m.old) place (expr_of m.old.code.file target.now) (ops_of m.old.code.file body.now)) (all_members (arena_in m.old) members)) (nodes_in m.old)) }
+    ensures { GoesToFlow result m.new m.old (walked object.at (turns place (turn_of (setting_of m.old) place (expr_of m.old.code.file target.now) (ops_of m.old.code.file body.now)) (members_at object.at (arena_in m.old).store)) (nodes_in m.old)) }
 {
-    begin(&mut m.session, object)?;
+    let members = begin(&mut m.session, object)?;
     m.frames.push(Frame::Block(InBlock::WalkEnd(object)))?;
     turn(m, place, target, body, Source::of(members))
 }
@@ -101,7 +102,7 @@ pub(crate) fn turn<'p>(
     requires source { OwnsSource (arena_in m.old) source }
     ensures { GoesToFlow result m.new m.old (turns place (turn_of (setting_of m.old) place (expr_of m.old.code.file target.now) (ops_of m.old.code.file body.now)) (left_of (arena_in m.old) source) (nodes_in m.old)) }
 {
-    match source.advance()? {
+    match source.advance(&m.session.arena)? {
         None => Ok(Control::Went(Flow::On)),
         Some((value, source)) => {
             if m.session.work.steps == 0 {

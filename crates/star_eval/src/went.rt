@@ -68,7 +68,7 @@ fn go_on<'p>(m: &mut Machine<'p>, frame: InBlock<'p>, flow: Flow) -> Result<Cont
             Flow::Return(value) => Ok(Control::Went(Flow::Return(value))),
         },
         InBlock::WalkEnd(object) => {
-            end(&mut m.session, object);
+            end(&mut m.session, object)?;
             Ok(Control::Went(flow))
         }
     }
@@ -113,7 +113,7 @@ fn next_clause_turn<'p>(
             clause_turn(m, place, target, clauses, source, bag)
         }
         InClauses::WalkEnd(object) => {
-            end(&mut m.session, object);
+            end(&mut m.session, object)?;
             Ok(Control::Bagged(bag))
         }
     }
@@ -131,11 +131,11 @@ fn gathered<'p>(m: &mut Machine<'p>, scope: Boxes, bag: Bag<'p>) -> Result<Contr
 }
 
 /// One loop less walks an object.
-fn end(session: &mut Session, object: Ref)
+fn end(session: &mut Session, object: Ref) -> Result<(), Memory>
     requires { Walked (arena_of session.old) object }
-    ensures { Ends object.at session.new session.old }
+    ensures { IfOk result (λ u. Ends object.at session.new session.old) }
 {
-    session.arena.end_loop(object);
+    session.arena.end_loop(object)
 }
 
 /// A fault in the hole of a frame, which ends its walk, brings the scope and the nodes of a caller back, and is told to a native.
@@ -151,9 +151,9 @@ pub(crate) fn fail<'p>(
     match frame {
         Frame::Value(_inner) => Ok(Control::Failed(fault)),
         Frame::Statement(_inner) => Ok(Control::Left(fault)),
-        Frame::Block(inner) => Ok(leave_block(m, inner, fault)),
+        Frame::Block(inner) => leave_block(m, inner, fault),
         Frame::Element(_inner) => Ok(Control::Lost(fault)),
-        Frame::Clauses(inner) => Ok(leave_clauses(m, inner.into_inner(), fault)),
+        Frame::Clauses(inner) => leave_clauses(m, inner.into_inner(), fault),
         Frame::Gather(scope) => {
             m.scope = scope;
             Ok(Control::Failed(fault))
@@ -177,32 +177,40 @@ pub(crate) fn misplaced<'p>(m: &mut Machine<'p>, frame: Frame<'p>) -> Result<Con
 }
 
 /// A fault in the hole of a part of a block, which ends its walk.
-fn leave_block<'p>(m: &mut Machine<'p>, frame: InBlock<'p>, fault: Fault) -> Control<'p>
+fn leave_block<'p>(
+    m: &mut Machine<'p>,
+    frame: InBlock<'p>,
+    fault: Fault,
+) -> Result<Control<'p>, Memory>
     requires sound { Sound m.old }
     requires frame { OwnsInBlock (arena_in m.old) frame }
-    ensures { Goes (arena_in m.old) m.new result (around_flow m.old (waiting_in m.old) (block_ends (setting_of m.old) (block_frame (arena_in m.old) m.old.code.file frame.entry) (bad fault (state_of m.old.session)))) }
+    ensures { IfOk result (λ c. Goes (arena_in m.old) m.new c (around_flow m.old (waiting_in m.old) (block_ends (setting_of m.old) (block_frame (arena_in m.old) m.old.code.file frame.entry) (bad fault (state_of m.old.session))))) }
 {
     match frame {
         InBlock::WalkEnd(object) => {
-            end(&mut m.session, object);
-            Control::Left(fault)
+            end(&mut m.session, object)?;
+            Ok(Control::Left(fault))
         }
-        InBlock::Rest(_rest) => Control::Left(fault),
-        InBlock::Turn(_place, _target, _body, _source) => Control::Left(fault),
+        InBlock::Rest(_rest) => Ok(Control::Left(fault)),
+        InBlock::Turn(_place, _target, _body, _source) => Ok(Control::Left(fault)),
     }
 }
 
 /// The same of a turn of a clause.
-fn leave_clauses<'p>(m: &mut Machine<'p>, frame: InClauses<'p>, fault: Fault) -> Control<'p>
+fn leave_clauses<'p>(
+    m: &mut Machine<'p>,
+    frame: InClauses<'p>,
+    fault: Fault,
+) -> Result<Control<'p>, Memory>
     requires sound { Sound m.old }
     requires frame { OwnsInClauses (arena_in m.old) frame }
-    ensures { Goes (arena_in m.old) m.new result (around_bag m.old (waiting_in m.old) (clauses_end (setting_of m.old) (clauses_frame (arena_in m.old) m.old.code.file frame.entry) (bad fault (state_of m.old.session)))) }
+    ensures { IfOk result (λ c. Goes (arena_in m.old) m.new c (around_bag m.old (waiting_in m.old) (clauses_end (setting_of m.old) (clauses_frame (arena_in m.old) m.old.code.file frame.entry) (bad fault (state_of m.old.session))))) }
 {
     match frame {
         InClauses::WalkEnd(object) => {
-            end(&mut m.session, object);
-            Control::Lost(fault)
+            end(&mut m.session, object)?;
+            Ok(Control::Lost(fault))
         }
-        InClauses::Turn(_place, _target, _clauses, _source) => Control::Lost(fault),
+        InClauses::Turn(_place, _target, _clauses, _source) => Ok(Control::Lost(fault)),
     }
 }

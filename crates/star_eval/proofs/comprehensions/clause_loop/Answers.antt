@@ -14,8 +14,8 @@ use Rattle.star_eval.proofs.Going.{goes}
 use Rattle.star_eval.proofs.Loops.{over_no_object}
 use Rattle.star_eval.proofs.comprehensions.clause_loop.Goals as goal
 
-pub returns-in-None-walk_of : goal.returns-in-None-walk_of
-returns-in-None-walk_of c =
+pub returns-in-Some-2 : goal.returns-in-Some-2
+returns-in-Some-2 c =
     let m = c.args.m.now in
     let a = arena_in m in
     let s = state_of m.session in
@@ -24,9 +24,9 @@ returns-in-None-walk_of c =
     let x = expr_of m.code.file c.args.target.now in
     let cs = clauses_of m.code.file c.args.clauses.now in
     let b = bag_of a m.code.file c.args.bag in
-    let there : members_in s.store v ≡ Some (all_members a c.in-Some.members) = c.in_ok-members_of.ensures.members ∙ ap (are_members a) c.in-Some.is in
-    let none : walked_in v ≡ None = subst (IsWalkOf a v) c.in-None-walk_of.is (c.walk_of.ensures a c.requires.value) in
+    let there : members_in s.store v ≡ Some (all_members a c.in-Some-2.members) = c.in_ok-members_of-in-None.ensures.members ∙ ap (are_members a) c.in-Some-2.is in
+    let none : walked_in v ≡ None = subst (IsWalkOf a v) c.in-None.is (c.walk_of.ensures a c.requires.value) in
     goes _ c.clause_turn.result c.clause_turn.new.m
     (ap (around_bag m (waiting_in m)) ((λ i. turns p (clause_turn_of (setting_of m) p x cs) (left_of a (c.of.ensures i)) b s)
-    ∙ sym (over_no_object p (λ w. assigned (setting_of m) p x w) v (clauses_done (setting_of m) p cs) b s (all_members a c.in-Some.members) there none)))
+    ∙ sym (over_no_object p (λ w. assigned (setting_of m) p x w) v (clauses_done (setting_of m) p cs) b s (all_members a c.in-Some-2.members) there none)))
     c.clause_turn.ensures

@@ -16,10 +16,10 @@ use Rattle.star_eval.proofs.Rows.{enough, none_left, step_taken, step_wanting}
 use Rattle.star_eval.proofs.comprehensions.clause_turn.Goals as goal
 
 pub enter-requires-clause-value : goal.enter-requires-clause-value
-enter-requires-clause-value c = let h = c.in_ok-advance.ensures (arena_in c.args.m.now) c.requires.source in search (rules, h)
+enter-requires-clause-value c = let h = c.in_ok-advance.ensures in search (rules, h)
 
 pub enter-requires-clause-source : goal.enter-requires-clause-source
-enter-requires-clause-source c = let h = c.in_ok-advance.ensures (arena_in c.args.m.now) c.requires.source in search (rules, h)
+enter-requires-clause-source c = let h = c.in_ok-advance.ensures in search (rules, h)
 
 pub returns-in-None : goal.returns-in-None
 returns-in-None c =
@@ -27,7 +27,7 @@ returns-in-None c =
     let a = arena_in m in
     let b = bag_of a m.code.file c.args.bag in
     let f = clause_turn_of (setting_of m) c.args.place (expr_of m.code.file c.args.target.now) (clauses_of m.code.file c.args.clauses.now) in
-    let none : left_of a c.args.source ≡ [] = subst (Advances a c.args.source) c.in-None.is (c.in_ok-advance.ensures a c.requires.source) in
+    let none : left_of a c.args.source ≡ [] = subst (Advances a c.args.source) c.in-None.is c.in_ok-advance.ensures in
     record {
       same = sym (ap (λ vs. around_bag m (waiting_in m) (turns c.args.place f vs b (state_of m.session))) none);
       sound = c.requires.sound;
@@ -43,7 +43,7 @@ returns-then-m-eq0 c =
     let p = c.args.place in
     let b = bag_of a m.code.file c.args.bag in
     let f = clause_turn_of (setting_of m) p (expr_of m.code.file c.args.target.now) (clauses_of m.code.file c.args.clauses.now) in
-    let h = c.in_ok-advance.ensures a c.requires.source in
+    let h = c.in_ok-advance.ensures in
     let first : left_of a c.args.source ≡ value_of a c.in-Some.value ∷ left_of a c.in-Some.source = search (rules, h) in
     let zero : (m.session.work.steps == 0) ≡ true = search rules in
     let ends = step_wanting p (f (value_of a c.in-Some.value) b) s (none_left m.session.work.steps zero) in
@@ -62,7 +62,7 @@ returns-else-m-eq0 c =
     let p = c.args.place in
     let b = bag_of a m.code.file c.args.bag in
     let f = clause_turn_of (setting_of m) p (expr_of m.code.file c.args.target.now) (clauses_of m.code.file c.args.clauses.now) in
-    let h = c.in_ok-advance.ensures a c.requires.source in
+    let h = c.in_ok-advance.ensures in
     let first : left_of a c.args.source ≡ value_of a c.in-Some.value ∷ left_of a c.in-Some.source = search (rules, h) in
     let some : (m.session.work.steps == 0) ≡ false = search rules in
     let goes_on = step_taken p (f (value_of a c.in-Some.value) b) s (enough m.session.work.steps some) in

@@ -16,17 +16,17 @@ use Rattle.star_eval.proofs.Rows.{enough, none_left, step_taken, step_wanting}
 use Rattle.star_eval.proofs.walk.turn.Goals as goal
 
 pub enter-requires-clause-value : goal.enter-requires-clause-value
-enter-requires-clause-value c = let h = c.in_ok-advance.ensures (arena_in c.args.m.now) c.requires.source in search (rules, h)
+enter-requires-clause-value c = let h = c.in_ok-advance.ensures in search (rules, h)
 
 pub enter-requires-clause-source : goal.enter-requires-clause-source
-enter-requires-clause-source c = let h = c.in_ok-advance.ensures (arena_in c.args.m.now) c.requires.source in search (rules, h)
+enter-requires-clause-source c = let h = c.in_ok-advance.ensures in search (rules, h)
 
 pub returns-in-None : goal.returns-in-None
 returns-in-None c =
     let m = c.args.m.now in
     let a = arena_in m in
     let f = turn_of (setting_of m) c.args.place (expr_of m.code.file c.args.target.now) (ops_of m.code.file c.args.body.now) in
-    let none : left_of a c.args.source ≡ [] = subst (Advances a c.args.source) c.in-None.is (c.in_ok-advance.ensures a c.requires.source) in
+    let none : left_of a c.args.source ≡ [] = subst (Advances a c.args.source) c.in-None.is c.in_ok-advance.ensures in
     record {
       same = sym (ap (λ vs. around_flow m (waiting_in m) (turns c.args.place f vs (nodes_in m) (state_of m.session))) none);
       sound = c.requires.sound;
@@ -41,7 +41,7 @@ returns-then-m-eq0 c =
     let s = state_of m.session in
     let p = c.args.place in
     let f = turn_of (setting_of m) p (expr_of m.code.file c.args.target.now) (ops_of m.code.file c.args.body.now) in
-    let h = c.in_ok-advance.ensures a c.requires.source in
+    let h = c.in_ok-advance.ensures in
     let first : left_of a c.args.source ≡ value_of a c.in-Some.value ∷ left_of a c.in-Some.source = search (rules, h) in
     let zero : (m.session.work.steps == 0) ≡ true = search rules in
     let ends = step_wanting p (f (value_of a c.in-Some.value) (nodes_in m)) s (none_left m.session.work.steps zero) in
@@ -59,7 +59,7 @@ returns-else-m-eq0 c =
     let s = state_of m.session in
     let p = c.args.place in
     let f = turn_of (setting_of m) p (expr_of m.code.file c.args.target.now) (ops_of m.code.file c.args.body.now) in
-    let h = c.in_ok-advance.ensures a c.requires.source in
+    let h = c.in_ok-advance.ensures in
     let first : left_of a c.args.source ≡ value_of a c.in-Some.value ∷ left_of a c.in-Some.source = search (rules, h) in
     let some : (m.session.work.steps == 0) ≡ false = search rules in
     let goes_on = step_taken p (f (value_of a c.in-Some.value) (nodes_in m)) s (enough m.session.work.steps some) in

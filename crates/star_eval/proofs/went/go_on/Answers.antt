@@ -10,12 +10,12 @@ use Rattle.star_eval.proofs.Growing.{kept}
 use Rattle.star_eval.proofs.Walks.{flow_kept, flow_owned}
 use Rattle.star_eval.proofs.went.go_on.Goals as goal
 
-pub returns-in-WalkEnd : goal.returns-in-WalkEnd
-returns-in-WalkEnd c =
+pub returns-in_ok-end-in-WalkEnd : goal.returns-in_ok-end-in-WalkEnd
+returns-in_ok-end-in-WalkEnd c =
     let m = c.args.m.now in
     let a = arena_in m in
     let s = c.end.new.session in
-    let e = c.end.ensures in
+    let e = c.in_ok-end-in-WalkEnd.ensures in
     let k = kept m s e.grows c.requires.sound in
     record {
       same = (λ i. unwind_flow (k.setting i) (k.waiting i) (done (flow_of (arena_of s) c.args.flow (k.nodes i)) (e.state i)))

@@ -7,10 +7,10 @@ use Rattle.star_eval.specs.Waiting.{clauses_end, unwind_bag}
 use Rattle.star_eval.proofs.Growing.{kept}
 use Rattle.star_eval.proofs.went.leave_clauses.Goals as goal
 
-pub returns-in-WalkEnd : goal.returns-in-WalkEnd
-returns-in-WalkEnd c =
+pub returns-in_ok-end-in-WalkEnd : goal.returns-in_ok-end-in-WalkEnd
+returns-in_ok-end-in-WalkEnd c =
     let m = c.args.m.now in
-    let e = c.end.ensures in
+    let e = c.in_ok-end-in-WalkEnd.ensures in
     let k = kept m c.end.new.session e.grows c.requires.sound in
     record {
       same = (λ i. unwind_bag (k.setting i) (k.nodes i) (k.waiting i) (bad c.args.fault (e.state i)))

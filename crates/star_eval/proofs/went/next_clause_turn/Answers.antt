@@ -9,12 +9,12 @@ use Rattle.star_eval.proofs.Going.{goes}
 use Rattle.star_eval.proofs.Growing.{bag_kept, kept}
 use Rattle.star_eval.proofs.went.next_clause_turn.Goals as goal
 
-pub returns-in-WalkEnd : goal.returns-in-WalkEnd
-returns-in-WalkEnd c =
+pub returns-in_ok-end-in-WalkEnd : goal.returns-in_ok-end-in-WalkEnd
+returns-in_ok-end-in-WalkEnd c =
     let m = c.args.m.now in
     let a = arena_in m in
     let s = c.end.new.session in
-    let e = c.end.ensures in
+    let e = c.in_ok-end-in-WalkEnd.ensures in
     let k = kept m s e.grows c.requires.sound in
     let b = bag_kept a (arena_of s) m.code.file e.grows c.args.bag c.requires.bag in
     record {
