@@ -60,6 +60,7 @@ toy = record {
   simple = λ p t. unless_bad p t (statement (toy_statement p t) ∷ []);
   header = λ p t. Ok (toy_header p t);
   is_open = λ p t. list_any (λ b. b == 40) t && not (list_any (λ b. b == 41) t);
+  file = λ n t. Ok [];
 }
 
 -- ---- verdicts

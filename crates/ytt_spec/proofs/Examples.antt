@@ -205,7 +205,7 @@ no_divisor r read = rw read refl
 
 -- a toy reader, which takes each code as a 1
 abbrev ones : CodeReader
-ones = record { expr = λ p t. Ok (int p (pos 1)); args = λ p t. Ok no_exprs; simple = λ p t. Ok []; header = λ p t. Ok end_header; is_open = λ p t. false }
+ones = record { expr = λ p t. Ok (int p (pos 1)); args = λ p t. Ok no_exprs; simple = λ p t. Ok []; header = λ p t. Ok end_header; is_open = λ p t. false; file = λ n t. Ok [] }
 
 -- lists are built, with what stands in them
 builds_list : due_of ones (codes "a:\n- #@ 1\n- [2]\n") ≡ done (codes "a:\n- 1\n- - 2\n")
@@ -263,6 +263,7 @@ toy = record {
   simple = λ p t. Ok (statement (assign p (name p (codes "x")) (int p (pos 2))) ∷ []);
   header = λ p t. Ok (toy_header p t);
   is_open = λ p t. false;
+  file = λ n t. Ok [];
 }
 
 elements_from_loop : due_of toy (codes "list:\n#@ for n in (\"a\", \"b\"):\n- #@ n\n#@ end\n") ≡ done (codes "list:\n- a\n- b\n")
