@@ -4,7 +4,7 @@ use Rattle.std.proofs.lemmas.Bool.Decides.{eqb_tells}
 use Rattle.std.proofs.lemmas.Slice.Eq.{bytes_eq-Decides}
 use Rattle.std.specs.Cmp.{first_so, second_so}
 use Rattle.std.specs.List.{list_all}
-use Rattle.ytt_spec.specs.Words.{Asked, wrong, CommandOption, Given, alone, apart, joined, Often, exactly_once, at_most_once, Takes, a_value, no_value, added, asked_from, asked_value, begun, command_options, equals, is_flag, may_follow, may_have, may_stand, name_in, named, takes_text, value_in, value_of, values_of}
+use Rattle.ytt_spec.specs.Words.{Asked, wrong, CommandOption, Given, alone, apart, joined, Often, at_least_once, exactly_once, at_most_once, Purpose, is_for, Takes, a_value, no_value, added, asked_from, asked_value, begun, command_options, equals, is_flag, may_follow, may_have, may_stand, name_in, named, takes_text, value_in, value_of, values_of}
 
 -- ---- a word, cut at its first `=`
 
@@ -67,23 +67,23 @@ no_flag o value h = by o.takes h
 -- where it may stand
 pub record Follows (gs : List Given) (name : List ℕ) (o : CommandOption) : Type 0 where
   pub found : named name command_options ≡ Some o
-  pub follows : may_follow o.often (values_of name gs) ≡ true
+  pub follows : may_follow o.often (values_of o.purpose gs) ≡ true
 
-by_follows : (gs : List Given) (name : List ℕ) (p o : CommandOption) (b : Bool) → named name command_options ≡ Some p → may_follow p.often (values_of name gs) ≡ b → cond b (Some p) None ≡ Some o → Follows gs name o
+by_follows : (gs : List Given) (name : List ℕ) (p o : CommandOption) (b : Bool) → named name command_options ≡ Some p → may_follow p.often (values_of p.purpose gs) ≡ b → cond b (Some p) None ≡ Some o → Follows gs name o
 by_follows gs name p o true e t j = let is : p ≡ o = cc in subst (Follows gs name) is (record { found = e; follows = t })
 by_follows gs name p o false e t j = cc
 
-by_named : (gs : List Given) (name : List ℕ) (o : CommandOption) (r : Option CommandOption) → named name command_options ≡ r → option_and_then (λ p. cond (may_follow p.often (values_of name gs)) (Some p) None) r ≡ Some o
+by_named : (gs : List Given) (name : List ℕ) (o : CommandOption) (r : Option CommandOption) → named name command_options ≡ r → option_and_then (λ p. cond (may_follow p.often (values_of p.purpose gs)) (Some p) None) r ≡ Some o
     → Follows gs name o
 by_named gs name o None e k = cc
-by_named gs name o (Some p) e k = by_follows gs name p o (may_follow p.often (values_of name gs)) e refl k
+by_named gs name o (Some p) e k = by_follows gs name p o (may_follow p.often (values_of p.purpose gs)) e refl k
 
 pub begun_follows : (gs : List Given) (name : List ℕ) (o : CommandOption) → begun gs name ≡ Some o → Follows gs name o
 begun_follows gs name o h = by_named gs name o (named name command_options) refl h
 
 -- and the other way round
 pub follows_begun : (gs : List Given) (name : List ℕ) (o : CommandOption) → Follows gs name o → begun gs name ≡ Some o
-follows_begun gs name o f = ap (option_and_then (λ p. cond (may_follow p.often (values_of name gs)) (Some p) None)) f.found ∙ ap (λ b. cond b (Some o) None) f.follows
+follows_begun gs name o f = ap (option_and_then (λ p. cond (may_follow p.often (values_of p.purpose gs)) (Some p) None)) f.found ∙ ap (λ b. cond b (Some o) None) f.follows
 
 -- ---- what is read next
 
@@ -103,16 +103,17 @@ asked_next n gs word words = by (begun gs (name_in word)) (value_in word)
 
 -- ---- values
 
-pub values_of-append : (name : List ℕ) (gs hs : List Given) → values_of name (gs ++ hs) ≡ values_of name gs ++ values_of name hs
-values_of-append name [] hs = refl
-values_of-append name (g ∷ gs) hs = by (values_of-append name gs hs) (bytes_eq name g.name)
+pub values_of-append : (purpose : Purpose) (gs hs : List Given) → values_of purpose (gs ++ hs) ≡ values_of purpose gs ++ values_of purpose hs
+values_of-append purpose [] hs = refl
+values_of-append purpose (g ∷ gs) hs = by (values_of-append purpose gs hs) (is_for purpose (named g.name command_options))
   where
-    by : values_of name (gs ++ hs) ≡ values_of name gs ++ values_of name hs → (b : Bool) → cond b (value_of g.form ∷ values_of name (gs ++ hs)) (values_of name (gs ++ hs)) ≡ cond b (value_of g.form ∷ values_of name gs) (values_of name gs) ++ values_of name hs
+    by : values_of purpose (gs ++ hs) ≡ values_of purpose gs ++ values_of purpose hs → (b : Bool) → cond b (value_of g.form ∷ values_of purpose (gs ++ hs)) (values_of purpose (gs ++ hs)) ≡ cond b (value_of g.form ∷ values_of purpose gs) (values_of purpose gs) ++ values_of purpose hs
     by e true = ap (λ vs. value_of g.form ∷ vs) e
     by e false = e
 
 -- an option that has another value behind these may follow them
 pub stands_after : (often : Often) (vs ws : List (List ℕ)) (v : List ℕ) → may_have often (vs ++ (v ∷ ws)) ≡ true → may_follow often vs ≡ true
+stands_after at_least_once vs ws v h = refl
 stands_after exactly_once [] ws v h = refl
 stands_after at_most_once [] ws v h = refl
 stands_after exactly_once (u ∷ []) ws v h = cc

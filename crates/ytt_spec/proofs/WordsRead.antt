@@ -1,11 +1,10 @@
 -- Words that ask for a command are the words of a request, and all requests are read so.
 use Rattle.std.proofs.Common.{◌≡◌, ℕ, ◌+◌, Bool, true, false, ◌&&◌, cond, List, [], ◌∷◌, ◌++◌, Option, Some, None, codes, refl, ap, sym, ◌∙◌, inl, inr, ⊎_elim, append_assoc, append-nil}
-use Rattle.std.proofs.lemmas.Slice.Eq.{bytes_eq-Decides}
 use Rattle.std.specs.Cmp.{first_so, second_so}
 use Rattle.std.specs.List.{list_all}
 use Rattle.ytt_spec.proofs.Options.{Follows, asked_next, begun_follows, cut_back, cut_joined, cut_whole, follows_begun, named_holds, next, no_equals, no_flag, same, stands_after, values_of-append}
 use Rattle.ytt_spec.specs.Requests.{IsRequest, is_good, spelled, spelled_one}
-use Rattle.ytt_spec.specs.Words.{Asked, asked_for, wrong, Command, CommandOption, Given, Form, alone, apart, joined, added, are_all_given, asked, asked_from, asked_value, begun, command_given, command_options, equals, is_command, may_have, may_stand, name_in, named, value_in, value_of, values_of}
+use Rattle.ytt_spec.specs.Words.{Asked, asked_for, wrong, Command, CommandOption, Given, Form, alone, apart, joined, added, are_all_given, asked, asked_from, asked_value, begun, command_given, command_options, equals, is_command, may_have, may_stand, name_in, named, Purpose, for_path, for_steps, for_depth, for_ignoring, is_for, same_purpose, value_in, value_of, values_of}
 
 -- ---- from words to a request
 
@@ -118,17 +117,23 @@ good_is : (name : List ℕ) (form : Form) (o : Option CommandOption) → named n
 good_is name form None e h = cc
 good_is name form (Some p) e h = (p, e, h)
 
-one_value : (name : List ℕ) (form : Form) (more : List Given) → values_of name (given name form ∷ more) ≡ value_of form ∷ values_of name more
-one_value name form more = ap (λ b. cond b (value_of form ∷ values_of name more) (values_of name more)) ((bytes_eq-Decides name name).1 refl)
+same_itself : (purpose : Purpose) → same_purpose purpose purpose ≡ true
+same_itself for_path = refl
+same_itself for_steps = refl
+same_itself for_depth = refl
+same_itself for_ignoring = refl
+
+one_value : (name : List ℕ) (form : Form) (more : List Given) (o : CommandOption) → named name command_options ≡ Some o → values_of o.purpose (given name form ∷ more) ≡ value_of form ∷ values_of o.purpose more
+one_value name form more o found = ap (λ b. cond b (value_of form ∷ values_of o.purpose more) (values_of o.purpose more)) (ap (is_for o.purpose) found ∙ same_itself o.purpose)
 
 is_next : (gs : List Given) (name : List ℕ) (form : Form) (more : List Given) → is_good (given name form) ≡ true → are_all_given (gs ++ (given name form ∷ more)) ≡ true → IsNext gs name form
 is_next gs name form more h all =
     let (o, found, good) = good_is name form (named name command_options) refl h in
     let every = gs ++ (given name form ∷ more) in
-    let stands = named_holds (λ (x : CommandOption). may_have x.often (values_of x.name every)) name command_options o found all in
-    let values : values_of o.name every ≡ values_of name gs ++ (value_of form ∷ values_of name more) =
-    ap (λ m. values_of m every) stands.1 ∙ values_of-append name gs (given name form ∷ more) ∙ ap (λ vs. values_of name gs ++ vs) (one_value name form more) in
-    let follows = stands_after o.often (values_of name gs) (values_of name more) (value_of form) (sym (ap (may_have o.often) values) ∙ stands.0) in
+    let stands = named_holds (λ (x : CommandOption). may_have x.often (values_of x.purpose every)) name command_options o found all in
+    let values : values_of o.purpose every ≡ values_of o.purpose gs ++ (value_of form ∷ values_of o.purpose more) =
+    values_of-append o.purpose gs (given name form ∷ more) ∙ ap (λ vs. values_of o.purpose gs ++ vs) (one_value name form more o found) in
+    let follows = stands_after o.often (values_of o.purpose gs) (values_of o.purpose more) (value_of form) (sym (ap (may_have o.often) values) ∙ stands.0) in
     record { option = o; follows = record { found = found; follows = follows }; good = good }
 
 abbrev asks : List Given → Asked

@@ -2,10 +2,10 @@
 use Rattle.std.proofs.Common.{◌≡◌, ℕ, ◌+◌, ◌-◌, ◌≤◌, Bool, true, false, ◌&&◌, cond, List, [], ◌∷◌, ◌++◌, length, take, Option, Some, None, bytes_eq, codes, refl, subst, ap, sym, ◌∙◌, arith, append_assoc, append-nil, length-append}
 use Rattle.std.proofs.Math.Seq.{take-append_seam, take-append-add}
 use Rattle.std.specs.List.{list_all}
-use Rattle.ytt_spec.proofs.Options.{Follows, asked_next, begun_follows, follows_begun, next, same, values_of-append}
+use Rattle.ytt_spec.proofs.Options.{Follows, asked_next, begun_follows, follows_begun, named_holds, next, values_of-append}
 use Rattle.ytt_spec.proofs.WordsRead.{read_request, request_read}
 use Rattle.ytt_spec.specs.Requests.{Begins, IsFirstWrong, IsRequest}
-use Rattle.ytt_spec.specs.Words.{Asked, asked_for, wrong, Command, CommandOption, Given, Form, alone, apart, joined, Often, exactly_once, at_most_once, added, are_all_given, asked, asked_from, asked_value, begun, command_given, command_options, default_depth, default_steps, depth_option, file_option, ignore_option, is_command, may_follow, may_have, may_stand, name_in, named, render, steps_option, value_in, value_of, values_of}
+use Rattle.ytt_spec.specs.Words.{Asked, asked_for, wrong, Command, CommandOption, Given, Form, alone, apart, joined, Often, at_least_once, exactly_once, at_most_once, Purpose, for_path, for_steps, for_depth, for_ignoring, is_for, same_purpose, long_file_option, added, are_all_given, asked, asked_from, asked_value, begun, command_given, command_options, default_depth, default_steps, depth_option, file_option, ignore_option, is_command, may_follow, may_have, may_stand, name_in, named, render, steps_option, value_in, value_of, values_of}
 
 -- Of words from number n on, the one of number m is the first at which the reading can't end in a request.
 pub record Stops (read : List (List ℕ) → Asked) (n : ℕ) (words : List (List ℕ)) (m : ℕ) : Type 0 where
@@ -58,43 +58,83 @@ is_short (v ∷ w ∷ vs) = false
 
 -- an option with these values may still stand as often as it must
 abbrev may_begin : Often → List (List ℕ) → Bool
+may_begin at_least_once vs = true
 may_begin exactly_once vs = is_short vs
 may_begin at_most_once vs = is_short vs
 
--- the options that were read are such
-abbrev IsWithin : Option CommandOption → List (List ℕ) → Type 0
-IsWithin None vs = Unit {0}
-IsWithin (Some o) vs = may_begin o.often vs ≡ true
+-- how often the options for something may stand
+abbrev often_of : Purpose → Often
+often_of for_path = at_least_once
+often_of for_steps = at_most_once
+often_of for_depth = at_most_once
+often_of for_ignoring = at_most_once
 
+abbrev same_often : Often → Often → Bool
+same_often at_least_once at_least_once = true
+same_often exactly_once exactly_once = true
+same_often at_most_once at_most_once = true
+same_often _ _ = false
+
+same_often_is : (a b : Often) → same_often a b ≡ true → a ≡ b
+same_often_is at_least_once at_least_once h = refl
+same_often_is at_least_once exactly_once h = cc
+same_often_is at_least_once at_most_once h = cc
+same_often_is exactly_once at_least_once h = cc
+same_often_is exactly_once exactly_once h = refl
+same_often_is exactly_once at_most_once h = cc
+same_often_is at_most_once at_least_once h = cc
+same_often_is at_most_once exactly_once h = cc
+same_often_is at_most_once at_most_once h = refl
+
+same_purpose_is : (p q : Purpose) → same_purpose p q ≡ true → p ≡ q
+same_purpose_is for_path for_path h = refl
+same_purpose_is for_path for_steps h = cc
+same_purpose_is for_path for_depth h = cc
+same_purpose_is for_path for_ignoring h = cc
+same_purpose_is for_steps for_path h = cc
+same_purpose_is for_steps for_steps h = refl
+same_purpose_is for_steps for_depth h = cc
+same_purpose_is for_steps for_ignoring h = cc
+same_purpose_is for_depth for_path h = cc
+same_purpose_is for_depth for_steps h = cc
+same_purpose_is for_depth for_depth h = refl
+same_purpose_is for_depth for_ignoring h = cc
+same_purpose_is for_ignoring for_path h = cc
+same_purpose_is for_ignoring for_steps h = cc
+same_purpose_is for_ignoring for_depth h = cc
+same_purpose_is for_ignoring for_ignoring h = refl
+
+often_is : (name : List ℕ) (o : CommandOption) → named name command_options ≡ Some o → o.often ≡ often_of o.purpose
+often_is name o h = same_often_is o.often (often_of o.purpose) (named_holds (λ (x : CommandOption). same_often x.often (often_of x.purpose)) name command_options o h refl).0
+
+-- the options that were read are such
 abbrev Within : List Given → Type 0
-Within gs = (name : List ℕ) → IsWithin (named name command_options) (values_of name gs)
+Within gs = (p : Purpose) → may_begin (often_of p) (values_of p gs) ≡ true
 
 none_within : Within []
-none_within name = by (named name command_options)
-  where
-    none : (often : Often) → may_begin often [] ≡ true
-    none exactly_once = refl
-    none at_most_once = refl
-
-    by : (r : Option CommandOption) → IsWithin r []
-    by None = tt
-    by (Some o) = none o.often
+none_within for_path = refl
+none_within for_steps = refl
+none_within for_depth = refl
+none_within for_ignoring = refl
 
 begins_after : (often : Often) (vs : List (List ℕ)) (v : List ℕ) → may_follow often vs ≡ true → may_begin often (vs ++ (v ∷ [])) ≡ true
+begins_after at_least_once vs v h = refl
 begins_after exactly_once [] v h = refl
 begins_after at_most_once [] v h = refl
 begins_after exactly_once (u ∷ us) v h = cc
 begins_after at_most_once (u ∷ us) v h = cc
 
 added_within : (gs : List Given) (name : List ℕ) (form : Form) (o : CommandOption) → Within gs → Follows gs name o → Within (added gs name form)
-added_within gs name form o w f other =
-    subst (IsWithin (named other command_options)) (sym (values_of-append other gs (record { name = name; form = form } ∷ []))) (by (bytes_eq other name) refl)
+added_within gs name form o w f p =
+    subst (λ (vs : List (List ℕ)). may_begin (often_of p) vs ≡ true)
+    (sym (values_of-append p gs (record { name = name; form = form } ∷ []) ∙ ap (λ r. values_of p gs ++ cond (is_for p r) (value_of form ∷ []) []) f.found))
+    (by (same_purpose p o.purpose) refl)
   where
-    by : (b : Bool) → bytes_eq other name ≡ b → IsWithin (named other command_options) (values_of other gs ++ cond b (value_of form ∷ []) [])
+    by : (b : Bool) → same_purpose p o.purpose ≡ b → may_begin (often_of p) (values_of p gs ++ cond b (value_of form ∷ []) []) ≡ true
     by true e =
-        let is : other ≡ name = same other name e in
-        subst (λ (m : List ℕ). IsWithin (named m command_options) (values_of m gs ++ (value_of form ∷ []))) (sym is) (subst (λ (r : Option CommandOption). IsWithin r (values_of name gs ++ (value_of form ∷ []))) (sym f.found) (begins_after o.often (values_of name gs) (value_of form) f.follows))
-    by false e = subst (IsWithin (named other command_options)) (sym (append-nil (values_of other gs))) (w other)
+        subst (λ (q : Purpose). may_begin (often_of q) (values_of q gs ++ (value_of form ∷ [])) ≡ true) (sym (same_purpose_is p o.purpose e))
+        (begins_after (often_of o.purpose) (values_of o.purpose gs) (value_of form) (subst (λ (t : Often). may_follow t (values_of o.purpose gs) ≡ true) (often_is name o f.found) f.follows))
+    by false e = subst (λ (vs : List (List ℕ)). may_begin (often_of p) vs ≡ true) (sym (append-nil (values_of p gs))) (w p)
 
 -- some words go on to a request
 abbrev Completes : (List (List ℕ) → Asked) → Type 0
@@ -106,43 +146,44 @@ at_most (v ∷ []) h = refl
 at_most (v ∷ w ∷ vs) h = cc
 
 -- the options that may be left out stand as often as they may
-others_given : (gs : List Given) → Within gs → list_all (λ o. may_have o.often (values_of o.name gs)) (steps_option ∷ depth_option ∷ ignore_option ∷ []) ≡ true
-others_given gs w = λ i. at_most (values_of steps_option.name gs) (w steps_option.name) i && (at_most (values_of depth_option.name gs) (w depth_option.name) i && (at_most (values_of ignore_option.name gs) (w ignore_option.name) i && true))
+others_given : (gs : List Given) → Within gs → list_all (λ o. may_have o.often (values_of o.purpose gs)) (steps_option ∷ depth_option ∷ ignore_option ∷ []) ≡ true
+others_given gs w = λ i. at_most (values_of for_steps gs) (w for_steps) i && (at_most (values_of for_depth gs) (w for_depth) i && (at_most (values_of for_ignoring gs) (w for_ignoring) i && true))
 
 abbrev path_words : List (List ℕ)
 path_words = file_option.name ∷ codes "a" ∷ []
 
 -- a path completes them, where there is none
 completes : (n : ℕ) (gs : List Given) → Within gs → Completes (asked_from n gs)
-completes n gs w = by (values_of file_option.name gs) refl (w file_option.name)
+completes n gs w = by (values_of for_path gs) refl
   where
-    by : (vs : List (List ℕ)) → values_of file_option.name gs ≡ vs → may_begin exactly_once vs ≡ true → Completes (asked_from n gs)
-    by [] e h =
-        let follows : Follows gs file_option.name file_option = record { found = refl; follows = ap (may_follow exactly_once) e } in
+    by : (vs : List (List ℕ)) → values_of for_path gs ≡ vs → Completes (asked_from n gs)
+    by [] e =
+        let follows : Follows gs file_option.name file_option = record { found = refl; follows = refl } in
         let all = added gs file_option.name (apart (codes "a")) in
-        let paths : values_of file_option.name all ≡ codes "a" ∷ [] = values_of-append file_option.name gs _ ∙ ap (λ vs. vs ++ (codes "a" ∷ [])) e in
+        let paths : values_of for_path all ≡ codes "a" ∷ [] = values_of-append for_path gs _ ∙ ap (λ vs. vs ++ (codes "a" ∷ [])) e in
         let others = others_given all (added_within gs file_option.name (apart (codes "a")) file_option w follows) in (
           path_words,
           command_given all,
           asked_next n gs file_option.name (codes "a" ∷ []) ∙ ap (λ o. next n gs file_option.name (codes "a" ∷ []) o None) (follows_begun gs file_option.name file_option follows)
-              ∙ (λ i. cond (may_have exactly_once (paths i) && others i) (asked_for (command_given all)) (wrong (n + 1 + 1))),
+              ∙ (λ i. cond (may_have at_least_once (paths i) && (may_have at_least_once (paths i) && others i)) (asked_for (command_given all)) (wrong (n + 1 + 1))),
         )
-    by (v ∷ []) e h = ([], command_given gs, λ i. cond (may_have exactly_once (e i) && others_given gs w i) (asked_for (command_given gs)) (wrong n))
-    by (v ∷ u ∷ vs) e h = cc
+    by (v ∷ []) e = ([], command_given gs, λ i. cond (may_have at_least_once (e i) && (may_have at_least_once (e i) && others_given gs w i)) (asked_for (command_given gs)) (wrong n))
+    by (v ∷ u ∷ vs) e = ([], command_given gs, λ i. cond (may_have at_least_once (e i) && (may_have at_least_once (e i) && others_given gs w i)) (asked_for (command_given gs)) (wrong n))
 
 -- each option that is no flag has a value
 sample : (name : List ℕ) (o : CommandOption) → named name command_options ≡ Some o → may_stand o alone ≡ false → (value : List ℕ) × (may_stand o (apart value) ≡ true)
-sample name o h f = by (bytes_eq name file_option.name) (bytes_eq name steps_option.name) (bytes_eq name depth_option.name) (bytes_eq name ignore_option.name) h
+sample name o h f = by (bytes_eq name file_option.name) (bytes_eq name long_file_option.name) (bytes_eq name steps_option.name) (bytes_eq name depth_option.name) (bytes_eq name ignore_option.name) h
   where
-    by : (a b c d : Bool) → cond a (Some file_option) (cond b (Some steps_option) (cond c (Some depth_option) (cond d (Some ignore_option) None))) ≡ Some o → (value : List ℕ) × (may_stand o (apart value) ≡ true)
-    by true b c d e = let is : file_option ≡ o = cc in (codes "a", ap (λ (x : CommandOption). may_stand x (apart (codes "a"))) (sym is))
-    by false true c d e = let is : steps_option ≡ o = cc in (codes "1", ap (λ (x : CommandOption). may_stand x (apart (codes "1"))) (sym is))
-    by false false true d e = let is : depth_option ≡ o = cc in (codes "1", ap (λ (x : CommandOption). may_stand x (apart (codes "1"))) (sym is))
-    by false false false true e =
+    by : (a l b c d : Bool) → cond a (Some file_option) (cond l (Some long_file_option) (cond b (Some steps_option) (cond c (Some depth_option) (cond d (Some ignore_option) None)))) ≡ Some o → (value : List ℕ) × (may_stand o (apart value) ≡ true)
+    by true l b c d e = let is : file_option ≡ o = cc in (codes "a", ap (λ (x : CommandOption). may_stand x (apart (codes "a"))) (sym is))
+    by false true b c d e = let is : long_file_option ≡ o = cc in (codes "a", ap (λ (x : CommandOption). may_stand x (apart (codes "a"))) (sym is))
+    by false false true c d e = let is : steps_option ≡ o = cc in (codes "1", ap (λ (x : CommandOption). may_stand x (apart (codes "1"))) (sym is))
+    by false false false true d e = let is : depth_option ≡ o = cc in (codes "1", ap (λ (x : CommandOption). may_stand x (apart (codes "1"))) (sym is))
+    by false false false false true e =
         let is : ignore_option ≡ o = cc in
         let never : true ≡ false = ap (λ (x : CommandOption). may_stand x alone) is ∙ f in
         cc
-    by false false false false e = cc
+    by false false false false false e = cc
 
 completes_value : (n : ℕ) (gs : List Given) (o : CommandOption) (name : List ℕ) → Within gs → Follows gs name o → may_stand o alone ≡ false → Completes (asked_value n gs o name)
 completes_value n gs o name w follows no_flag =
@@ -232,7 +273,7 @@ mutual
 -- ---- the command
 
 abbrev path_command : Command
-path_command = render (record { path = codes "a"; budget = record { steps = default_steps; depth = default_depth }; ignore_unknown = false })
+path_command = render (record { paths = codes "a" ∷ []; budget = record { steps = default_steps; depth = default_depth }; ignore_unknown = false })
 
 -- behind a first word that is no command all is read as options
 without_command : (word : List ℕ) (words : List (List ℕ)) (m : ℕ) → is_command word ≡ false → (front : List (List ℕ)) (s : Stops (asked_from 1 []) 1 (word ∷ words) m) → s.front ≡ front → Stops asked 1 (word ∷ words) m

@@ -3,8 +3,8 @@ use Rattle.std.specs.Prelude.{ℕ, List, [], ◌∷◌, ◌++◌, codes, decimal
 use Rattle.ytt_base.specs.FaultText.{fault_line}
 use Rattle.ytt_outside.specs.Standing.{Standing}
 use Rattle.yaml_spec.specs.Text.{Text}
-use Rattle.star_grammar.specs.CodeReaders.{MeansCode}
 use Rattle.code_spec.specs.CodeReading.{CodeReader}
+use Rattle.star_grammar.specs.CodeReaders.{MeansCode}
 use Rattle.ytt_spec.specs.Meaning.{Meant, meaning}
 use Rattle.ytt_spec.specs.Words.{Asked, asked_for, wrong, asked}
 

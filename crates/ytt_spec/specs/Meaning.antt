@@ -1,98 +1,19 @@
--- What a request means: documents, or a fault with the names of its files.
-use Rattle.std.specs.Prelude.{ℕ, nat_lt, nat_eq, ◌==◌, ◌||◌, ◌&&◌, not, Bool, List, [], ◌∷◌, length, codes, None, Result, Ok, Err, if◌then◌else◌}
-use Rattle.std.specs.List.{ends_with, list_any}
+-- What a request means: documents, or a fault with the names of its files; and what is asked of the files for it.
+use Rattle.std.specs.Prelude.{ℕ, List, [], ◌∷◌, codes, Bool, Result, Ok, Err}
 use Rattle.ytt_base.specs.declared.fault.Fault.{Fault}
-use Rattle.ytt_base.specs.declared.fault.FaultKind.{FaultKind}
-use Rattle.ytt_base.specs.declared.fault.FaultKind.TheVariants as kind
-use Rattle.ytt_base.specs.Outcomes.{Outcome, ◌>>=◌, fault_of}
+use Rattle.ytt_base.specs.Outcomes as outcomes
+use Rattle.ytt_base.specs.Outcomes.{Outcome}
 use Rattle.ytt_base.specs.Trees.{Trees}
-use Rattle.ytt_outside.specs.Standing.{Standing, nothing, file, folder}
-use Rattle.yaml_spec.specs.Noted.{Documents, has_code}
-use Rattle.yaml_spec.specs.Read.{Read, plain_trees}
-use Rattle.star_spec.specs.Calls.{asking}
-use Rattle.star_spec.specs.Hosts.{hosted, knows_none}
-use Rattle.star_grammar.specs.CodeReaders.{MeansCode}
-use Rattle.star_spec.specs.Eval.{starlark}
-use Rattle.value_spec.specs.Outcomes.{State}
+use Rattle.ytt_outside.specs.Standing.{Standing}
+use Rattle.file_spec.specs.Asked.{Ask, Traced, ◌>>=◌}
+use Rattle.file_spec.specs.Finding.{FoundFile, files_found}
+use Rattle.file_spec.specs.Reading.{all_read}
+use Rattle.world_spec.specs.Parts.{Budget, units_meaning}
 use Rattle.code_spec.specs.CodeReading.{CodeReader}
-use Rattle.template_meaning.specs.Files.{FileResult, nothing_to_load}
-use Rattle.template_meaning.specs.Meaning.{BuildFile, documents}
-use Rattle.template_spec.specs.Numbered.{numbered}
-use Rattle.template_spec.specs.Passes.{template_passed}
-use Rattle.template_spec.specs.Template.{Items, no_items}
-use Rattle.ytt_spec.specs.Words.{Budget, Command, render}
-
-abbrev pub is_slash : ℕ → Bool
-is_slash b = b == 47
-
--- what stands behind the last slash
-abbrev pub last_part : List ℕ → List ℕ
-last_part [] = []
-last_part (b ∷ bs) = if list_any is_slash (b ∷ bs) then last_part bs else b ∷ bs
-
--- the name ends with this text
-abbrev pub has_ending : List ℕ → List ℕ → Bool
-has_ending name ending = ends_with nat_eq name ending
-
--- a file of this name gives documents: the name has one of the endings, and is no library's
-abbrev pub gives_documents : List ℕ → Bool
-gives_documents name =
-    (has_ending name (codes ".yml") || has_ending name (codes ".yaml")) && not (has_ending name (codes ".lib.yml") || has_ending name (codes ".lib.yaml"))
-
--- how many bytes a file may have
-abbrev pub largest_file : ℕ
-largest_file = 8388608
-
--- a fault of a whole path, of no place
-abbrev pub path_fault : FaultKind → List ℕ → Fault
-path_fault k path = record { kind = k; place = None; detail = path }
-
--- a form that isn't built yet, of no place
-abbrev pub not_built : Fault
-not_built = fault_of kind.NotBuilt
-
--- ---- what a template means
-
-abbrev pub outcome_of : Result FileResult Fault → Outcome Trees
-outcome_of (Ok result) = Ok (documents result.documents)
-outcome_of (Err fault) = Err fault
-
--- a run begins with these steps, and without any object
-abbrev pub started : (steps : ℕ) → State (Unit {0})
-started steps = record { store = []; steps = steps; host = tt }
-
--- a template alone, which is file 1
-abbrev pub alone : Items → (file : ℕ) → Items
-alone template f = if 1 == f then template else no_items
-
--- The documents that a template builds within a budget, or its first fault, where the host knows no native and no file is loaded
--- beside the template; each function has its number.
-abbrev pub built : Budget → Items → Outcome Trees
-built budget template =
-    outcome_of (hosted knows_none (BuildFile starlark asking nothing_to_load (alone (numbered template)) budget.depth (numbered template) (started budget.steps)) (tt {0})).0
-
--- Documents without code are what they are, which takes no steps; with code they are a template, which is built.
-abbrev pub documents_meaning : CodeReader → (ignore_unknown : Bool) → Budget → Documents → Outcome Trees
-documents_meaning r ignore budget ds = if has_code ds then template_passed r ignore 1 ds >>= built budget else plain_trees ds
-
--- A text that reads as no documents has its first refusal.
-abbrev pub text_meaning : CodeReader → (ignore_unknown : Bool) → Budget → List ℕ → Outcome Trees
-text_meaning r ignore budget bytes = Read 1 bytes >>= documents_meaning r ignore budget
-
--- What a path means, by what stands at it: the documents of a file of such a name.
-abbrev pub path_meaning : CodeReader → (path : List ℕ) → (ignore_unknown : Bool) → Budget → Standing → Outcome Trees
-path_meaning r path ignore budget nothing = Err (path_fault kind.FileMissing path)
-path_meaning r path ignore budget (folder names) = Err not_built
-path_meaning r path ignore budget (file bytes) =
-    if not (gives_documents (last_part path)) then Err not_built
-    else if nat_lt largest_file (length bytes) then Err (path_fault kind.FileTooLarge path)
-    else text_meaning r ignore budget bytes
-
--- a text means this outcome, whichever reader reads the code as it reads
-abbrev pub TextMeans : (ignore_unknown : Bool) → Budget → List ℕ → Outcome Trees → Type 0
-TextMeans ignore budget bytes = MeansCode (λ r. text_meaning r ignore budget bytes)
-
--- ---- what a request means
+use Rattle.star_grammar.specs.CodeReaders.{MeansCode}
+use Rattle.world_spec.specs.Units as units
+use Rattle.world_spec.specs.Units.{FileUnit, unit_read}
+use Rattle.ytt_spec.specs.Words.{Command, Render, render}
 
 -- a fault, with the names of the files in which it may stand: the first is that of file number 1
 pub record Refusal : Type 0 where
@@ -103,19 +24,66 @@ pub record Refusal : Type 0 where
 abbrev pub Meant : Type 0
 Meant = Result Trees Refusal
 
--- the names of a command's files, in the order of their numbers from 1: of `render` the last part of its path
-abbrev pub file_names : Command → List (List ℕ)
-file_names (render asked) = last_part asked.path ∷ []
-
 -- an outcome, whose fault stands in the files of these names
-abbrev pub named_in : List (List ℕ) → Outcome Trees → Meant
-named_in names (Ok documents) = Ok documents
-named_in names (Err fault) = Err (record { fault = fault; names = names })
+abbrev pub named_in : {A : Type 0} → List (List ℕ) → Outcome A → Result A Refusal
+named_in names (Ok a) = Ok a
+named_in names (Err f) = Err (record { fault = f; names = names })
+
+abbrev pub found_names : List FoundFile → List (List ℕ)
+found_names [] = []
+found_names (f ∷ fs) = f.name ∷ found_names fs
+
+-- ---- parts 1 and 2
+
+-- reading the files that were found
+abbrev pub files_read : CodeReader → Render → (tree : List ℕ → Standing) → List FoundFile → Traced (List FileUnit)
+files_read r asked tree fs = all_read tree (unit_read r asked.ignore_unknown) fs
+
+-- the names of the files that were found; none where a fault comes first
+abbrev pub names_found : Outcome (List FoundFile) → List (List ℕ)
+names_found (Ok fs) = found_names fs
+names_found (Err f) = []
+
+-- the files of a request, in the order of their numbers
+abbrev pub files_asked : Render → (tree : List ℕ → Standing) → Traced (List FoundFile)
+files_asked asked tree = files_found tree asked.paths
+
+-- finding and reading: the units, or the first fault, and what is asked of the files until then
+abbrev pub units_asked : CodeReader → Render → (tree : List ℕ → Standing) → Traced (List FileUnit)
+units_asked r asked tree = files_asked asked tree >>= files_read r asked tree
+
+-- the units, or the first fault with the names of the files
+abbrev pub units_found : CodeReader → Render → (tree : List ℕ → Standing) → Result (List FileUnit) Refusal
+units_found r asked tree = named_in (names_found (files_asked asked tree).outcome) (units_asked r asked tree).outcome
+
+-- the calls that a run makes of the files, in their order
+abbrev pub run_asks : CodeReader → Render → (tree : List ℕ → Standing) → List Ask
+run_asks r asked tree = (units_asked r asked tree).asks
+
+-- ---- a request
+
+abbrev pub documents_meant : Render → Result (List FileUnit) Refusal → Meant
+documents_meant asked (Ok us) = named_in (units.names_of us) (units_meaning asked.budget us)
+documents_meant asked (Err refusal) = Err refusal
 
 -- What a command means over a whole tree of files. The reader of code is a parameter: each that reads as code reads gives the same.
 abbrev pub meaning : CodeReader → Command → (tree : List ℕ → Standing) → Meant
-meaning r (render asked) tree = named_in (file_names (render asked)) (path_meaning r asked.path asked.ignore_unknown asked.budget (tree asked.path))
+meaning r (render asked) tree = documents_meant asked (units_found r asked tree)
 
 -- it means this, whichever reader reads the code as it reads
 abbrev pub Means : Command → (tree : List ℕ → Standing) → Meant → Type 0
 Means command tree = MeansCode (λ r. meaning r command tree)
+
+-- ---- one text
+
+-- a file of documents
+abbrev pub a_file : FoundFile
+a_file = record { path = codes "a.yml"; name = codes "a.yml" }
+
+-- What a text means as the one file of a request: its documents, or its first fault.
+abbrev pub text_meaning : CodeReader → (ignore_unknown : Bool) → Budget → List ℕ → Outcome Trees
+text_meaning r ignore budget bytes = outcomes.and_then (λ u. units_meaning budget (u ∷ [])) (unit_read r ignore 1 a_file bytes)
+
+-- a text means this outcome, whichever reader reads the code as it reads
+abbrev pub TextMeans : (ignore_unknown : Bool) → Budget → List ℕ → Outcome Trees → Type 0
+TextMeans ignore budget bytes = MeansCode (λ r. text_meaning r ignore budget bytes)

@@ -4,15 +4,11 @@ use Rattle.std.specs.List.{list_all}
 use Rattle.std.specs.Option.{option_map_or}
 use Rattle.std.specs.Str.{all_ascii_digits}
 use Rattle.std.specs.Str.Parse.{digits_value}
+use Rattle.world_spec.specs.Parts.{Budget}
 
--- how many steps a run may take, and how many calls of functions may stand in one another in it
-pub record Budget : Type 0 where
-  pub steps : ℕ
-  pub depth : ℕ
-
--- what `render` is asked with: the path, the budget of the run, and whether comments of no known form may stand in a template
+-- what `render` is asked with: the paths in their order, the budget of the run, and whether comments of no known form may stand in a template
 pub record Render : Type 0 where
-  pub path : List ℕ
+  pub paths : List (List ℕ)
   pub budget : Budget
   pub ignore_unknown : Bool
 
@@ -66,6 +62,7 @@ is_depth word = is_number_to most_depth word
 
 -- how often an option may stand
 pub data Often : Type 0 where
+  at_least_once : Often
   exactly_once : Often
   at_most_once : Often
 
@@ -74,28 +71,47 @@ pub data Takes : Type 0 where
   a_value : (List ℕ → Bool) → Takes
   no_value : Takes
 
--- an option by its name: whether it is a long one, whose value may stand behind `=` in the same word; how often it may stand; and what it takes
+-- what an option is given for; it may have more than one name
+pub data Purpose : Type 0 where
+  for_path : Purpose
+  for_steps : Purpose
+  for_depth : Purpose
+  for_ignoring : Purpose
+
+abbrev pub same_purpose : Purpose → Purpose → Bool
+same_purpose for_path for_path = true
+same_purpose for_steps for_steps = true
+same_purpose for_depth for_depth = true
+same_purpose for_ignoring for_ignoring = true
+same_purpose _ _ = false
+
+-- an option by one of its names: whether that is a long one, whose value may stand behind `=` in the same word; what it is given for; how
+-- often it may stand, by all of its names together; and what it takes
 pub record CommandOption : Type 0 where
   pub name : List ℕ
   pub is_long : Bool
+  pub purpose : Purpose
   pub often : Often
   pub takes : Takes
 
 abbrev pub file_option : CommandOption
-file_option = record { name = codes "-f"; is_long = false; often = exactly_once; takes = a_value is_path }
+file_option = record { name = codes "-f"; is_long = false; purpose = for_path; often = at_least_once; takes = a_value is_path }
+
+abbrev pub long_file_option : CommandOption
+long_file_option = record { name = codes "--file"; is_long = true; purpose = for_path; often = at_least_once; takes = a_value is_path }
 
 abbrev pub steps_option : CommandOption
-steps_option = record { name = codes "--steps"; is_long = true; often = at_most_once; takes = a_value is_steps }
+steps_option = record { name = codes "--steps"; is_long = true; purpose = for_steps; often = at_most_once; takes = a_value is_steps }
 
 abbrev pub depth_option : CommandOption
-depth_option = record { name = codes "--depth"; is_long = true; often = at_most_once; takes = a_value is_depth }
+depth_option = record { name = codes "--depth"; is_long = true; purpose = for_depth; often = at_most_once; takes = a_value is_depth }
 
 abbrev pub ignore_option : CommandOption
-ignore_option = record { name = codes "--ignore-unknown-comments"; is_long = true; often = at_most_once; takes = no_value }
+ignore_option = record { name = codes "--ignore-unknown-comments"; is_long = true; purpose = for_ignoring; often = at_most_once; takes = no_value }
 
 -- all options
 abbrev pub command_options : List CommandOption
-command_options = file_option ∷ steps_option ∷ depth_option ∷ ignore_option ∷ []
+command_options = file_option ∷ long_file_option ∷ steps_option ∷ depth_option ∷ ignore_option ∷ []
 
 -- the option of this name
 abbrev pub named : List ℕ → List CommandOption → Option CommandOption
@@ -134,27 +150,33 @@ value_of alone = []
 value_of (apart value) = value
 value_of (joined value) = value
 
--- the values that the option of this name has, in their order
-abbrev pub values_of : List ℕ → List Given → List (List ℕ)
-values_of name [] = []
-values_of name (g ∷ gs) = if bytes_eq name g.name then value_of g.form ∷ values_of name gs else values_of name gs
+-- the option of this name is for this
+abbrev pub is_for : Purpose → Option CommandOption → Bool
+is_for purpose None = false
+is_for purpose (Some o) = same_purpose purpose o.purpose
+
+-- the values that the options for this have, in their order
+abbrev pub values_of : Purpose → List Given → List (List ℕ)
+values_of purpose [] = []
+values_of purpose (g ∷ gs) = if is_for purpose (named g.name command_options) then value_of g.form ∷ values_of purpose gs else values_of purpose gs
 
 -- an option may have these values, and no others
 abbrev pub may_have : Often → List (List ℕ) → Bool
-may_have exactly_once [] = false
 may_have at_most_once [] = true
+may_have _ [] = false
 may_have _ (v ∷ []) = true
+may_have at_least_once (v ∷ w ∷ vs) = true
 may_have _ (v ∷ w ∷ vs) = false
 
 -- an option that has these values may stand once more
 abbrev pub may_follow : Often → List (List ℕ) → Bool
-may_follow exactly_once [] = true
-may_follow at_most_once [] = true
+may_follow at_least_once vs = true
+may_follow _ [] = true
 may_follow _ (v ∷ vs) = false
 
 -- each option stands as often as it must
 abbrev pub are_all_given : List Given → Bool
-are_all_given gs = list_all (λ o. may_have o.often (values_of o.name gs)) command_options
+are_all_given gs = list_all (λ o. may_have o.often (values_of o.purpose gs)) command_options
 
 abbrev pub first_of : List (List ℕ) → Option (List ℕ)
 first_of [] = None
@@ -162,14 +184,14 @@ first_of (v ∷ vs) = Some v
 
 -- the number that the option of this name has, or this one where it isn't there
 abbrev pub number_given : CommandOption → (default : ℕ) → List Given → ℕ
-number_given o default gs = option_map_or number_of (first_of (values_of o.name gs)) default
+number_given o default gs = option_map_or number_of (first_of (values_of o.purpose gs)) default
 
 -- the command that is asked for with these options
 abbrev pub command_given : List Given → Command
 command_given gs = render (record {
-  path = option_map_or (λ v. v) (first_of (values_of file_option.name gs)) [];
+  paths = values_of for_path gs;
   budget = record { steps = number_given steps_option default_steps gs; depth = number_given depth_option default_depth gs };
-  ignore_unknown = is_some (first_of (values_of ignore_option.name gs));
+  ignore_unknown = is_some (first_of (values_of for_ignoring gs));
 })
 
 -- ---- words
@@ -188,7 +210,7 @@ value_in (b ∷ bs) = if b == equals then Some bs else value_in bs
 
 -- the option of this name, where it may stand behind those that are given
 abbrev pub begun : List Given → (name : List ℕ) → Option CommandOption
-begun gs name = option_and_then (λ o. if may_follow o.often (values_of name gs) then Some o else None) (named name command_options)
+begun gs name = option_and_then (λ o. if may_follow o.often (values_of o.purpose gs) then Some o else None) (named name command_options)
 
 abbrev pub added : List Given → List ℕ → Form → List Given
 added gs name form = gs ++ record { name = name; form = form } ∷ []

@@ -1,0 +1,3 @@
+pub mod CodeBlocks
+pub mod Held
+pub mod Together
