@@ -45,7 +45,7 @@ use Rattle.star_eval.specs.declared.looped.Finished.{Finished}
 use Rattle.star_eval.specs.declared.session.Session.{Session}
 use Rattle.star_eval.specs.Calling.{calls_at, calls_from, calls_of, functions_at}
 use Rattle.star_eval.specs.Doing.{Nodes}
-use Rattle.star_eval.specs.FileRun.{CallsAs, EndsAs, RunsAs, known_in}
+use Rattle.star_eval.specs.FileRun.{CallsAs, RunsAs}
 use Rattle.star_eval.specs.Finishes.{Leaves, call_ending, called, globals_of, result_of}
 use Rattle.star_eval.specs.Frames.{flow_ending_of, flow_of, value_ending_of}
 use Rattle.star_eval.specs.Meets.{Here, UnlessMemory, arena_of, state_of}
@@ -161,11 +161,6 @@ module _ (table : Table Ops) (depth : ℕ) (loaded : Globals) (s : State Here) w
     pub not_bound : (f : Fault) (t : State Here) → Bound ≡ bad f t → Runs (Some os) ≡ bad f t
     not_bound f t e = run_from ∙ ap (λ o. then_do o (λ u t. after_run made own (block_run t))) e
 
--- a program that isn't closed as it should be
-broken_run : (table : Table Ops) (depth : ℕ) (loaded : Globals) (s : State Here) → RunLoaded starlark asking table depth loaded None s ≡ bad (fault_of kind.CodeForm) s
-broken_run table depth [] s = refl
-broken_run table depth (g ∷ gs) s = refl
-
 -- ---- what the call gives
 
 module _ {H : Type 0} (answers : Answers H) (table : Table Ops) (loaded : Globals) (depth made_before : ℕ) (before bound after : Session) (now then : H) (os : Ops) (g : List Name) (e : Finished) (names : g ≡ each_once (ops_names os)) (mark : made_before ≡ length (arena_of before).store)
@@ -196,8 +191,7 @@ module _ {H : Type 0} (answers : Answers H) (table : Table Ops) (loaded : Global
   file_runs (Ok w) (Err stop.Memory) ran left = record { meaning = tt; owned = tt; grows = tt }
   file_runs (Err f) (Err stop.Memory) ran left = record { meaning = tt; owned = tt; grows = tt }
 
--- and so the calls on it, which ask no host: where a name that was loaded isn't the file's, and where the program isn't closed as it
--- should be
+-- and so the calls on it, which ask no host, where a name that was loaded isn't the file's
 pub unbound_runs : {H : Type 0} (answers : Answers H) (table : Table Ops) (loaded : Globals) (depth : ℕ) (before after : Session) (host : H) (os : Ops) (g : List Name) (x : Stop) → g ≡ each_once (ops_names os) →
     Meets as_is (Err x) (state_of after) (bind_loaded loaded (boxed (length (arena_of before).store) g []) (with_unset (length g) (state_of before))) → Grows (arena_of before) (arena_of after) →
     RunsAs answers table (Some os) loaded depth (Err x) after before host host
@@ -205,42 +199,22 @@ unbound_runs answers table loaded depth before after host os g (stop.Fault f) na
     record { meaning = ap (λ o. hosted answers o host) (not_bound table depth loaded (state_of before) os g names f (state_of after) fails); owned = tt; grows = grows }
 unbound_runs answers table loaded depth before after host os g stop.Memory names fails grows = record { meaning = tt; owned = tt; grows = tt }
 
-pub broken_runs : {H : Type 0} (answers : Answers H) (table : Table Ops) (loaded : Globals) (depth : ℕ) (s : Session) (host : H) (x : Stop) (o : Option Ops) → x ≡ stop.Fault (fault_of kind.CodeForm) → o ≡ None → RunsAs answers table o loaded depth (Err x) s s host host
-broken_runs answers table loaded depth s host x o e none =
-    subst (λ (x : Stop). RunsAs answers table o loaded depth (Err x) s s host host) (sym e)
-    (record { meaning = (λ i. hosted answers (RunLoaded starlark asking table depth loaded (none i) (state_of s)) host) ∙ ap (λ o. hosted answers o host) (broken_run table depth loaded (state_of s)); owned = tt; grows = grows_same (arena_of s) })
-
--- ---- what the session knows
-
--- what holds whatever a call gave holds but for want of memory
-pub holds_unless : {A : Type 0} {P : Type 0} (r : Result A Stop) → P → UnlessMemory r P
-holds_unless (Ok x) h = h
-holds_unless (Err (stop.Fault f)) h = h
-holds_unless (Err stop.Memory) h = tt
-
--- a run ends so by the same table, the same blocks and the same names
-pub ends_alike : {H : Type 0} (answers : Answers H) (view : Given → FileResult) (t u : Table Ops) (o q : Option Ops) (gs hs : Globals) (d : ℕ) (r : Result Given Stop) (s : State H) (before : State Here) (then : H) → t ≡ u → o ≡ q → gs ≡ hs →
-    EndsAs view r s (hosted answers (RunLoaded starlark asking t d gs o before) then) → EndsAs view r s (hosted answers (RunLoaded starlark asking u d hs q before) then)
-ends_alike answers view t u o q gs hs d (Ok x) s before then e f g h = sym (λ i. hosted answers (RunLoaded starlark asking (e i) d (g i) (f i) before) then) ∙ h
-ends_alike answers view t u o q gs hs d (Err (stop.Fault x)) s before then e f g h = sym (λ i. hosted answers (RunLoaded starlark asking (e i) d (g i) (f i) before) then) ∙ h
-ends_alike answers view t u o q gs hs d (Err stop.Memory) s before then e f g h = tt
-
 -- ---- a call from outside of a run
 
-module _ {H : Type 0} (answers : Answers H) (before after : Session) (e : Called) (now then : H) (f : Held_value) (args : CallArgs) (p : Place) (fs : Functions) (same : (file k : ℕ) → table_of fs file k ≡ known_in before file k)
+module _ {H : Type 0} (answers : Answers H) (before after : Session) (e : Called) (now then : H) (f : Held_value) (args : CallArgs) (p : Place) (fs own : Functions) (same : (file k : ℕ) → table_of own file k ≡ table_of fs file k)
     (arena : arena_of after ≡ arena_of e.session) (state : state_of after ≡ state_of e.session)
-    (ended : hosted answers (call_ending e) now ≡ hosted answers (called fs before.work.depth p f args before) then) (owned : IfOk e.result (Owns (arena_of e.session))) (grows : Grows (arena_of before) (arena_of e.session)) where
-  ends : hosted answers (table_calls starlark asking (known_in before) before.work.depth p (value_of (arena_of before) f) (arguments_in (arena_of before).held args) (state_of before)) then ≡ hosted answers (call_ending e) now
-  ends = (λ i. hosted answers (same_calls fs (known_in before) before.work.depth same i p (value_of (arena_of before) f) (arguments_in (arena_of before).held args) (state_of before)) then) ∙ sym ended
+    (ended : hosted answers (call_ending e) now ≡ hosted answers (called own before.work.depth p f args before) then) (owned : IfOk e.result (Owns (arena_of e.session))) (grows : Grows (arena_of before) (arena_of e.session)) where
+  ends : hosted answers (table_calls starlark asking (table_of fs) before.work.depth p (value_of (arena_of before) f) (arguments_in (arena_of before).held args) (state_of before)) then ≡ hosted answers (call_ending e) now
+  ends = (λ i. hosted answers (same_calls own (table_of fs) before.work.depth same i p (value_of (arena_of before) f) (arguments_in (arena_of before).held args) (state_of before)) then) ∙ sym ended
 
-  pub call_gives : (v : Held_value) → e.result ≡ Ok v → CallsAs answers f args p (Ok v) after before now then
+  pub call_gives : (v : Held_value) → e.result ≡ Ok v → CallsAs answers fs f args p (Ok v) after before now then
   call_gives v is = record {
     meaning = ends ∙ ap (λ r. hosted answers (value_ending_of (arena_of e.session) r (state_of e.session)) now) is ∙ (λ i. (Ok (value_of (sym arena i) v), with_host now (sym state i)));
     owned = subst (λ a. Owns a v) (sym arena) (subst (λ r. IfOk r (Owns (arena_of e.session))) is owned);
     grows = subst (Grows (arena_of before)) (sym arena) grows;
   }
 
-  pub call_fails : (d : Fault) → e.result ≡ Err d → CallsAs answers f args p (Err (stop.Fault d)) after before now then
+  pub call_fails : (d : Fault) → e.result ≡ Err d → CallsAs answers fs f args p (Err (stop.Fault d)) after before now then
   call_fails d is = record {
     meaning = ends ∙ ap (λ r. hosted answers (value_ending_of (arena_of e.session) r (state_of e.session)) now) is ∙ (λ i. (Err d, with_host now (sym state i)));
     owned = tt;

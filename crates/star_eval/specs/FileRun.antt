@@ -4,17 +4,17 @@ use Rattle.ytt_base.specs.declared.fault.Fault.{Fault}
 use Rattle.ytt_base.specs.declared.fault.Place.{Place}
 use Rattle.ytt_base.specs.declared.fault.Stop.{Stop}
 use Rattle.ytt_base.specs.declared.fault.Stop.TheVariants as stop
-use Rattle.code_spec.specs.Blocks.{Ops, blocks}
-use Rattle.code_spec.specs.Scopes.{program_names}
+use Rattle.code_spec.specs.Blocks.{Ops}
+use Rattle.code_spec.specs.Code.{Name}
+use Rattle.code_spec.specs.Scopes.{ops_names}
 use Rattle.star_blocks.specs.Nested.{ops_of}
-use Rattle.star_functions.specs.Known.{files_of, known, with_blocks}
+use Rattle.star_functions.specs.Table.{table_of}
+use Rattle.star_functions.specs.declared.functions.Functions.{Functions}
 use Rattle.star_functions.specs.declared.programs.FileBlock.{FileBlock}
 use Rattle.star_resolve.specs.Variables.{each_once}
-use Rattle.star_resolve.specs.declared.binding.Resolved.{Resolved}
 use Rattle.star_spec.specs.Calls.{Table, asking}
 use Rattle.star_spec.specs.Eval.{starlark}
 use Rattle.star_spec.specs.Hosts.{Answers, hosted, with_host}
-use Rattle.star_tree.specs.Whole.{program_of}
 use Rattle.star_values.specs.Owns.{Grows, Owns}
 use Rattle.star_values.specs.View.{arguments_in, value_of}
 use Rattle.star_values.specs.declared.value.CallArgs.{CallArgs}
@@ -35,10 +35,6 @@ EndsAs view (Ok x) s ended = ended ≡ (Ok (view x), s)
 EndsAs view (Err (stop.Fault f)) s ended = ended ≡ (Err f, s)
 EndsAs view (Err stop.Memory) s ended = Unit {0}
 
--- the functions of the files that ran
-abbrev pub known_in : Session → Table Ops
-known_in s = known (files_of s.programs)
-
 -- Blocks whose load statements gave these names run so from one session to another, where calls find functions in this table, so many
 -- calls may stand in one another, and a host answers what it is asked: the same documents and globals or the same fault, the same
 -- objects, all of the file's frozen where it ends, as many steps left, and the host in the same state. What the session held before
@@ -50,26 +46,17 @@ pub record RunsAs {H : Type 0} (answers : Answers H) (table : Table Ops) (blocks
 
 -- the blocks of a file that is known
 abbrev pub block_of : FileBlock → Ops
-block_of b = ops_of b.file b.block.value
+block_of b = ops_of b.file b.block
 
--- and they run so where these files are known
-abbrev pub RunsBlock : {H : Type 0} → Answers H → FileBlock → List FileBlock → (loaded : List NamedValue) → Result FileResult Stop → (after before : Session) → (now then : H) → Type 0
-RunsBlock answers b bs loaded result after before now then =
-    RunsAs answers (known (files_of bs)) (Some (block_of b)) (globals_of (arena_of before) loaded) before.work.depth result after before now then
-
--- the functions that may be called where this program runs: its own, and those of the files that ran
-abbrev pub known_with : Resolved → Session → Table Ops
-known_with r s = with_blocks r.program.file (blocks (program_of r.program)) (known_in s)
-
--- a program runs so, where its scope has the names of its file
-abbrev pub RunsFile : {H : Type 0} → Answers H → Resolved → (loaded : List NamedValue) → Result FileResult Stop → (after before : Session) → (now then : H) → Type 0
-RunsFile answers r loaded result after before now then =
-    r.globals ≡ each_once (program_names (program_of r.program)) →
-    RunsAs answers (known_with r before) (blocks (program_of r.program)) (globals_of (arena_of before) loaded) before.work.depth result after before now then
+-- and they run so where these functions are known, and the scope has the names of the file
+abbrev pub RunsFile : {H : Type 0} → Answers H → FileBlock → Functions → (names : List Name) → (loaded : List NamedValue) → Result FileResult Stop → (after before : Session) → (now then : H) → Type 0
+RunsFile answers b fs names loaded result after before now then =
+    names ≡ each_once (ops_names (block_of b)) →
+    RunsAs answers (table_of fs) (Some (block_of b)) (globals_of (arena_of before) loaded) before.work.depth result after before now then
 
 -- a call ends so from one session to another; what the session held before stays what it was
-pub record CallsAs {H : Type 0} (answers : Answers H) (function : Value) (args : CallArgs) (p : Place) (result : Result Value Stop) (after before : Session) (now then : H) : Type 0 where
+pub record CallsAs {H : Type 0} (answers : Answers H) (functions : Functions) (function : Value) (args : CallArgs) (p : Place) (result : Result Value Stop) (after before : Session) (now then : H) : Type 0 where
   pub meaning : EndsAs (value_of (arena_of after)) result (with_host now (state_of after))
-      (hosted answers (table_calls starlark asking (known_in before) before.work.depth p (value_of (arena_of before) function) (arguments_in (arena_of before).held args) (state_of before)) then)
+      (hosted answers (table_calls starlark asking (table_of functions) before.work.depth p (value_of (arena_of before) function) (arguments_in (arena_of before).held args) (state_of before)) then)
   pub owned : IfOk result (Owns (arena_of after))
   pub grows : UnlessMemory result (Grows (arena_of before) (arena_of after))

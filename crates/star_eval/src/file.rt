@@ -3,17 +3,15 @@ ghost use Rattle.std.specs.Prelude.{◌≡◌, ℕ, IfOk};
 ghost use Rattle.ytt_base.specs.declared.fault.FaultKind.TheVariants as kind;
 ghost use Rattle.ytt_base.specs.declared.fault.Stop.TheVariants as stop;
 ghost use Rattle.ytt_base.specs.Outcomes.{fault_of};
-ghost use Rattle.code_spec.specs.Scopes.{ops_names};
 ghost use Rattle.node_build.specs.View.{OwnsNodes, nodes_of};
-ghost use Rattle.star_resolve.specs.Variables.{each_once};
 ghost use Rattle.star_values.specs.Objects.{env_in, seen};
 ghost use Rattle.star_values.specs.Owns.{Owns, OwnsEnv, OwnsFields};
 ghost use Rattle.star_values.specs.View.{value_of};
 ghost use Rattle.template_meaning.specs.Calls.{bottom_children};
 ghost use Rattle.template_meaning.specs.Files.{bind_loaded, globals_in};
-ghost use Rattle.star_eval.specs.FileRun.{RunsBlock, RunsFile, block_of, known_in, known_with};
+ghost use Rattle.star_eval.specs.FileRun.{RunsFile};
 ghost use Rattle.star_eval.specs.Finishes.{EndsFile, Leaves, globals_of};
-ghost use Rattle.star_eval.specs.Meets.{Acts, UnlessMemory, arena_of};
+ghost use Rattle.star_eval.specs.Meets.{Acts, arena_of};
 ghost use Rattle.star_eval.specs.Scope.{name_bound};
 
 use crate::frame::Code;
@@ -24,13 +22,11 @@ use crate::session::Session;
 use node_build::Builder;
 use object_arena::{Arena, Built, Mark, NamedBox, NamedValue, NamedValues, Value};
 use sqlite_items::Items;
-use star_blocks::{Block, nest};
 use star_calls::open_scope;
-use star_functions::{FileBlock, functions_of, in_front, shared};
-use star_resolve::{Resolved, Scope};
+use star_functions::{FileBlock, Functions};
+use star_resolve::Scope;
 use std::alloc::Global;
 use std::mem;
-use std::rc::Rc;
 use ytt_base::fault::{Fault, FaultKind, Stop};
 use ytt_base::text::{Memory, Text};
 
@@ -125,18 +121,32 @@ fn bind_loaded(session: &mut Session, scope: &[NamedBox], loaded: &[NamedValue])
     Ok(())
 }
 
-/// What the block of a file gives, where these files are known.
-fn run_known<'p, H: Host>(
+/// Runs the block of a file in a session, with the names that it loaded and a host that answers the natives which aren't the language's
+/// own, where these functions of files may be called, and the scope has the names of the file. The result is what the block means, from
+/// the objects and the steps that the session has, and the host's state: its documents and its globals, or the fault that it ends with,
+/// at its place. The session is left with the objects and the steps that are left, as deep as it was, and the host in the state that its
+/// last answer left. What the session held before stays what it was, after a fault too. All that the file made is frozen at its end, but
+/// not where it ends with a fault.
+///
+/// Names that were loaded are bound before the first item, a later one over an earlier one. The functions are those of all files of a
+/// run, in one table that `functions_of` makes.
+///
+/// A pair whose key stands already is `KeyTwice` with the key, a name that has no value yet `NameUnset` with the
+/// name, a value that an operator, a loop or a target isn't for `ValueKind`, an integer outside 128 bits
+/// `IntOverflow`, a division by zero `DivideZero`, tuples that nest too deep `TooDeep`, arguments that don't fit parameters `ArgBind`,
+/// a call past the session's depth `Depth`, and an act for which no step is left `Steps`. A block that doesn't bind a name that was
+/// loaded is `CodeForm` at no place. After want of memory the session is of no use.
+pub fn run_file<'p, H: Host>(
     alloc: Global,
     program: &'p FileBlock,
-    programs: &'p [FileBlock],
+    functions: &Functions<'p>,
     globals: &Scope,
     loaded: &[NamedValue],
     session: &mut Session,
     host: &mut H,
 ) -> Result<FileResult, Stop>
-    requires loaded { OwnsFields (arena_of session.old) loaded.now }
-    ensures runs { globals.now ≡ each_once (ops_names (block_of program.now)) → RunsBlock H.answers program.now programs.now loaded.now result session.new session.old host.new host.old }
+    requires { OwnsFields (arena_of session.old) loaded.now }
+    ensures runs { RunsFile H.answers program.now functions.now globals.now loaded.now result session.new session.old host.new host.old }
     ensures depth { session.new.work.depth ≡ session.old.work.depth }
 {
     let depth = session.work.depth;
@@ -145,90 +155,21 @@ fn run_known<'p, H: Host>(
     bind_loaded(session, scope.as_slice(), loaded)?;
     let code = Code {
         file: program.file,
-        functions: functions_of(alloc, programs)?,
+        functions: functions.shared()?,
     };
-    let block = program.block.as_ref();
     let own = mem::replace(session, Session::new(alloc, 0, depth));
     let nodes = Builder::new(alloc);
     let finished = run_block(
         alloc,
         code,
         depth,
-        block.as_slice(),
+        program.block.as_slice(),
         scope,
         own,
         nodes,
         host,
     )?;
     left(alloc, finished, mark, depth, session)
-}
-
-/// The block of a file, which can be shared.
-fn file_block(alloc: Global, file: u32, block: Block) -> Result<FileBlock, Memory>
-    ensures file { IfOk result (λ b. b.file ≡ file) }
-    ensures block { IfOk result (λ b. b.block.value ≡ block) }
-{
-    let block = Rc::new(alloc, block)?;
-    Ok(FileBlock { file, block })
-}
-
-/// Runs a program in a session, with the names that it loaded and a host that answers the natives which aren't the language's own,
-/// where its scope has the names of its file, as `compile` of `template_program` gives it. The result is what the program means, from
-/// the objects, the functions of the files that ran, and the steps that the session has, and the host's state: its documents and its
-/// globals, or the fault that it ends with, at its place. The session is left with the objects and the steps that are left, as deep as
-/// it was, and with the program's functions too, and the host in the state that its last answer left. What the session held before
-/// stays what it was, after a fault too. All that the file made is frozen at its end, but not where it ends with a fault.
-///
-/// Names that were loaded are bound before the first item, a later one over an earlier one. No file that ran in the session should have
-/// the number of this one, since its functions aren't found any more. The program is taken, since its statements become the blocks that
-/// the session keeps.
-///
-/// A pair whose key stands already is `KeyTwice` with the key, a name that has no value yet `NameUnset` with the
-/// name, a value that an operator, a loop or a target isn't for `ValueKind`, an integer outside 128 bits
-/// `IntOverflow`, a division by zero `DivideZero`, tuples that nest too deep `TooDeep`, arguments that don't fit parameters `ArgBind`,
-/// a call past the session's depth `Depth`, and an act for which no step is left `Steps`. A program whose blocks aren't closed as they
-/// should be, or that doesn't bind a name that was loaded, is `CodeForm` at no place. After want of memory the session is of no use.
-pub fn run_file<H: Host>(
-    alloc: Global,
-    resolved: Resolved,
-    loaded: &NamedValues,
-    session: &mut Session,
-    host: &mut H,
-) -> Result<FileResult, Stop>
-    requires { OwnsFields (arena_of session.old) loaded.now }
-    ensures runs { RunsFile H.answers resolved loaded.now result session.new session.old host.new host.old }
-    ensures knows { UnlessMemory result ((file k : ℕ) → known_in session.new file k ≡ known_with resolved session.old file k) }
-    ensures depth { session.new.work.depth ≡ session.old.work.depth }
-{
-    let Resolved {
-        program,
-        variables,
-        globals,
-        functions,
-    } = resolved;
-    drop(variables);
-    drop(functions);
-    let file = program.file;
-    let block = match nest(alloc, program.code)? {
-        Some(block) => block,
-        None => return Err(ill_formed(alloc)),
-    };
-    let program = file_block(alloc, file, block)?;
-    let copy = program.shared()?;
-    let others = mem::replace(&mut session.programs, Items::new(alloc));
-    let programs = in_front(alloc, copy, others)?;
-    session.programs = shared(alloc, programs.as_slice())?;
-    let result = run_known(
-        alloc,
-        &program,
-        programs.as_slice(),
-        &globals,
-        loaded.as_slice(),
-        session,
-        host,
-    );
-    session.programs = programs;
-    result
 }
 
 /// What a file gives whose block ended so, and the session that it leaves.

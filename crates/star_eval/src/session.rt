@@ -9,32 +9,27 @@ ghost use Rattle.star_values.specs.Owns.{Each, Owns, OwnsAll, OwnsPair};
 ghost use Rattle.star_values.specs.View.{value_of, values_of};
 
 use object_arena::{Arena, Pairs, Value, Work};
-use sqlite_items::Items;
-use star_functions::Programs;
 use std::alloc::Global;
 use ytt_base::fault::{Place, Stop};
 use ytt_base::text::Text;
 
 /// What goes on from one call to the next: the arena of all values and objects, the steps that are left and how many calls of
-/// functions may stand in one another, and the files that ran, whose functions may be called.
+/// functions may stand in one another.
 #[derive(Drop)]
 pub struct Session {
     pub arena: Arena,
     pub work: Work,
-    pub programs: Programs,
 }
 
 impl Session {
-    /// A session without objects, in which no file ran.
+    /// A session without objects.
     pub fn new(alloc: Global, steps: u64, depth: u32) -> Session
         ensures state { state_of result ≡ in_store [] steps }
         ensures depth { result.work.depth ≡ depth }
-        ensures programs { result.programs ≡ [] }
     {
         Session {
             arena: Arena::new(alloc),
             work: Work { steps, depth },
-            programs: Items::new(alloc),
         }
     }
 }

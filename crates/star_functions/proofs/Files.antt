@@ -1,42 +1,55 @@
 -- The functions of files that are gone through one after another.
-use Rattle.std.proofs.Common.{◌≡◌, ℕ, ◌==◌, Bool, true, false, if◌then◌else◌, nat_eq, List, [], ◌∷◌, ◌++◌, Option, Some, None, refl, ap}
+use Rattle.std.proofs.Common.{◌≡◌, ℕ, Bool, true, false, cond, if◌then◌else◌, nat_eq, List, ◌∷◌, Option, Some, None, is_some, option_and_then, refl, sym, ap, ◌∙◌}
 use Rattle.code_spec.specs.Blocks.{Ops}
-use Rattle.indexmap.specs.IndexMap.{get}
+use Rattle.indexmap.specs.IndexMap.{IndexMap, get}
 use Rattle.star_blocks.specs.Nested.{ops_of}
 use Rattle.star_spec.specs.Calls.{Code}
 use Rattle.template_meaning.specs.Calls.{ops_function}
 use Rattle.star_blocks.specs.declared.block.Op.{Op}
 use Rattle.star_functions.proofs.Indexing.{same_number}
-use Rattle.star_functions.specs.Known.{File, known, with_blocks}
-use Rattle.star_functions.specs.Table.{code_in, function_in}
+use Rattle.star_functions.specs.Known.{File, known}
+use Rattle.star_functions.specs.Table.{code_in}
 use Rattle.star_functions.specs.declared.function.Function.{Function}
-use Rattle.star_functions.specs.declared.functions.FileFunctions.{FileFunctions}
 
--- the code of these files, or else this
-abbrev pub code_or : (f k : ℕ) → List FileFunctions → Option (Code Ops) → Option (Code Ops)
-code_or f k [] o = o
-code_or f k (g ∷ gs) o = if g.file == f then code_in f (get nat_eq g.by_number k) else code_or f k gs o
+-- the code in these functions, or where there are none of the file this
+abbrev pub code_or : (f k : ℕ) → Option (IndexMap ℕ Function) → Option (Code Ops) → Option (Code Ops)
+code_or f k None o = o
+code_or f k (Some functions) o = code_in f (get nat_eq functions k)
 
--- the first of them by its number
-first_or : (n f k : ℕ) (block : List Op) (o : Option (Code Ops)) (b : Bool) → nat_eq n f ≡ b → (if b then ops_function k (ops_of f block) else o) ≡ (if b then ops_function k (ops_of n block) else o)
-first_or n f k block o true e = ap (λ m. ops_function k (ops_of m block)) (same_number n f e)
-first_or n f k block o false e = refl
+-- at the end, what is found in them
+pub all_found : (f k : ℕ) (functions : Option (IndexMap ℕ Function)) → code_or f k functions None ≡ code_in f (option_and_then (λ m. get nat_eq m k) functions)
+all_found f k None = refl
+all_found f k (Some m) = refl
 
-pub known_first : (n : ℕ) (block : List Op) (bs : List File) (f k : ℕ) → known ((n, block) ∷ bs) f k ≡ with_blocks n (Some (ops_of n block)) (known bs) f k
-known_first n block bs f k = first_or n f k block (known bs f k) (nat_eq n f) refl
+-- ---- one file more
 
-module _ (f k : ℕ) where
-  -- one file more, which has the functions of its block
-  pub one_more : (gs : List FileFunctions) (g : FileFunctions) (b : File) (bs : List File) → g.file ≡ b.0 → ((file k : ℕ) → code_in file (get nat_eq g.by_number k) ≡ ops_function k (ops_of file b.1)) →
-      code_or f k (gs ++ g ∷ []) (known bs f k) ≡ code_or f k gs (known (b ∷ bs) f k)
-  one_more [] g b bs e h = λ i. if e i == f then h f k i else known bs f k
-  one_more (x ∷ gs) g b bs e h = ap (λ o. if x.file == f then code_in f (get nat_eq x.by_number k) else o) (one_more gs g b bs e h)
+there : (f k : ℕ) (functions : Option (IndexMap ℕ Function)) (o p : Option (Code Ops)) → is_some functions ≡ true → code_or f k functions o ≡ code_or f k functions p
+there f k (Some m) o p h = refl
+there f k None o p h = ap (λ b. cond b o p) h
 
-  either : (b : Bool) (o p : Option Function) (q : Option (Code Ops)) → q ≡ code_in f p → (if b then code_in f o else q) ≡ code_in f (if b then o else p)
-  either true o p q h = refl
-  either false o p q h = h
+module _ (f k n : ℕ) (block : List Op) (more : Option (Code Ops)) (old : ℕ → Option (IndexMap ℕ Function)) where
+  -- what is known with it in front
+  abbrev with_one : Bool → Option (Code Ops)
+  with_one b = if b then ops_function k (ops_of f block) else more
 
-  -- at the end, what is found in them
-  pub all_found : (gs : List FileFunctions) → code_or f k gs None ≡ code_in f (function_in f k gs)
-  all_found [] = refl
-  all_found (g ∷ gs) = either (g.file == f) (get nat_eq g.by_number k) (function_in f k gs) (code_or f k gs None) (all_found gs)
+  passed_if : (b : Bool) → nat_eq n f ≡ b → is_some (old n) ≡ true → code_or f k (old f) more ≡ code_or f k (old f) (with_one b)
+  passed_if true e h = there f k (old f) more (with_one true) (ap (λ m. is_some (old m)) (same_number n f e) ∙ h)
+  passed_if false e h = refl
+
+  -- where one of its number stands already
+  pub passed_over : is_some (old n) ≡ true → code_or f k (old f) more ≡ code_or f k (old f) (with_one (nat_eq n f))
+  passed_over = passed_if (nat_eq n f) refl
+
+  nothing_there : (o : Option (IndexMap ℕ Function)) → is_some o ≡ false → (p : Option (Code Ops)) → p ≡ code_or f k o p
+  nothing_there None h p = refl
+  nothing_there (Some m) h p = ap (λ b. cond b (code_in f (get nat_eq m k)) p) (sym h)
+
+  put_if : (functions : IndexMap ℕ Function) (b : Bool) → nat_eq n f ≡ b → is_some (old n) ≡ false → code_in f (get nat_eq functions k) ≡ ops_function k (ops_of f block) →
+      code_or f k (cond b (Some functions) (old f)) more ≡ code_or f k (old f) (with_one b)
+  put_if functions true e h same = same ∙ nothing_there (old f) (ap (λ m. is_some (old m)) (same_number n f e) ∙ h) (with_one true)
+  put_if functions false e h same = refl
+
+  -- and where none does
+  pub put_there : (functions : IndexMap ℕ Function) (new : Option (IndexMap ℕ Function)) → new ≡ cond (nat_eq n f) (Some functions) (old f) → is_some (old n) ≡ false →
+      code_in f (get nat_eq functions k) ≡ ops_function k (ops_of f block) → code_or f k new more ≡ code_or f k (old f) (with_one (nat_eq n f))
+  put_there functions new e h same = ap (λ o. code_or f k o more) e ∙ put_if functions (nat_eq n f) refl h same

@@ -1,5 +1,5 @@
 -- The functions of files, by the numbers of the files. Of files with the same number the first counts.
-use Rattle.std.specs.Prelude.{ℕ, ◌==◌, List, [], ◌∷◌, Option, Some, None, map as each, if◌then◌else◌}
+use Rattle.std.specs.Prelude.{ℕ, ◌==◌, List, [], ◌∷◌, None, map as each, if◌then◌else◌}
 use Rattle.code_spec.specs.Blocks.{Ops}
 use Rattle.star_blocks.specs.Nested.{ops_of}
 use Rattle.star_blocks.specs.declared.block.Op.{Op}
@@ -12,13 +12,8 @@ abbrev pub File : Type 0
 File = ℕ × List Op
 
 abbrev pub files_of : List FileBlock → List File
-files_of bs = each (λ b. (b.file, b.block.value)) bs
+files_of bs = each (λ b. (b.file, b.block)) bs
 
 abbrev pub known : List File → Table Ops
 known [] f k = None
 known (b ∷ bs) f k = if b.0 == f then ops_function k (ops_of f b.1) else known bs f k
-
--- the same with a program in front, where its blocks are closed as they should be
-abbrev pub with_blocks : (file : ℕ) → Option Ops → Table Ops → Table Ops
-with_blocks n None t = t
-with_blocks n (Some os) t = λ f k. if n == f then ops_function k os else t f k

@@ -14,19 +14,14 @@ use indexmap::IndexMap;
 use sqlite_items::Items;
 use star_blocks::Op;
 use std::alloc::Global;
+use std::rc::Rc;
 use ytt_base::text::Memory;
 
-/// The functions of a file: the first with each number.
-#[derive(Drop)]
-struct FileFunctions<'p> {
-    file: u32,
-    by_number: IndexMap<usize, Function<'p>>,
-}
-
-/// The functions of files. Of files with the same number the first counts.
+/// The functions of files, by the numbers of the files: of each file the first with each number. Of files with the same number the
+/// first counts. They are shared, so that one table serves all runs over the same files.
 #[derive(Drop)]
 pub struct Functions<'p> {
-    files: Items<FileFunctions<'p>>,
+    files: Rc<IndexMap<u32, IndexMap<usize, Function<'p>>>>,
 }
 
 /// The functions of a block by their numbers.
@@ -49,16 +44,16 @@ fn by_number<'p>(alloc: Global, block: &'p [Op]) -> Result<IndexMap<usize, Funct
 pub fn functions_of<'p>(alloc: Global, programs: &'p [FileBlock]) -> Result<Functions<'p>, Memory>
     ensures { IfOk result (λ fs. (file k : ℕ) → table_of fs file k ≡ known (files_of programs.now) file k) }
 {
-    let mut files = Items::new(alloc);
+    let mut files = IndexMap::new(alloc);
     let mut rest = programs;
     while let Some((first, more)) = rest.split_first() {
-        let by_number = by_number(alloc, first.block.as_ref().as_slice())?;
-        files.push(FileFunctions {
-            file: first.file,
-            by_number,
-        })?;
+        if !files.contains_key(&first.file) {
+            let functions = by_number(alloc, first.block.as_slice())?;
+            files.insert(first.file, functions)?;
+        }
         rest = more;
     }
+    let files = Rc::new(alloc, files)?;
     Ok(Functions { files })
 }
 
@@ -67,13 +62,16 @@ impl<'p> Functions<'p> {
     pub fn find(&self, file: u32, number: usize) -> Option<&Function<'p>>
         ensures { option_map (λ f. f.now.code) result ≡ code_with file number self.now }
     {
-        let mut rest = self.files.as_slice();
-        while let [first, more @ ..] = rest {
-            if first.file == file {
-                return first.by_number.get(&number);
-            }
-            rest = more;
-        }
-        None
+        let functions = self.files.as_ref().get(&file)?;
+        functions.get(&number)
+    }
+
+    /// The same functions, which are shared.
+    pub fn shared(&self) -> Result<Functions<'p>, Memory>
+        ensures { IfOk result (λ fs. (file k : ℕ) → table_of fs file k ≡ table_of self.now file k) }
+    {
+        Ok(Functions {
+            files: self.files.clone()?,
+        })
     }
 }

@@ -17,4 +17,4 @@ mod programs;
 
 pub use function::{Function, FunctionCode};
 pub use functions::{Functions, functions_of};
-pub use programs::{FileBlock, Programs, in_front, shared};
+pub use programs::FileBlock;
