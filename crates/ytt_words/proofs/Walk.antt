@@ -1,14 +1,16 @@
 -- How the options are read, one after another.
-use Rattle.std.proofs.Common.{◌≡◌, ◌≢◌, ℕ, ◌+◌, ◌≤◌, ◌<◌, Bool, true, false, cond, eqb, List, [], ◌∷◌, ◌++◌, length, map, Option, Some, None, Result, Ok, Err, Bor, unwrap_or, bytes_eq, refl, ap, sym, subst, ◌∙◌, arith, ⊎_elim, suc, append-nil}
+use Rattle.std.proofs.Common.{◌≡◌, ◌≢◌, ℕ, ◌+◌, ◌≤◌, ◌<◌, Bool, true, false, cond, eqb, List, [], ◌∷◌, ◌++◌, length, map, Option, Some, None, Result, Ok, Err, IfSome, unwrap_or, refl, ap, sym, subst, ◌∙◌, arith, ⊎_elim, suc, append-nil}
 use Rattle.std.proofs.lemmas.Bool.Decides.{eqb_tells}
 use Rattle.std.specs.List.{after_first, before_first, position_or_len}
 use Rattle.ytt_spec.proofs.Options.{asked_next, begun_follows, named_holds, next, values_of-append}
 use Rattle.ytt_spec.proofs.WordsRead.{request_read}
 use Rattle.ytt_spec.proofs.WrongWords.{wrong_words}
-use Rattle.ytt_spec.specs.Words.{Asked, wrong, CommandOption, Form, alone, apart, joined, Given, Often, exactly_once, at_most_once, added, asked, asked_from, asked_value, begun, command_options, depth_option, equals, file_option, ignore_option, is_number_to, may_follow, may_stand, most_depth, most_steps, name_in, number_of, steps_option, value_in, value_of, values_of}
+use Rattle.ytt_spec.specs.Words.{Asked, wrong, CommandOption, Form, alone, apart, joined, Given, at_most_once, added, asked, asked_from, asked_value, begun, command_options, depth_option, equals, file_option, ignore_option, is_for, long_file_option, Purpose, for_path, for_steps, for_depth, for_ignoring, is_depth, is_steps, may_follow, may_stand, name_in, named, number_of, steps_option, value_in, value_of, values_of}
 use Rattle.ytt_words.specs.Asks.{Asks, AsksFor, HaveRead, command_of, next_word, words_behind}
 use Rattle.ytt_words.specs.declared.words.Request.{Request}
 use Rattle.ytt_words.specs.declared.words.Values.{Values}
+use Rattle.ytt_words.specs.declared.words.WordsStop.{WordsStop}
+use Rattle.ytt_words.specs.declared.words.WordsStop.TheVariants as stop
 
 -- ---- a word, cut at its first `=`
 
@@ -36,65 +38,86 @@ cut_some (b ∷ bs) h = ⊎_elim
 
 -- ---- the options that were read
 
-none_before : (often : Often) (vs : List (List ℕ)) → may_follow often vs ≡ true → vs ≡ []
-none_before exactly_once [] h = refl
-none_before at_most_once [] h = refl
-none_before exactly_once (v ∷ vs) h = cc
-none_before at_most_once (v ∷ vs) h = cc
+none_before : (vs : List (List ℕ)) → may_follow at_most_once vs ≡ true → vs ≡ []
+none_before [] h = refl
+none_before (v ∷ vs) h = cc
 
--- no value of an option that isn't there, beside those that were read
-other_values : (name : List ℕ) (gs : List Given) (g : Given) → bytes_eq name g.name ≡ false → values_of name (gs ++ (g ∷ [])) ≡ values_of name gs
-other_values name gs g other = values_of-append name gs (g ∷ []) ∙ ap (λ b. values_of name gs ++ cond b (value_of g.form ∷ []) []) other ∙ append-nil (values_of name gs)
+-- what one option more has for this
+values_more : (purpose : Purpose) (gs : List Given) (name : List ℕ) (form : Form) (b : Bool) → is_for purpose (named name command_options) ≡ b → values_of purpose (added gs name form) ≡ values_of purpose gs ++ cond b (value_of form ∷ []) []
+values_more purpose gs name form b e = values_of-append purpose gs _ ∙ ap (λ b. values_of purpose gs ++ cond b (value_of form ∷ []) []) e
 
-other_number : (name : List ℕ) (gs : List Given) (g : Given) → bytes_eq name g.name ≡ false → map number_of (values_of name (gs ++ (g ∷ []))) ≡ map number_of (values_of name gs)
-other_number name gs g other = ap (map number_of) (other_values name gs g other)
+-- nothing where it is for something else
+other_values : (purpose : Purpose) (gs : List Given) (name : List ℕ) (form : Form) → is_for purpose (named name command_options) ≡ false → values_of purpose (added gs name form) ≡ values_of purpose gs
+other_values purpose gs name form other = values_more purpose gs name form false other ∙ append-nil (values_of purpose gs)
+
+other_number : (purpose : Purpose) (gs : List Given) (name : List ℕ) (form : Form) → is_for purpose (named name command_options) ≡ false → map number_of (values_of purpose (added gs name form)) ≡ map number_of (values_of purpose gs)
+other_number purpose gs name form other = ap (map number_of) (other_values purpose gs name form other)
 
 -- the value of an option beside those that were read
-pub file_read : (gs : List Given) (values : Values) (text : Bor (List ℕ)) → HaveRead gs values → may_follow exactly_once (values_of file_option.name gs) ≡ true
-    → HaveRead (added gs file_option.name (apart text.now)) (record values { path = Some text })
-file_read gs values text h f = record {
-  paths = values_of-append file_option.name gs _ ∙ ap (λ vs. vs ++ (text.now ∷ [])) (none_before exactly_once _ f);
-  steps = other_number steps_option.name gs _ refl ∙ h.steps;
-  depths = other_number depth_option.name gs _ refl ∙ h.depths;
-  flags = other_values ignore_option.name gs _ refl ∙ h.flags;
+path_read : (gs : List Given) (values : Values) (form : Form) → HaveRead gs values → HaveRead (added gs file_option.name form) (record values { paths = values.paths ++ value_of form ∷ [] })
+path_read gs values form h = record {
+  paths = values_more for_path gs file_option.name form true refl ∙ ap (λ vs. vs ++ (value_of form ∷ [])) h.paths;
+  steps = other_number for_steps gs file_option.name form refl ∙ h.steps;
+  depths = other_number for_depth gs file_option.name form refl ∙ h.depths;
+  flags = other_values for_ignoring gs file_option.name form refl ∙ h.flags;
 }
 
-number_read : (text : List ℕ) (n : ℕ) (b : Bool) → Some n ≡ cond b (Some (number_of text)) None → number_of text ≡ n
-number_read text n true e = cc
-number_read text n false e = cc
-
--- a number that stands once, by the name of its option and the most that it may be
-number_once : (most : ℕ) (name : List ℕ) (gs : List Given) (form : Form) (n : ℕ) → bytes_eq name name ≡ true → may_follow at_most_once (values_of name gs) ≡ true
-    → Some n ≡ cond (is_number_to most (value_of form)) (Some (number_of (value_of form))) None → map number_of (values_of name (added gs name form)) ≡ n ∷ []
-number_once most name gs form n itself f e =
-    ap (map number_of) (values_of-append name gs _ ∙ ap (λ vs. vs ++ values_of name (record { name = name; form = form } ∷ [])) (none_before at_most_once _ f) ∙ ap (λ b. cond b (value_of form ∷ []) []) itself)
-    ∙ ap (λ m. m ∷ []) (number_read (value_of form) n (is_number_to most (value_of form)) e)
-
-pub steps_read : (gs : List Given) (values : Values) (form : Form) (n : ℕ) → Some n ≡ cond (is_number_to most_steps (value_of form)) (Some (number_of (value_of form))) None → HaveRead gs values
-    → may_follow at_most_once (values_of steps_option.name gs) ≡ true → HaveRead (added gs steps_option.name form) (record values { steps = Some n })
-steps_read gs values form n e h f = record {
-  paths = other_values file_option.name gs _ refl ∙ h.paths;
-  steps = number_once most_steps steps_option.name gs form n refl f e;
-  depths = other_number depth_option.name gs _ refl ∙ h.depths;
-  flags = other_values ignore_option.name gs _ refl ∙ h.flags;
+long_path_read : (gs : List Given) (values : Values) (form : Form) → HaveRead gs values → HaveRead (added gs long_file_option.name form) (record values { paths = values.paths ++ value_of form ∷ [] })
+long_path_read gs values form h = record {
+  paths = values_more for_path gs long_file_option.name form true refl ∙ ap (λ vs. vs ++ (value_of form ∷ [])) h.paths;
+  steps = other_number for_steps gs long_file_option.name form refl ∙ h.steps;
+  depths = other_number for_depth gs long_file_option.name form refl ∙ h.depths;
+  flags = other_values for_ignoring gs long_file_option.name form refl ∙ h.flags;
 }
 
-pub depth_read : (gs : List Given) (values : Values) (form : Form) (n : ℕ) → Some n ≡ cond (is_number_to most_depth (value_of form)) (Some (number_of (value_of form))) None → HaveRead gs values
-    → may_follow at_most_once (values_of depth_option.name gs) ≡ true → HaveRead (added gs depth_option.name form) (record values { depth = Some n })
-depth_read gs values form n e h f = record {
-  paths = other_values file_option.name gs _ refl ∙ h.paths;
-  steps = other_number steps_option.name gs _ refl ∙ h.steps;
-  depths = number_once most_depth depth_option.name gs form n refl f e;
-  flags = other_values ignore_option.name gs _ refl ∙ h.flags;
+pub path_put : (values new : Values) (form : Form) → new ≡ record values { paths = values.paths ++ value_of form ∷ [] } → (gs : List Given) → HaveRead gs values → HaveRead (added gs file_option.name form) new
+path_put values new form e gs h = subst (HaveRead (added gs file_option.name form)) (sym e) (path_read gs values form h)
+
+pub long_path_put : (values new : Values) (form : Form) → new ≡ record values { paths = values.paths ++ value_of form ∷ [] } → (gs : List Given) → HaveRead gs values → HaveRead (added gs long_file_option.name form) new
+long_path_put values new form e gs h = subst (HaveRead (added gs long_file_option.name form)) (sym e) (long_path_read gs values form h)
+
+-- the values of an option that stands once
+once : (purpose : Purpose) (gs : List Given) (name : List ℕ) (form : Form) → is_for purpose (named name command_options) ≡ true → may_follow at_most_once (values_of purpose gs) ≡ true → values_of purpose (added gs name form) ≡ value_of form ∷ []
+once purpose gs name form is f = values_more purpose gs name form true is ∙ ap (λ vs. vs ++ (value_of form ∷ [])) (none_before (values_of purpose gs) f)
+
+steps_read : (gs : List Given) (values : Values) (form : Form) → HaveRead gs values → may_follow at_most_once (values_of for_steps gs) ≡ true
+    → HaveRead (added gs steps_option.name form) (record values { steps = Some (number_of (value_of form)) })
+steps_read gs values form h f = record {
+  paths = other_values for_path gs steps_option.name form refl ∙ h.paths;
+  steps = ap (map number_of) (once for_steps gs steps_option.name form refl f);
+  depths = other_number for_depth gs steps_option.name form refl ∙ h.depths;
+  flags = other_values for_ignoring gs steps_option.name form refl ∙ h.flags;
 }
 
-pub flag_read : (gs : List Given) (values : Values) → HaveRead gs values → may_follow at_most_once (values_of ignore_option.name gs) ≡ true → HaveRead (added gs ignore_option.name alone) (record values { ignore_unknown = true })
+depth_read : (gs : List Given) (values : Values) (form : Form) → HaveRead gs values → may_follow at_most_once (values_of for_depth gs) ≡ true
+    → HaveRead (added gs depth_option.name form) (record values { depth = Some (number_of (value_of form)) })
+depth_read gs values form h f = record {
+  paths = other_values for_path gs depth_option.name form refl ∙ h.paths;
+  steps = other_number for_steps gs depth_option.name form refl ∙ h.steps;
+  depths = ap (map number_of) (once for_depth gs depth_option.name form refl f);
+  flags = other_values for_ignoring gs depth_option.name form refl ∙ h.flags;
+}
+
+pub flag_read : (gs : List Given) (values : Values) → HaveRead gs values → may_follow at_most_once (values_of for_ignoring gs) ≡ true → HaveRead (added gs ignore_option.name alone) (record values { ignore_unknown = true })
 flag_read gs values h f = record {
-  paths = other_values file_option.name gs _ refl ∙ h.paths;
-  steps = other_number steps_option.name gs _ refl ∙ h.steps;
-  depths = other_number depth_option.name gs _ refl ∙ h.depths;
-  flags = values_of-append ignore_option.name gs _ ∙ ap (λ vs. vs ++ ([] ∷ [])) (none_before at_most_once _ f);
+  paths = other_values for_path gs ignore_option.name alone refl ∙ h.paths;
+  steps = other_number for_steps gs ignore_option.name alone refl ∙ h.steps;
+  depths = other_number for_depth gs ignore_option.name alone refl ∙ h.depths;
+  flags = once for_ignoring gs ignore_option.name alone refl f;
 }
+
+-- the same of what is put, where the text is a value
+put_one : (P : Values → Type 0) (r : Option Values) (new : Values) (b : Bool) → r ≡ cond b (Some new) None → P new → IfSome r P
+put_one P r new true e h = subst (λ s. IfSome s P) (sym e) h
+put_one P r new false e h = subst (λ s. IfSome s P) (sym e) tt
+
+pub steps_put : (values : Values) (form : Form) (r : Option Values) → r ≡ cond (is_steps (value_of form)) (Some (record values { steps = Some (number_of (value_of form)) })) None
+    → IfSome r (λ new. (gs : List Given) → HaveRead gs values → may_follow at_most_once (values_of for_steps gs) ≡ true → HaveRead (added gs steps_option.name form) new)
+steps_put values form r e = put_one _ r (record values { steps = Some (number_of (value_of form)) }) (is_steps (value_of form)) e (λ gs h f. steps_read gs values form h f)
+
+pub depth_put : (values : Values) (form : Form) (r : Option Values) → r ≡ cond (is_depth (value_of form)) (Some (record values { depth = Some (number_of (value_of form)) })) None
+    → IfSome r (λ new. (gs : List Given) → HaveRead gs values → may_follow at_most_once (values_of for_depth gs) ≡ true → HaveRead (added gs depth_option.name form) new)
+depth_put values form r e = put_one _ r (record values { depth = Some (number_of (value_of form)) }) (is_depth (value_of form)) e (λ gs h f. depth_read gs values form h f)
 
 -- ---- one option more
 
@@ -131,15 +154,14 @@ one_option n gs word words o t b e f h =
 -- behind an option that was read, the words go on with its value
 pub step_read : (n : ℕ) (gs : List Given) (word : List ℕ) (words : List (List ℕ)) (o : CommandOption) (t : Behind) (values new : Values) (name : List ℕ) (value : Option (List ℕ)) → name ≡ name_in word → value ≡ value_in word → HaveRead gs values
     → begun gs name ≡ Some o → words_behind o n value words ≡ Some t → may_stand o t.0 ≡ true
-    → ((hs : List Given) → HaveRead hs values → may_follow o.often (values_of o.name hs) ≡ true → HaveRead (added hs o.name t.0) new)
+    → ((hs : List Given) → HaveRead hs values → may_follow o.often (values_of o.purpose hs) ≡ true → HaveRead (added hs o.name t.0) new)
     → (hs : List Given) × HaveRead hs new × (asked_from (t.1 + 1) hs t.2 ≡ asked_from n gs (word ∷ words))
 step_read n gs word words o t values new name value named_is value_is read starts behind good put =
     let begins : begun gs (name_in word) ≡ Some o = ap (begun gs) (sym named_is) ∙ starts in
     let at = begun_follows gs (name_in word) o begins in
-    let is : o.name ≡ name_in word = (named_holds (λ (x : CommandOption). true) (name_in word) command_options o at.found refl).1 in
-    let follows : may_follow o.often (values_of o.name gs) ≡ true = ap (λ m. may_follow o.often (values_of m gs)) is ∙ at.follows in (
+    let is : o.name ≡ name_in word = (named_holds (λ (x : CommandOption). true) (name_in word) command_options o at.found refl).1 in (
       added gs (name_in word) t.0,
-      subst (λ (m : List ℕ). HaveRead (added gs m t.0) new) is (put gs read follows),
+      subst (λ (m : List ℕ). HaveRead (added gs m t.0) new) is (put gs read at.follows),
       sym (one_option n gs word words o t true begins (ap (λ v. words_behind o n v words) (sym value_is) ∙ behind) good),
     )
 
@@ -180,6 +202,7 @@ behind_fewer o n None words t e = by (may_stand o alone) e
 -- ---- all words
 
 -- what they ask for is a request, or which word is wrong
-pub asks_for : (words : List (List ℕ)) (r : Result Request ℕ) → Asks (asked words) r → AsksFor words r
+pub asks_for : (words : List (List ℕ)) (r : Result Request WordsStop) → Asks (asked words) r → AsksFor words r
 asks_for words (Ok r) e = request_read words (command_of r) e
-asks_for words (Err n) e = wrong_words words n e
+asks_for words (Err (stop.Wrong n)) e = wrong_words words n e
+asks_for words (Err stop.Memory) e = tt

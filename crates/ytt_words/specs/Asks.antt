@@ -2,8 +2,9 @@
 use Rattle.std.specs.Prelude.{◌≡◌, ℕ, ◌+◌, Bool, true, false, if◌then◌else◌, List, [], ◌∷◌, map, Option, Some, None, Result, Ok, Err, string_bytes}
 use Rattle.std.specs.Option.{option_map}
 use denote.Ref.{Bor}
+use Rattle.world_spec.specs.Parts.{Budget}
 use Rattle.ytt_spec.specs.Requests.{IsFirstWrong, IsRequest}
-use Rattle.ytt_spec.specs.Words.{Asked, Budget, Command, CommandOption, Form, Given, alone, apart, asked_for, depth_option, file_option, ignore_option, joined, may_stand, number_of, render, steps_option, values_of, wrong}
+use Rattle.ytt_spec.specs.Words.{Asked, Command, CommandOption, Form, Given, alone, apart, asked_for, depth_option, file_option, for_depth, for_ignoring, for_path, for_steps, ignore_option, joined, long_file_option, may_stand, number_of, render, steps_option, values_of, wrong}
 use Rattle.ytt_words.specs.declared.words.Budget.{Budget as BudgetRead}
 use Rattle.ytt_words.specs.declared.words.CommandOption.{CommandOption as Read}
 use Rattle.ytt_words.specs.declared.words.CommandOption.TheVariants as read
@@ -12,28 +13,33 @@ use Rattle.ytt_words.specs.declared.words.Form.TheVariants as form
 use Rattle.ytt_words.specs.declared.words.OptionWords.{OptionWords}
 use Rattle.ytt_words.specs.declared.words.Request.{Request}
 use Rattle.ytt_words.specs.declared.words.Values.{Values}
+use Rattle.ytt_words.specs.declared.words.WordsStop.{WordsStop}
+use Rattle.ytt_words.specs.declared.words.WordsStop.TheVariants as stop
 
 abbrev pub budget_of : BudgetRead → Budget
 budget_of b = record { steps = b.steps; depth = b.depth }
 
 -- the command of a request
 abbrev pub command_of : Request → Command
-command_of r = render (record { path = r.path.now; budget = budget_of r.budget; ignore_unknown = r.ignore_unknown })
+command_of r = render (record { paths = r.paths; budget = budget_of r.budget; ignore_unknown = r.ignore_unknown })
 
--- the command that is asked for, or the number of the wrong word
-abbrev pub Asks : Asked → Result Request ℕ → Type 0
+-- the command that is asked for, or the number of the wrong word; want of memory says nothing
+abbrev pub Asks : Asked → Result Request WordsStop → Type 0
 Asks asked (Ok r) = asked ≡ asked_for (command_of r)
-Asks asked (Err n) = asked ≡ wrong n
+Asks asked (Err (stop.Wrong n)) = asked ≡ wrong n
+Asks asked (Err stop.Memory) = Unit {0}
 
--- The words are a request for it, or no request, with the number of the first wrong one.
-abbrev pub AsksFor : List (List ℕ) → Result Request ℕ → Type 0
+-- The words are a request for it, or no request, with the number of the first wrong one; want of memory says nothing.
+abbrev pub AsksFor : List (List ℕ) → Result Request WordsStop → Type 0
 AsksFor words (Ok r) = IsRequest words (command_of r)
-AsksFor words (Err n) = IsFirstWrong words n
+AsksFor words (Err (stop.Wrong n)) = IsFirstWrong words n
+AsksFor words (Err stop.Memory) = Unit {0}
 
 -- ---- steps of the reading
 
 abbrev pub option_of : Read → CommandOption
 option_of read.File = file_option
+option_of read.LongFile = long_file_option
 option_of read.Steps = steps_option
 option_of read.Depth = depth_option
 option_of read.IgnoreUnknown = ignore_option
@@ -57,10 +63,10 @@ flag_values false = []
 
 -- these are the values of the options that were read
 pub record HaveRead (gs : List Given) (values : Values) : Type 0 where
-  pub paths : values_of file_option.name gs ≡ one_or_none (text_in values.path)
-  pub steps : map number_of (values_of steps_option.name gs) ≡ one_or_none values.steps
-  pub depths : map number_of (values_of depth_option.name gs) ≡ one_or_none values.depth
-  pub flags : values_of ignore_option.name gs ≡ flag_values values.ignore_unknown
+  pub paths : values_of for_path gs ≡ values.paths
+  pub steps : map number_of (values_of for_steps gs) ≡ one_or_none values.steps
+  pub depths : map number_of (values_of for_depth gs) ≡ one_or_none values.depth
+  pub flags : values_of for_ignoring gs ≡ flag_values values.ignore_unknown
 
 abbrev pub seen_words : OptionWords → Form × ℕ × List (List ℕ)
 seen_words w = (form_of w.form, w.last, map string_bytes w.behind.now)

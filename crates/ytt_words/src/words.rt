@@ -1,9 +1,13 @@
 // The words of a command line.
-ghost use Rattle.std.specs.Prelude.{◌≡◌, ◌≤◌, ◌<◌, ◌^◌, ◌+◌, ◌-◌, [], Bool, IfSome, false, IsNone, List, length, map, None, Some, true, if◌then◌else◌, string_bytes};
+ghost use Rattle.std.specs.Prelude.{◌≡◌, ◌≤◌, ◌<◌, ◌^◌, ◌+◌, ◌-◌, ◌++◌, ◌∷◌, [], Bool, IfOk, IfSome, false, IsNone, List, length, map, None, Some, true, if◌then◌else◌, string_bytes};
 ghost use Rattle.std.specs.Option.{option_map};
 ghost use Rattle.std.specs.Str.{all_ascii_digits};
 ghost use Rattle.ytt_spec.specs.Words.{Given, added, alone, asked, asked_from, begun, command_options, is_depth, is_number, is_number_to, is_path, is_steps, may_follow, may_stand, name_in, named, number_of, value_in, values_of};
 ghost use Rattle.ytt_words.specs.Asks.{Asks, AsksFor, HaveRead, form_of, option_of, seen_words, text_in, words_behind};
+
+use sqlite_items::Items;
+use std::alloc::Global;
+use ytt_base::text::{Memory, Names, Text};
 
 /// How far a run may go.
 #[derive(Clone, Copy)]
@@ -15,21 +19,42 @@ pub struct Budget {
 }
 
 /// What the words ask for.
-#[derive(Clone, Copy)]
-pub struct Request<'a> {
-    /// The path of the file to render.
-    pub path: &'a str,
+#[derive(Drop)]
+pub struct Request {
+    /// The paths of the files and folders to render, in their order; there is one at least.
+    pub paths: Names,
     /// How far that may go.
     pub budget: Budget,
     /// Whether comments of no known form may stand in a template.
     pub ignore_unknown: bool,
 }
 
-/// An option of the command.
+/// Why the words ask for nothing.
+#[derive(Clone, Copy)]
+pub enum WordsStop {
+    /// The number, from 1, of the first word at which no request goes on.
+    Wrong(u64),
+    Memory,
+}
+
+impl From<Memory> for WordsStop {
+    ghost use Rattle.std.specs.Prelude.{◌≡◌};
+    ghost use Rattle.ytt_words.specs.declared.words.WordsStop.TheVariants as stop;
+
+    ghost from_gives = { λ _ s. s ≡ stop.Memory };
+
+    fn from(_: Memory) -> Self {
+        WordsStop::Memory
+    }
+}
+
+/// An option of the command, by one of its names.
 #[derive(Clone, Copy)]
 pub enum CommandOption {
-    /// `-f`, exactly once.
+    /// `-f`. It gives a path, as `--file` does, and one of them stands at least once.
     File,
+    /// `--file`.
+    LongFile,
     /// `--steps`, at most once.
     Steps,
     /// `--depth`, at most once.
@@ -49,9 +74,9 @@ pub enum Form<'a> {
 }
 
 /// The values of the options that were read.
-#[derive(Clone, Copy)]
-pub struct Values<'a> {
-    pub path: Option<&'a str>,
+#[derive(Drop)]
+pub struct Values {
+    pub paths: Names,
     pub steps: Option<u64>,
     pub depth: Option<u32>,
     pub ignore_unknown: bool,
@@ -158,6 +183,9 @@ fn named(name: &str) -> Option<CommandOption>
     if name == "-f" {
         return Some(CommandOption::File);
     }
+    if name == "--file" {
+        return Some(CommandOption::LongFile);
+    }
     if name == "--steps" {
         return Some(CommandOption::Steps);
     }
@@ -171,11 +199,11 @@ fn named(name: &str) -> Option<CommandOption>
 }
 
 /// Whether the option may stand once more.
-fn may_follow(option: CommandOption, values: Values<'_>) -> bool
-    ensures { (gs : List Given) → HaveRead gs values.entry → result ≡ may_follow (option_of option).often (values_of (option_of option).name gs) }
+fn may_follow(option: CommandOption, values: &Values) -> bool
+    ensures { (gs : List Given) → HaveRead gs values.now → result ≡ may_follow (option_of option).often (values_of (option_of option).purpose gs) }
 {
     match option {
-        CommandOption::File => values.path.is_none(),
+        CommandOption::File | CommandOption::LongFile => true,
         CommandOption::Steps => values.steps.is_none(),
         CommandOption::Depth => values.depth.is_none(),
         CommandOption::IgnoreUnknown => !values.ignore_unknown,
@@ -183,8 +211,8 @@ fn may_follow(option: CommandOption, values: Values<'_>) -> bool
 }
 
 /// The option of this name, where it may stand behind those that were read.
-fn begun(name: &str, values: Values<'_>) -> Option<CommandOption>
-    ensures { (gs : List Given) → HaveRead gs values.entry → option_map option_of result ≡ begun gs name.now }
+fn begun(name: &str, values: &Values) -> Option<CommandOption>
+    ensures { (gs : List Given) → HaveRead gs values.now → option_map option_of result ≡ begun gs name.now }
 {
     let option = named(name)?;
     if may_follow(option, values) {
@@ -198,7 +226,10 @@ fn is_flag(option: CommandOption) -> bool
     ensures { result ≡ may_stand (option_of option) alone }
 {
     match option {
-        CommandOption::File | CommandOption::Steps | CommandOption::Depth => false,
+        CommandOption::File
+        | CommandOption::LongFile
+        | CommandOption::Steps
+        | CommandOption::Depth => false,
         CommandOption::IgnoreUnknown => true,
     }
 }
@@ -236,40 +267,75 @@ fn words_of<'a>(
     })
 }
 
+/// The values with one path more, behind the others.
+fn with_path(alloc: Global, mut values: Values, path: &str) -> Result<Values, Memory>
+    ensures { IfOk result (λ new. new ≡ record values { paths = values.paths ++ path.now ∷ [] }) }
+{
+    values.paths.push(Text::of(alloc, path)?)?;
+    Ok(values)
+}
+
+/// The values with the number of steps that a text gives, if it gives one.
+fn with_steps(values: Values, text: &str) -> Option<Values>
+    ensures { result ≡ (if is_steps text.now then Some (record values { steps = Some (number_of text.now) }) else None) }
+{
+    let steps = read_steps(text)?;
+    Some(Values {
+        steps: Some(steps),
+        ..values
+    })
+}
+
+/// The values with the depth that a text gives, if it gives one.
+fn with_depth(values: Values, text: &str) -> Option<Values>
+    ensures { result ≡ (if is_depth text.now then Some (record values { depth = Some (number_of text.now) }) else None) }
+{
+    let depth = read_depth(text)?;
+    Some(Values {
+        depth: Some(depth),
+        ..values
+    })
+}
+
 /// The values with the option's own, or `None` where the option may not stand so.
-fn put<'a>(values: Values<'a>, option: CommandOption, form: Form<'a>) -> Option<Values<'a>>
-    ensures refused { IsNone result → may_stand (option_of option) (form_of form.entry) ≡ false }
-    ensures good { IfSome result (λ new. may_stand (option_of option) (form_of form.entry) ≡ true) }
-    ensures put { IfSome result (λ new. (gs : List Given) → HaveRead gs values.entry → may_follow (option_of option).often (values_of (option_of option).name gs) ≡ true → HaveRead (added gs (option_of option).name (form_of form.entry)) new) }
+fn put(
+    alloc: Global,
+    values: Values,
+    option: CommandOption,
+    form: Form<'_>,
+) -> Result<Option<Values>, Memory>
+    ensures refused { IfOk result (λ put. IsNone put → may_stand (option_of option) (form_of form.entry) ≡ false) }
+    ensures good { IfOk result (λ put. IfSome put (λ new. may_stand (option_of option) (form_of form.entry) ≡ true)) }
+    ensures put { IfOk result (λ put. IfSome put (λ new. (gs : List Given) → HaveRead gs values → may_follow (option_of option).often (values_of (option_of option).purpose gs) ≡ true → HaveRead (added gs (option_of option).name (form_of form.entry)) new)) }
 {
     match (option, form) {
-        (CommandOption::File, Form::Apart(path)) if is_path(path) => Some(Values {
-            path: Some(path),
-            ..values
-        }),
-        (CommandOption::Steps, Form::Apart(text) | Form::Joined(text)) => Some(Values {
-            steps: Some(read_steps(text)?),
-            ..values
-        }),
-        (CommandOption::Depth, Form::Apart(text) | Form::Joined(text)) => Some(Values {
-            depth: Some(read_depth(text)?),
-            ..values
-        }),
-        (CommandOption::IgnoreUnknown, Form::Alone) => Some(Values {
+        (CommandOption::File, Form::Apart(path)) if is_path(path) => {
+            Ok(Some(with_path(alloc, values, path)?))
+        }
+        (CommandOption::LongFile, Form::Apart(path) | Form::Joined(path)) if is_path(path) => {
+            Ok(Some(with_path(alloc, values, path)?))
+        }
+        (CommandOption::Steps, Form::Apart(text) | Form::Joined(text)) => {
+            Ok(with_steps(values, text))
+        }
+        (CommandOption::Depth, Form::Apart(text) | Form::Joined(text)) => {
+            Ok(with_depth(values, text))
+        }
+        (CommandOption::IgnoreUnknown, Form::Alone) => Ok(Some(Values {
             ignore_unknown: true,
             ..values
-        }),
-        _ => None,
+        })),
+        _ => Ok(None),
     }
 }
 
 /// What the options from word number `first` on ask for, or the number of the wrong word.
-fn read_options(words: &[String], first: u64) -> Result<Request<'_>, u64>
+fn read_options(alloc: Global, words: &[String], first: u64) -> Result<Request, WordsStop>
     requires { first ≤ 2 }
     ensures { Asks (asked_from first [] (map string_bytes words.now)) result }
 {
     let mut values = Values {
-        path: None,
+        paths: Items::new(alloc),
         steps: None,
         depth: None,
         ignore_unknown: false,
@@ -278,44 +344,47 @@ fn read_options(words: &[String], first: u64) -> Result<Request<'_>, u64>
     let mut number = first;
     while let Some((word, more)) = rest.split_first() {
         let (name, joined) = cut_word(word.as_str());
-        let Some(option) = begun(name, values) else {
-            return Err(number);
+        let Some(option) = begun(name, &values) else {
+            return Err(WordsStop::Wrong(number));
         };
         let Some(words) = words_of(option, number, joined, more) else {
-            return Err(number + 1);
+            return Err(WordsStop::Wrong(number + 1));
         };
-        let Some(new) = put(values, option, words.form) else {
-            return Err(words.last);
+        let Some(new) = put(alloc, values, option, words.form)? else {
+            return Err(WordsStop::Wrong(words.last));
         };
         values = new;
         rest = words.behind;
         number = words.last + 1;
     }
-    match values.path {
-        None => Err(number),
-        Some(path) => Ok(Request {
-            path,
-            budget: Budget {
-                steps: values.steps.unwrap_or(DEFAULT_STEPS),
-                depth: values.depth.unwrap_or(DEFAULT_DEPTH),
-            },
-            ignore_unknown: values.ignore_unknown,
-        }),
+    if values.paths.is_empty() {
+        return Err(WordsStop::Wrong(number));
     }
+    Ok(Request {
+        paths: values.paths,
+        budget: Budget {
+            steps: values.steps.unwrap_or(DEFAULT_STEPS),
+            depth: values.depth.unwrap_or(DEFAULT_DEPTH),
+        },
+        ignore_unknown: values.ignore_unknown,
+    })
 }
 
-/// What the words ask for, or the number, from 1, of the first word at which no request goes on.
-pub fn read_words(words: &[String]) -> Result<Request<'_>, u64>
+/// What the words ask for: the paths in their order, the budget and the flag.
+///
+/// `Wrong` has the number, from 1, of the first word at which no request goes on, and `Memory` says that there was no room, and
+/// nothing of the words.
+pub fn read_words(alloc: Global, words: &[String]) -> Result<Request, WordsStop>
     ensures asked { Asks (asked (map string_bytes words.now)) result }
     ensures spelled { AsksFor (map string_bytes words.now) result }
 {
     match words.split_first() {
-        None => Err(1),
+        None => Err(WordsStop::Wrong(1)),
         Some((command, more)) => {
             if command.as_str() == "render" {
-                return read_options(more, 2);
+                return read_options(alloc, more, 2);
             }
-            read_options(words, 1)
+            read_options(alloc, words, 1)
         }
     }
 }

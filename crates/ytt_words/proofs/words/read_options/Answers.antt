@@ -15,9 +15,11 @@ loop-word-preserved c =
     let read_words = c.in-Some-words_of.words in
     let split : map string_bytes c.loop-word.rest.now ≡ c.as_str.result.now ∷ words = search rules in
     let behind = sym c.words_of.ensures ∙ ap (option_map seen_words) c.in-Some-words_of.is in
+    let good = rw c.in-Some-2.is at c.in_ok-new.ensures.good in
+    let put = rw c.in-Some-2.is at c.in_ok-new.ensures.put in
     let step =
-    step_read c.loop-word.number gs c.as_str.result.now words option (seen_words read_words) c.loop-word.values c.in-Some-put.new _ _ c.cut_word.ensures.name c.cut_word.ensures.value read
-    (sym (c.begun.ensures gs read) ∙ ap (option_map option_of) c.in-Some-begun.is) behind c.in-Some-put.ensures.good c.in-Some-put.ensures.put in
+    step_read c.loop-word.number gs c.as_str.result.now words option (seen_words read_words) c.loop-word.values c.in-Some-2.new _ _ c.cut_word.ensures.name c.cut_word.ensures.value read
+    (sym (c.begun.ensures gs read) ∙ ap (option_map option_of) c.in-Some-begun.is) behind good put in
     let counted : read_words.last + length (map string_bytes read_words.behind.now) ≡ c.loop-word.number + length words = number_behind option c.loop-word.number _ words (seen_words read_words) behind in
     let behind_words : length (map string_bytes read_words.behind.now) ≡ length read_words.behind.now = length-map read_words.behind.now string_bytes in
     let more : length words ≡ length c.in-Some.more.now = length-map c.in-Some.more.now string_bytes in
