@@ -1,10 +1,12 @@
 // The functions of files by their numbers.
-ghost use Rattle.std.specs.Prelude.{◌≡◌, ℕ, IfOk, nat_eq};
+ghost use Rattle.std.specs.Prelude.{◌≡◌, ℕ, IfOk, OnOk, Option, nat_eq};
 ghost use Rattle.std.specs.Option.{option_map};
 ghost use Rattle.indexmap.specs.IndexMap.{get};
+ghost use Rattle.code_spec.specs.Blocks.{Ops};
 ghost use Rattle.star_blocks.specs.Nested.{ops_of};
-ghost use Rattle.star_functions.specs.Known.{files_of, known};
-ghost use Rattle.star_functions.specs.Table.{code_in, code_with, table_of};
+ghost use Rattle.star_spec.specs.Calls.{Code};
+ghost use Rattle.star_functions.specs.Known.{blocks_in, files_of, known, known_before};
+ghost use Rattle.star_functions.specs.Table.{code_in, code_or, code_with, table_of};
 ghost use Rattle.template_meaning.specs.Calls.{ops_function};
 
 use crate::blocks::find_in_block;
@@ -40,18 +42,29 @@ fn by_number<'p>(alloc: Global, block: &'p [Op]) -> Result<IndexMap<usize, Funct
     Ok(by_number)
 }
 
+/// The functions of one file more, unless one with its number stands already.
+fn put<'p>(
+    alloc: Global,
+    files: &mut IndexMap<u32, IndexMap<usize, Function<'p>>>,
+    program: &'p FileBlock,
+) -> Result<(), Memory>
+    ensures { OnOk result ((f k : ℕ) (more : Option (Code Ops)) → code_or f k (get nat_eq files.new f) more ≡ code_or f k (get nat_eq files.old f) (known_before program.now f k more)) }
+{
+    if files.contains_key(&program.file) {
+        return Ok(());
+    }
+    let functions = by_number(alloc, program.block.as_slice())?;
+    files.insert(program.file, functions)?;
+    Ok(())
+}
+
 /// The functions of these files.
-pub fn functions_of<'p>(alloc: Global, programs: &'p [FileBlock]) -> Result<Functions<'p>, Memory>
-    ensures { IfOk result (λ fs. (file k : ℕ) → table_of fs file k ≡ known (files_of programs.now) file k) }
+pub fn functions_of<'p>(alloc: Global, programs: &[&'p FileBlock]) -> Result<Functions<'p>, Memory>
+    ensures { IfOk result (λ fs. (file k : ℕ) → table_of fs file k ≡ known (files_of (blocks_in programs.now)) file k) }
 {
     let mut files = IndexMap::new(alloc);
-    let mut rest = programs;
-    while let Some((first, more)) = rest.split_first() {
-        if !files.contains_key(&first.file) {
-            let functions = by_number(alloc, first.block.as_slice())?;
-            files.insert(first.file, functions)?;
-        }
-        rest = more;
+    for program in programs {
+        put(alloc, &mut files, program)?;
     }
     let files = Rc::new(alloc, files)?;
     Ok(Functions { files })
