@@ -1,5 +1,5 @@
 -- How the calls of this crate end, from the arena and the steps that there were to those that are left.
-use Rattle.std.specs.Prelude.{◌≡◌, ◌∷◌, ℕ, List, Option, None, Result, String, string_bytes}
+use Rattle.std.specs.Prelude.{◌≡◌, ℕ, List, Option, None, Result, String, string_bytes}
 use Rattle.std.specs.Borrow.{Bor}
 use Rattle.star_shown.specs.Pushes.{Texts, behind}
 use Rattle.star_steps.specs.Names.{Computation, Gives, Meets, Place, Stop, Value, View, as_is, as_text, fail, give, state_in, text_value, value_of, values_of}

@@ -1,8 +1,7 @@
 // The cost of an operation.
 ghost use Rattle.std.specs.Prelude.{◌≡◌, ◌∷◌, ◌+◌, ◌/◌, ℕ};
-ghost use Rattle.star_steps.specs.Names.{Meets, Owns, OwnsAll, as_is, seen, state_in, value_of, values_of};
-ghost use Rattle.text_spec.specs.Answers.{bytes_in, paid_operation};
-ghost use Rattle.value_spec.specs.Outcomes.{give};
+ghost use Rattle.star_steps.specs.Names.{Owns, OwnsAll, seen, value_of};
+ghost use Rattle.text_spec.specs.Answers.{bytes_in};
 ghost use Rattle.star_text.specs.Calls.{PaysOperation};
 ghost use Rattle.star_text.specs.View.{IsCost, IsCount};
 

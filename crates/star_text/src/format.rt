@@ -1,16 +1,14 @@
 // The method `format`.
-ghost use Rattle.std.specs.Prelude.{◌≡◌, false, ◌+◌, ◌^◌, ◌++◌, ◌<◌, ◌≤◌, ◌∷◌, ℕ, IfOk, List, MatchOption, length, string_bytes};
-ghost use Rattle.star_steps.specs.Names.{Gives, Meets, Owns, OwnsAll, seen, slice_get, state_in, text_value, value_of, values_from, values_of};
+ghost use Rattle.std.specs.Prelude.{◌≡◌, false, ◌+◌, ◌^◌, ◌++◌, ◌<◌, ◌≤◌, ◌∷◌, ℕ, IfOk, MatchOption, length, string_bytes};
+ghost use Rattle.star_steps.specs.Names.{Meets, Owns, OwnsAll, seen, slice_get, state_in, values_of};
 ghost use Rattle.star_values.specs.Owns.{OwnsArguments, OwnsFields, OwnsOption};
-ghost use Rattle.star_values.specs.View.{View, arguments_in, fields_in, option_in};
+ghost use Rattle.star_values.specs.View.{View, fields_in, option_in};
 ghost use Rattle.star_values.specs.declared.value.Value.TheVariants as value;
 ghost use Rattle.text_spec.specs.Fields.{at_place, begins, format, none_met, values_of_fields};
 ghost use Rattle.text_spec.specs.Fields as fields;
 ghost use Rattle.value_spec.specs.Binding.{field_of};
 ghost use Rattle.value_spec.specs.Outcomes.{fail_with};
-ghost use Rattle.value_spec.specs.Values as plain;
 ghost use Rattle.ytt_base.specs.declared.fault.FaultKind.TheVariants as kind;
-ghost use Rattle.star_shown.specs.Pushes.{behind};
 ghost use Rattle.star_text.specs.ByName.{HasFirstIfAny};
 ghost use Rattle.star_text.specs.Calls.{FieldsGoOn, Fills, FillsField, Finds, FindsFor, GivesWith, MeetsFrom, formatted_once};
 ghost use Rattle.star_text.specs.Formatting.{HasNoBrace, IsCut, IsPlace, brace, formatted_here, met_in, value_and_met};

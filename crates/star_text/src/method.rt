@@ -1,13 +1,9 @@
 // A call of a method of a text.
-ghost use Rattle.std.specs.Prelude.{◌≡◌, ℕ, List, None};
-ghost use Rattle.star_steps.specs.Names.{Gives, Meets, Owns, OwnsAll, seen, state_in, text_value, value_of, values_of};
+ghost use Rattle.std.specs.Prelude.{◌≡◌};
+ghost use Rattle.star_steps.specs.Names.{Owns, OwnsAll, seen};
 ghost use Rattle.star_values.specs.Owns.{OwnsArguments};
-ghost use Rattle.star_values.specs.View.{arguments_in};
 ghost use Rattle.star_values.specs.declared.value.Value.TheVariants as value;
-ghost use Rattle.text_spec.specs.Methods.{method_answer, method_in, method_row, row_of, text_method, text_methods};
-ghost use Rattle.value_spec.specs.Members.{as_text};
-ghost use Rattle.value_spec.specs.Outcomes.{fail};
-ghost use Rattle.ytt_base.specs.declared.fault.FaultKind.TheVariants as kind;
+ghost use Rattle.text_spec.specs.Methods.{method_in, method_row, row_of, text_method, text_methods};
 ghost use Rattle.star_text.specs.Calls.{GivesWith, MethodAnswers, RefusesOther};
 ghost use Rattle.star_text.specs.View.{method_of};
 

@@ -1,16 +1,11 @@
 // `%` with a text at the left.
 ghost use Rattle.std.specs.Fmt.{digit_glyph, digits_onto};
-ghost use Rattle.std.specs.Prelude.{◌≡◌, ◌<◌, ◌≤◌, ◌++◌, ◌∷◌, [], ℕ, IfOk, List, MatchOption, None, OnOk, length, string_bytes};
-ghost use Rattle.star_steps.specs.Names.{Gives, Meets, Owns, OwnsAll, seen, state_in, text_value, value_of, values_of};
+ghost use Rattle.std.specs.Prelude.{◌≡◌, ◌<◌, ◌≤◌, ◌++◌, ◌∷◌, [], IfOk, MatchOption, OnOk, length, string_bytes};
+ghost use Rattle.star_steps.specs.Names.{Owns, OwnsAll, seen, value_of, values_of};
 ghost use Rattle.star_values.specs.declared.value.Value.TheVariants as value;
-ghost use Rattle.text_spec.specs.Percent.{by_next, conversion_of, converted, filled, in_base, no_conversion, percent_row, values_for};
+ghost use Rattle.text_spec.specs.Percent.{conversion_of, converted, filled, in_base, no_conversion, percent_row, values_for};
 ghost use Rattle.star_text.specs.Calls.{ConversionGoesOn, ConversionsGoOn, Fills, GivesOf, MeetsFrom, RefusesOther};
 ghost use Rattle.star_text.specs.Filling.{BeginsHigh, IsConversion, NoConversion, conversion_in, is_of_float, takes_value};
-ghost use Rattle.value_spec.specs.Members.{as_text};
-ghost use Rattle.value_spec.specs.Outcomes.{Computation, fail};
-ghost use Rattle.ytt_base.specs.declared.fault.FaultKind.TheVariants as kind;
-ghost use Rattle.value_spec.specs.Values as plain;
-ghost use Rattle.star_shown.specs.Pushes.{behind};
 
 use crate::costs::pay_operation;
 use object_arena::{Arena, Ref, Value, Work};

@@ -1,13 +1,12 @@
 // What each method answers.
 ghost use Rattle.std.specs.Prelude.{◌≡◌, ◌<◌, IfOk, [], ◌∷◌, length};
 ghost use Rattle.text_spec.specs.Answers.{text_tuple};
-ghost use Rattle.text_spec.specs.Methods.{join_row, lines_row, parts_at, replace_row, some_of, split_row, strip_row};
+ghost use Rattle.text_spec.specs.Methods.{join_row, parts_at, replace_row, some_of, split_row, strip_row};
 ghost use Rattle.text_spec.specs.Cutting.{pieces, pieces_back, words, words_back};
 ghost use Rattle.text_spec.specs.Places.{first_place, last_place};
-ghost use Rattle.text_spec.specs.Signatures as read;
 ghost use Rattle.text_spec.specs.Texts.{texts_of};
 ghost use Rattle.text_words.specs.Sets.{IsCharacterSet, characters_in};
-ghost use Rattle.star_text.specs.View.{IsSeparated, answer_of, at_end, changed_by, method_of, operand_of, operands_of, passes, stripped_at};
+ghost use Rattle.star_text.specs.View.{IsSeparated, answer_of, at_end, changed_by, method_of, operands_of, passes, stripped_at};
 
 use crate::answers::Answer;
 use crate::kinds::{Operand, Operands, bool_in, text_in, texts_in};
