@@ -1,8 +1,8 @@
 // The cost of an operation.
 ghost use Rattle.std.specs.Prelude.{◌≡◌, ◌∷◌, ◌+◌, ◌/◌, ℕ};
-ghost use Rattle.star_steps.specs.Names.{Meets, Owns, OwnsAll, as_is, seen, state_in, value_of, values_of};
-ghost use Rattle.text_spec.specs.Answers.{bytes_in, paid_operation};
-ghost use Rattle.value_spec.specs.Outcomes.{give};
+ghost use Rattle.star_steps.specs.Names.{Owns, OwnsAll, seen, value_of};
+ghost use Rattle.text_spec.specs.Answers.{bytes_in};
+ghost use Rattle.star_text.specs.Calls.{PaysOperation};
 ghost use Rattle.star_text.specs.View.{IsCost, IsCount};
 
 use object_arena::{Arena, Value};
@@ -26,7 +26,7 @@ pub fn pay_operation(
 ) -> Paid
     requires value { Owns (seen arena.now) value }
     requires others { OwnsAll (seen arena.now) others.now }
-    ensures { (b m : ℕ) → IsCount bytes b → IsCount members m → Meets as_is result (state_in (seen arena.now) steps.new) (paid_operation place (value_of (seen arena.now) value ∷ values_of (seen arena.now) others.now) b m (give tt) (state_in (seen arena.now) steps.old)) }
+    ensures { PaysOperation (seen arena.now) place (value ∷ others.now) bytes members result steps.old steps.new }
 {
     let mut all_bytes = and(bytes, byte_count(arena, value));
     let mut all_members = and(members, member_count(arena, value));

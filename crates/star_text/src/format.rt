@@ -1,19 +1,17 @@
 // The method `format`.
-ghost use Rattle.std.specs.Prelude.{◌≡◌, false, ◌+◌, ◌^◌, ◌++◌, ◌<◌, ◌≤◌, ◌∷◌, ℕ, IfOk, List, MatchOption, length, string_bytes};
-ghost use Rattle.star_steps.specs.Names.{Gives, Meets, Owns, OwnsAll, seen, slice_get, state_in, text_value, value_of, values_from, values_of};
+ghost use Rattle.std.specs.Prelude.{◌≡◌, false, ◌+◌, ◌^◌, ◌++◌, ◌<◌, ◌≤◌, ◌∷◌, ℕ, IfOk, MatchOption, length, string_bytes};
+ghost use Rattle.star_steps.specs.Names.{Meets, Owns, OwnsAll, seen, slice_get, state_in, values_of};
 ghost use Rattle.star_values.specs.Owns.{OwnsArguments, OwnsFields, OwnsOption};
-ghost use Rattle.star_values.specs.View.{View, arguments_in, fields_in, option_in};
+ghost use Rattle.star_values.specs.View.{View, fields_in, option_in};
 ghost use Rattle.star_values.specs.declared.value.Value.TheVariants as value;
 ghost use Rattle.text_spec.specs.Fields.{at_place, begins, format, none_met, values_of_fields};
 ghost use Rattle.text_spec.specs.Fields as fields;
 ghost use Rattle.value_spec.specs.Binding.{field_of};
 ghost use Rattle.value_spec.specs.Outcomes.{fail_with};
-ghost use Rattle.value_spec.specs.Values as plain;
 ghost use Rattle.ytt_base.specs.declared.fault.FaultKind.TheVariants as kind;
-ghost use Rattle.star_shown.specs.Pushes.{behind};
 ghost use Rattle.star_text.specs.ByName.{HasFirstIfAny};
-ghost use Rattle.star_text.specs.Filling.{GoesOn};
-ghost use Rattle.star_text.specs.Formatting.{HasNoBrace, IsCut, IsPlace, IsWhich, argument_here, brace, filled_here, formatted_here, met_in, unless_twice, value_and_met};
+ghost use Rattle.star_text.specs.Calls.{FieldsGoOn, Fills, FillsField, Finds, FindsFor, GivesWith, MeetsFrom, formatted_once};
+ghost use Rattle.star_text.specs.Formatting.{HasNoBrace, IsCut, IsPlace, brace, formatted_here, met_in, value_and_met};
 
 use crate::by_name::ByName;
 use crate::costs::pay_operation;
@@ -90,7 +88,7 @@ fn by_number(
     met: Met,
 ) -> Result<(Value, Met), Stop>
     requires { OwnsAll (seen arena.now) values.now }
-    ensures found { (k n : ℕ) → IsPlace at k → Meets (value_and_met (seen arena.now)) result (state_in (seen arena.now) n) (at_place place k (met_in met) (values_of (seen arena.now) values.now) (state_in (seen arena.now) n)) }
+    ensures found { (k : ℕ) → IsPlace at k → Finds (seen arena.now) result (at_place place k (met_in met) (values_of (seen arena.now) values.now)) }
     ensures owned { IfOk result (λ q. Owns (seen arena.now) q.0) }
 {
     match numbered_value(values, at) {
@@ -109,7 +107,7 @@ fn argument_for(
 ) -> Result<(Value, Met), Stop>
     requires args { OwnsArguments (seen arena.now) args.now.given.now }
     requires first { HasFirstIfAny args.now.values args.now.given.now.named }
-    ensures found { (w : fields.Which) (n : ℕ) → IsWhich which.entry w → Meets (value_and_met (seen arena.now)) result (state_in (seen arena.now) n) (argument_here (seen arena.now) place args.now.given.now (met_in met) w (state_in (seen arena.now) n)) }
+    ensures found { FindsFor (seen arena.now) place args.now.given.now met which.entry result }
     ensures owned { IfOk result (λ q. Owns (seen arena.now) q.0) }
 {
     let values = args.given.positional.as_slice();
@@ -129,7 +127,7 @@ fn argument_for(
 /// The argument of the next turn.
 fn by_turn(arena: &Arena, place: Place, values: &[Value], turn: usize) -> Result<(Value, Met), Stop>
     requires { OwnsAll (seen arena.now) values.now }
-    ensures found { (n : ℕ) → Meets (value_and_met (seen arena.now)) result (state_in (seen arena.now) n) (at_place place turn (fields.by_turn (turn + 1)) (values_of (seen arena.now) values.now) (state_in (seen arena.now) n)) }
+    ensures found { Finds (seen arena.now) result (at_place place turn (fields.by_turn (turn + 1)) (values_of (seen arena.now) values.now)) }
     ensures owned { IfOk result (λ q. Owns (seen arena.now) q.0) }
 {
     match numbered_value(values, Some(turn)) {
@@ -152,7 +150,7 @@ fn fill_field(
 ) -> Result<Met, Stop>
     requires args { OwnsArguments (seen arena.now) args.now.given.now }
     requires first { HasFirstIfAny args.now.values args.now.given.now.named }
-    ensures { Meets (λ m. (string_bytes made.new, met_in m)) result (state_in (seen arena.now) steps.new) (filled_here (seen arena.now) place args.now.given.now (string_bytes made.old) (met_in met) (fields.field_in field.now) (state_in (seen arena.now) steps.old)) }
+    ensures { FillsField (seen arena.now) place args.now.given.now met (fields.field_in field.now) result made.old made.new steps.old steps.new }
 {
     let (which, conversion) = field_in(field);
     match conversion {
@@ -207,7 +205,7 @@ fn fill_opened<'t>(
     requires args { OwnsArguments (seen arena.now) args.now.given.now }
     requires first { HasFirstIfAny args.now.values args.now.given.now.named }
     requires single { begins 123 text.now ≡ false }
-    ensures goes { GoesOn result (behind (string_bytes made.old) (formatted_here (seen arena.now) place args.now.given.now (met_in met) (123 ∷ text.now)) (state_in (seen arena.now) steps.old)) (λ q. behind (string_bytes made.new) (formatted_here (seen arena.now) place args.now.given.now (met_in q.1) q.0.now) (state_in (seen arena.now) steps.new)) (state_in (seen arena.now) steps.new) }
+    ensures goes { FieldsGoOn (seen arena.now) place args.now.given.now met (123 ∷ text.now) result made.old made.new steps.old steps.new }
     ensures shorter { IfOk result (λ q. length q.0.now ≤ length text.now) }
 {
     match text.split_once('}') {
@@ -232,7 +230,7 @@ fn fill_brace<'t>(
 ) -> Result<(&'t str, Met), Stop>
     requires args { OwnsArguments (seen arena.now) args.now.given.now }
     requires first { HasFirstIfAny args.now.values args.now.given.now.named }
-    ensures goes { GoesOn result (behind (string_bytes made.old) (formatted_here (seen arena.now) place args.now.given.now (met_in met) (brace opens ∷ text.now)) (state_in (seen arena.now) steps.old)) (λ q. behind (string_bytes made.new) (formatted_here (seen arena.now) place args.now.given.now (met_in q.1) q.0.now) (state_in (seen arena.now) steps.new)) (state_in (seen arena.now) steps.new) }
+    ensures goes { FieldsGoOn (seen arena.now) place args.now.given.now met (brace opens ∷ text.now) result made.old made.new steps.old steps.new }
     ensures shorter { IfOk result (λ q. length q.0.now ≤ length text.now) }
 {
     match behind_brace(opens, text) {
@@ -261,7 +259,7 @@ fn fill(
 ) -> Filled
     requires args { OwnsArguments (seen arena.now) args.now.given.now }
     requires first { HasFirstIfAny args.now.values args.now.given.now.named }
-    ensures { Meets (λ u. string_bytes made.new) result (state_in (seen arena.now) steps.new) (behind (string_bytes made.old) (formatted_here (seen arena.now) place args.now.given.now none_met text.now) (state_in (seen arena.now) steps.old)) }
+    ensures { Fills (seen arena.now) result (formatted_here (seen arena.now) place args.now.given.now none_met text.now) made.old made.new steps.old steps.new }
 {
     let mut rest = text;
     let mut met = Met::Nothing;
@@ -301,7 +299,7 @@ fn formatted(
     steps: &mut u64,
 ) -> Result<String, Stop>
     requires { OwnsArguments (seen arena.now) args.now }
-    ensures { Meets string_bytes result (state_in (seen arena.now) steps.new) (unless_twice (seen arena.now) place args.now (formatted_here (seen arena.now) place args.now none_met text.now) (state_in (seen arena.now) steps.old)) }
+    ensures { MeetsFrom (seen arena.now) string_bytes result (formatted_once (seen arena.now) place args.now text.now) steps.old steps.new }
 {
     let twice = has_twice(arena.alloc(), args.named.as_slice())?;
     if twice {
@@ -326,7 +324,7 @@ pub(crate) fn format(
 ) -> Given
     requires text { Owns (seen arena.old) (value.Text text) }
     requires args { OwnsArguments (seen arena.old) args }
-    ensures { (t : List ℕ) → value_of (seen arena.old) (value.Text text) ≡ text_value t → Gives (format place t (arguments_in (seen arena.old).held args) (state_in (seen arena.old) steps.old)) result (seen arena.old) (seen arena.new) steps.new }
+    ensures { GivesWith (value.Text text) (format place) args result (seen arena.old) (seen arena.new) steps.old steps.new }
 {
     let made = formatted(arena, place, arena.text(text).as_str(), &args, steps)?;
     let values = all_values(args)?;

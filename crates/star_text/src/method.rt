@@ -1,14 +1,11 @@
 // A call of a method of a text.
-ghost use Rattle.std.specs.Prelude.{◌≡◌, ℕ, List, None};
-ghost use Rattle.star_steps.specs.Names.{Gives, Meets, Owns, OwnsAll, seen, state_in, text_value, value_of, values_of};
+ghost use Rattle.std.specs.Prelude.{◌≡◌};
+ghost use Rattle.star_steps.specs.Names.{Owns, OwnsAll, seen};
 ghost use Rattle.star_values.specs.Owns.{OwnsArguments};
-ghost use Rattle.star_values.specs.View.{arguments_in};
 ghost use Rattle.star_values.specs.declared.value.Value.TheVariants as value;
-ghost use Rattle.text_spec.specs.Methods.{method_answer, method_in, method_row, row_of, text_method, text_methods};
-ghost use Rattle.value_spec.specs.Members.{as_text};
-ghost use Rattle.value_spec.specs.Outcomes.{fail};
-ghost use Rattle.ytt_base.specs.declared.fault.FaultKind.TheVariants as kind;
-ghost use Rattle.star_text.specs.View.{made_of, method_of};
+ghost use Rattle.text_spec.specs.Methods.{method_in, method_row, row_of, text_method, text_methods};
+ghost use Rattle.star_text.specs.Calls.{GivesWith, MethodAnswers, RefusesOther};
+ghost use Rattle.star_text.specs.View.{method_of};
 
 use crate::answers::{Made, answer_bytes, answer_members, give, owned};
 use crate::costs::pay_operation;
@@ -34,7 +31,7 @@ fn call(
 ) -> Given
     requires text { Owns (seen arena.old) (value.Text text) }
     requires args { OwnsArguments (seen arena.old) args }
-    ensures { (t : List ℕ) → value_of (seen arena.old) (value.Text text) ≡ text_value t → Gives (method_row place (method_of method) t (arguments_in (seen arena.old).held args) (state_in (seen arena.old) steps.old)) result (seen arena.old) (seen arena.new) steps.new }
+    ensures { GivesWith (value.Text text) (method_row place (method_of method)) args result (seen arena.old) (seen arena.new) steps.old steps.new }
 {
     let signature = signature_of(method);
     let values = bind_named(arena, signature.needed, signature.optional, args, place)?;
@@ -53,7 +50,7 @@ fn answered(
 ) -> Result<Made, Stop>
     requires text { Owns (seen arena.now) (value.Text text) }
     requires values { OwnsAll (seen arena.now) values.now }
-    ensures { (t : List ℕ) → value_of (seen arena.now) (value.Text text) ≡ text_value t → Meets made_of result (state_in (seen arena.now) steps.new) (method_answer place (method_of method) t (values_of (seen arena.now) values.now) (state_in (seen arena.now) steps.old)) }
+    ensures { MethodAnswers (seen arena.now) place method (value.Text text) values.now result steps.old steps.new }
 {
     let kinds = signature_of(method).kinds;
     let operands = match read_operands(arena, kinds, values)? {
@@ -90,8 +87,8 @@ pub fn text_method(
 ) -> Given
     requires on { Owns (seen arena.old) on }
     requires args { OwnsArguments (seen arena.old) args }
-    ensures row { (t : List ℕ) → value_of (seen arena.old) on ≡ text_value t → Gives (text_method at name.now t (arguments_in (seen arena.old).held args) (state_in (seen arena.old) work.old.steps)) result (seen arena.old) (seen arena.new) work.new.steps }
-    ensures other { as_text (value_of (seen arena.old) on) ≡ None → Gives (fail kind.ValueKind at (state_in (seen arena.old) work.old.steps)) result (seen arena.old) (seen arena.new) work.new.steps }
+    ensures row { GivesWith on (text_method at name.now) args result (seen arena.old) (seen arena.new) work.old.steps work.new.steps }
+    ensures other { RefusesOther on at result (seen arena.old) (seen arena.new) work.old.steps work.new.steps }
     ensures depth { work.new.depth ≡ work.old.depth }
 {
     match on {
@@ -110,7 +107,7 @@ fn by_name(
 ) -> Given
     requires text { Owns (seen arena.old) (value.Text text) }
     requires args { OwnsArguments (seen arena.old) args }
-    ensures { (t : List ℕ) → value_of (seen arena.old) (value.Text text) ≡ text_value t → Gives (text_method place name.now t (arguments_in (seen arena.old).held args) (state_in (seen arena.old) steps.old)) result (seen arena.old) (seen arena.new) steps.new }
+    ensures { GivesWith (value.Text text) (text_method place name.now) args result (seen arena.old) (seen arena.new) steps.old steps.new }
 {
     if name.as_str() == "format" {
         format(arena, place, text, args, steps)
@@ -130,7 +127,7 @@ fn by_table(
 ) -> Given
     requires text { Owns (seen arena.old) (value.Text text) }
     requires args { OwnsArguments (seen arena.old) args }
-    ensures { (t : List ℕ) → value_of (seen arena.old) (value.Text text) ≡ text_value t → Gives (row_of place name.now (method_in name.now text_methods) t (arguments_in (seen arena.old).held args) (state_in (seen arena.old) steps.old)) result (seen arena.old) (seen arena.new) steps.new }
+    ensures { GivesWith (value.Text text) (row_of place name.now (method_in name.now text_methods)) args result (seen arena.old) (seen arena.new) steps.old steps.new }
 {
     match method_named(name.as_str()) {
         Some(method) => call(arena, place, method, text, args, steps),

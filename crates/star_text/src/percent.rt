@@ -1,15 +1,11 @@
 // `%` with a text at the left.
 ghost use Rattle.std.specs.Fmt.{digit_glyph, digits_onto};
-ghost use Rattle.std.specs.Prelude.{◌≡◌, ◌<◌, ◌≤◌, ◌++◌, ◌∷◌, [], ℕ, IfOk, List, MatchOption, None, OnOk, length, string_bytes};
-ghost use Rattle.star_steps.specs.Names.{Gives, Meets, Owns, OwnsAll, seen, state_in, text_value, value_of, values_of};
+ghost use Rattle.std.specs.Prelude.{◌≡◌, ◌<◌, ◌≤◌, ◌++◌, ◌∷◌, [], IfOk, MatchOption, OnOk, length, string_bytes};
+ghost use Rattle.star_steps.specs.Names.{Owns, OwnsAll, seen, value_of, values_of};
 ghost use Rattle.star_values.specs.declared.value.Value.TheVariants as value;
-ghost use Rattle.text_spec.specs.Percent.{by_next, conversion_of, converted, filled, in_base, no_conversion, percent_row, values_for};
-ghost use Rattle.star_text.specs.Filling.{BeginsHigh, GoesOn, IsConversion, NoConversion, conversion_in, is_of_float, takes_value};
-ghost use Rattle.value_spec.specs.Members.{as_text};
-ghost use Rattle.value_spec.specs.Outcomes.{Computation, fail};
-ghost use Rattle.ytt_base.specs.declared.fault.FaultKind.TheVariants as kind;
-ghost use Rattle.value_spec.specs.Values as plain;
-ghost use Rattle.star_shown.specs.Pushes.{behind};
+ghost use Rattle.text_spec.specs.Percent.{conversion_of, converted, filled, in_base, no_conversion, percent_row, values_for};
+ghost use Rattle.star_text.specs.Calls.{ConversionGoesOn, ConversionsGoOn, Fills, GivesOf, MeetsFrom, RefusesOther};
+ghost use Rattle.star_text.specs.Filling.{BeginsHigh, IsConversion, NoConversion, conversion_in, is_of_float, takes_value};
 
 use crate::costs::pay_operation;
 use object_arena::{Arena, Ref, Value, Work};
@@ -47,8 +43,8 @@ pub fn text_percent(
 ) -> Given
     requires on { Owns (seen arena.old) on }
     requires operand { Owns (seen arena.old) operand }
-    ensures row { (t : List ℕ) → value_of (seen arena.old) on ≡ text_value t → Gives (percent_row at t (value_of (seen arena.old) operand) (state_in (seen arena.old) work.old.steps)) result (seen arena.old) (seen arena.new) work.new.steps }
-    ensures other { as_text (value_of (seen arena.old) on) ≡ None → Gives (fail kind.ValueKind at (state_in (seen arena.old) work.old.steps)) result (seen arena.old) (seen arena.new) work.new.steps }
+    ensures row { GivesOf on (λ t. percent_row at t (value_of (seen arena.old) operand)) result (seen arena.old) (seen arena.new) work.old.steps work.new.steps }
+    ensures other { RefusesOther on at result (seen arena.old) (seen arena.new) work.old.steps work.new.steps }
     ensures depth { work.new.depth ≡ work.old.depth }
 {
     match on {
@@ -61,7 +57,7 @@ pub fn text_percent(
 fn percent(arena: &mut Arena, place: Place, text: Ref, operand: Value, steps: &mut u64) -> Given
     requires text { Owns (seen arena.old) (value.Text text) }
     requires operand { Owns (seen arena.old) operand }
-    ensures { (t : List ℕ) → value_of (seen arena.old) (value.Text text) ≡ text_value t → Gives (percent_row place t (value_of (seen arena.old) operand) (state_in (seen arena.old) steps.old)) result (seen arena.old) (seen arena.new) steps.new }
+    ensures { GivesOf (value.Text text) (λ t. percent_row place t (value_of (seen arena.old) operand)) result (seen arena.old) (seen arena.new) steps.old steps.new }
 {
     let made = filled_by(arena, place, arena.text(text).as_str(), operand, steps)?;
     let bytes = Some(made.len() as u128);
@@ -86,7 +82,7 @@ fn filled_by(
     steps: &mut u64,
 ) -> Result<String, Stop>
     requires { Owns (seen arena.now) operand }
-    ensures { Meets string_bytes result (state_in (seen arena.now) steps.new) (filled place text.now (values_for (value_of (seen arena.now) operand)) (state_in (seen arena.now) steps.old)) }
+    ensures { MeetsFrom (seen arena.now) string_bytes result (filled place text.now (values_for (value_of (seen arena.now) operand))) steps.old steps.new }
 {
     match operand {
         Value::Tuple(tuple) => filled_with(arena, place, text, tuple_members(arena, tuple), steps),
@@ -103,7 +99,7 @@ fn filled_with(
     steps: &mut u64,
 ) -> Result<String, Stop>
     requires { OwnsAll (seen arena.now) values.now }
-    ensures { Meets string_bytes result (state_in (seen arena.now) steps.new) (filled place text.now (values_of (seen arena.now) values.now) (state_in (seen arena.now) steps.old)) }
+    ensures { MeetsFrom (seen arena.now) string_bytes result (filled place text.now (values_of (seen arena.now) values.now)) steps.old steps.new }
 {
     let mut made = String::new(arena.alloc());
     fill(arena, place, text, values, &mut made, steps)?;
@@ -120,7 +116,7 @@ fn fill(
     steps: &mut u64,
 ) -> Filled
     requires { OwnsAll (seen arena.now) values.now }
-    ensures { Meets (λ u. string_bytes made.new) result (state_in (seen arena.now) steps.new) (behind (string_bytes made.old) (filled place text.now (values_of (seen arena.now) values.now)) (state_in (seen arena.now) steps.old)) }
+    ensures { Fills (seen arena.now) result (filled place text.now (values_of (seen arena.now) values.now)) made.old made.new steps.old steps.new }
 {
     let mut rest = text;
     let mut left = values;
@@ -147,7 +143,7 @@ fn convert<'t, 'v>(
     steps: &mut u64,
 ) -> Result<(&'t str, &'v [Value]), Stop>
     requires { OwnsAll (seen arena.now) values.now }
-    ensures goes { GoesOn result (behind (string_bytes made.old) (filled place (37 ∷ text.now) (values_of (seen arena.now) values.now)) (state_in (seen arena.now) steps.old)) (λ q. behind (string_bytes made.new) (filled place q.0.now (values_of (seen arena.now) q.1.now)) (state_in (seen arena.now) steps.new)) (state_in (seen arena.now) steps.new) }
+    ensures goes { ConversionsGoOn (seen arena.now) place (37 ∷ text.now) values.now result made.old made.new steps.old steps.new }
     ensures owned { IfOk result (λ q. OwnsAll (seen arena.now) q.1.now) }
     ensures shorter { IfOk result (λ q. length q.0.now < length text.now) }
 {
@@ -190,7 +186,7 @@ fn convert_next<'v>(
     steps: &mut u64,
 ) -> Result<&'v [Value], Stop>
     requires { OwnsAll (seen arena.now) values.now }
-    ensures goes { (rest : List plain.Value → Computation (Unit {0}) (List ℕ)) → GoesOn result (behind (string_bytes made.old) (by_next place (conversion_in conversion) (values_of (seen arena.now) values.now) rest) (state_in (seen arena.now) steps.old)) (λ vs. behind (string_bytes made.new) (rest (values_of (seen arena.now) vs.now)) (state_in (seen arena.now) steps.new)) (state_in (seen arena.now) steps.new) }
+    ensures goes { ConversionGoesOn (seen arena.now) place conversion values.now result made.old made.new steps.old steps.new }
     ensures owned { IfOk result (λ vs. OwnsAll (seen arena.now) vs.now) }
 {
     match values.split_first() {
@@ -258,7 +254,7 @@ pub(crate) fn push_converted(
     steps: &mut u64,
 ) -> Filled
     requires { Owns (seen arena.now) value }
-    ensures { Meets (λ u. string_bytes made.new) result (state_in (seen arena.now) steps.new) (behind (string_bytes made.old) (converted place (conversion_in conversion) (value_of (seen arena.now) value)) (state_in (seen arena.now) steps.old)) }
+    ensures { Fills (seen arena.now) result (converted place (conversion_in conversion) (value_of (seen arena.now) value)) made.old made.new steps.old steps.new }
 {
     match (conversion, value) {
         (Conversion::Str, _) => push_str(arena, place, value, made, steps),

@@ -1,14 +1,12 @@
 // What each method answers.
-ghost use Rattle.std.specs.Prelude.{◌≡◌, ◌<◌, ℕ, IfOk, IfSome, List, [], ◌∷◌, length};
+ghost use Rattle.std.specs.Prelude.{◌≡◌, ◌<◌, IfOk, [], ◌∷◌, length};
 ghost use Rattle.text_spec.specs.Answers.{text_tuple};
-ghost use Rattle.text_spec.specs.Methods.{join_row, lines_row, parts_at, replace_row, some_of, split_row, strip_row};
-ghost use Rattle.text_spec.specs.Classes.{characters};
+ghost use Rattle.text_spec.specs.Methods.{join_row, parts_at, replace_row, some_of, split_row, strip_row};
 ghost use Rattle.text_spec.specs.Cutting.{pieces, pieces_back, words, words_back};
 ghost use Rattle.text_spec.specs.Places.{first_place, last_place};
-ghost use Rattle.text_spec.specs.Signatures as read;
 ghost use Rattle.text_spec.specs.Texts.{texts_of};
-ghost use Rattle.text_words.specs.Strips.{set_of};
-ghost use Rattle.star_text.specs.View.{IsSeparated, answer_of, at_end, changed_by, method_of, operand_of, operands_of, passes, stripped_at};
+ghost use Rattle.text_words.specs.Sets.{IsCharacterSet, characters_in};
+ghost use Rattle.star_text.specs.View.{IsSeparated, answer_of, at_end, changed_by, method_of, operands_of, passes, stripped_at};
 
 use crate::answers::Answer;
 use crate::kinds::{Operand, Operands, bool_in, text_in, texts_in};
@@ -21,8 +19,8 @@ use text_pieces::{
     without_prefix, without_suffix,
 };
 use text_words::{
-    Class, capitalized, is_all, is_lower, is_upper, lines, lowered, stripped_back, stripped_front,
-    uppered, words, words_back,
+    CharacterSet, Class, capitalized, is_all, is_lower, is_upper, lines, lowered, stripped_back,
+    stripped_front, uppered, words, words_back,
 };
 use ytt_base::text::{Memory, Text};
 
@@ -155,16 +153,20 @@ fn strip<'a>(alloc: Global, end: End, text: &'a str, operands: &Operands<'a>) ->
 {
     match &operands.first {
         Operand::Text(set) => {
-            let set = characters(alloc, *set)?;
-            Ok(Answer::Part(stripped(end, Some(set.as_slice()), text)))
+            let characters = characters(alloc, *set)?;
+            let set = CharacterSet::of(alloc, Some(characters.as_slice()))?;
+            Ok(Answer::Part(stripped(end, &set, text)))
         }
-        _ => Ok(Answer::Part(stripped(end, None, text))),
+        _ => {
+            let set = CharacterSet::of(alloc, None)?;
+            Ok(Answer::Part(stripped(end, &set, text)))
+        }
     }
 }
 
-fn stripped<'a>(end: End, set: Option<&[&str]>, text: &'a str) -> &'a str
-    requires { IfSome set (λ cs. (t : List ℕ) × (texts_of cs.now ≡ characters t)) }
-    ensures { result.now ≡ stripped_at end (set_of set.entry) text.now }
+fn stripped<'a>(end: End, set: &CharacterSet, text: &'a str) -> &'a str
+    requires { IsCharacterSet set.now }
+    ensures { result.now ≡ stripped_at end (characters_in set.now) text.now }
 {
     match end {
         End::Front => stripped_front(set, text),

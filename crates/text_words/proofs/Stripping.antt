@@ -11,7 +11,7 @@ use Rattle.text_spec.specs.Places.{ends_with}
 use Rattle.text_spec.proofs.Ends.{ends, ends_is}
 use Rattle.text_words.specs.declared.runs.End.{End}
 use Rattle.text_words.specs.declared.runs.End.TheVariants.{Front, Back}
-use Rattle.text_words.specs.Strips.{AreFull, cut_at, cut_one, strip_at}
+use Rattle.text_words.specs.Strips.{AreCharacters, cut_at, cut_one, strip_at}
 
 -- ---- one text at an end
 
@@ -74,15 +74,15 @@ strips_done end cs t r so h = by so.count so.same where
 
 -- ---- characters
 
-fuller : (b : ℕ) (cs : List (List ℕ)) → AreFull cs → AreFull (to_front b cs)
-fuller b [] h = (omega arith, tt)
-fuller b ([] ∷ cs) h = (omega arith, h.1)
-fuller b ((x ∷ c) ∷ cs) h = by (is_inner x) refl where
-  by : (v : Bool) → is_inner x ≡ v → AreFull (to_front b ((x ∷ c) ∷ cs))
-  by true e = rw e (omega arith, h.1)
-  by false e = rw e (omega arith, h)
+to_front_character : (b : ℕ) (cs : List (List ℕ)) → AreCharacters cs → AreCharacters (to_front b cs)
+to_front_character b [] h = ((omega arith, tt), tt)
+to_front_character b ([] ∷ cs) h = ((omega arith, tt), h.1)
+to_front_character b ((x ∷ c) ∷ cs) h = by (is_inner x) refl where
+  by : (v : Bool) → is_inner x ≡ v → AreCharacters (to_front b ((x ∷ c) ∷ cs))
+  by true e = rw e ((omega arith, (e, h.0.1)), h.1)
+  by false e = rw e ((omega arith, tt), h)
 
--- no character is empty
-pub are_full : (t : List ℕ) → AreFull (characters t)
-are_full [] = tt
-are_full (b ∷ t) = fuller b (characters t) (are_full t)
+-- what a text is taken apart into are characters
+pub are_characters : (t : List ℕ) → AreCharacters (characters t)
+are_characters [] = tt
+are_characters (b ∷ t) = to_front_character b (characters t) (are_characters t)

@@ -1,3 +1,4 @@
 pub mod Ends
+pub mod Sets
 pub mod Strips
 pub mod Tests

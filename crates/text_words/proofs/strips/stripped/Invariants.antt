@@ -1,11 +1,11 @@
 use Rattle.std.proofs.Common.{IsUtf8, length}
-use Rattle.text_spec.specs.Texts.{texts_of}
+use Rattle.text_words.specs.Sets.{characters_in}
 use Rattle.text_words.proofs.Stripping.{StripsSoFar}
 use Rattle.text_words.proofs.strips.stripped.Given as goal
 
 abbrev pub invariant-loop-left : goal.invariant-loop-left
 invariant-loop-left l = record {
-  so : StripsSoFar l.end (texts_of l.set) l.text l.rest;
+  so : StripsSoFar l.end (characters_in l.set) l.text l.rest;
   utf8 : IsUtf8 l.rest;
 }
 

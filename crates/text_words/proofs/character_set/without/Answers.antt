@@ -1,5 +1,5 @@
 use Rattle.text_words.proofs.Stripping.{cut_prefix, cut_suffix}
-use Rattle.text_words.proofs.strips.without.Goals as goal
+use Rattle.text_words.proofs.character_set.without.Goals as goal
 
 pub returns-in-Front-clause-cut : goal.returns-in-Front-clause-cut
 returns-in-Front-clause-cut c = rw c.in-Front.is (cut_prefix c.args.part.now c.args.text.now c.strip_prefix.result c.strip_prefix.ensures.cases)
