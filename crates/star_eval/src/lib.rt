@@ -5,8 +5,8 @@
 //! and programs that goes on from one call to the next, and `call_function` what a value of the session gives that is called. Natives that
 //! aren't the language's own are a `Host`'s, of whom the loop asks what they answer. Calls stand in frames too, also those that natives
 //! ask for, and code of one file may call functions of another. Frames are seen as plain data (`specs/Waiting`), and each step
-//! keeps what the machine stands for (`specs/Frames`), the host's answers being told in (`specs/Hosted`). What parts of nodes build is
-//! `node_build`'s.
+//! keeps what the machine stands for (`specs/Frames`), the host's answers being told in (`specs/Hosted`); the words that its contracts
+//! speak in are in `specs/Seen`. What parts of nodes build is `node_build`'s.
 #![tactic(auto)]
 
 mod arguments;
