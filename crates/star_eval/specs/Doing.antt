@@ -296,6 +296,10 @@ arms_done c (arm e os bs) k = evaluated c e >>= λ v. truth_of v >>= λ holds. i
 abbrev pub branched : Setting → Ops → Arms → Value → Part Here Nodes
 branched c os bs v k = truth_of v >>= λ holds. if holds then through c os k else arms_done c bs k
 
+-- a new function, which its name gets
+abbrev pub defined : Setting → Making → Parameters → Part Here Nodes
+defined c k ps ns = making c k ps [] >>= λ f. concluded (write_name k.place k.name f (box_of k.name c.env)) ns
+
 -- where a statement takes its step
 abbrev pub op_place : Op → Option Place
 op_place (op_part o) = None
@@ -310,7 +314,7 @@ done_after c p (op_part o) k = ill_formed
 done_after c p (op_statement s) k = stated c p s k
 done_after c p (op_if q branches) k = arms_done c branches k
 done_after c p (op_for q x e body) k = evaluated c e >>= λ v. looped c p x (through c body) v k
-done_after c p (op_def q number fragment x ps body) k = making c (record { place = p; name = x; number = number }) ps [] >>= λ f. concluded (write_name p x f (box_of x c.env)) k
+done_after c p (op_def q number fragment x ps body) k = defined c (record { place = p; name = x; number = number }) ps k
 
 -- ---- parts of nodes
 

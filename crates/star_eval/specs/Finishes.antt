@@ -4,16 +4,22 @@ use Rattle.ytt_base.specs.declared.fault.Fault.{Fault}
 use Rattle.ytt_base.specs.declared.fault.Stop.{Stop}
 use Rattle.ytt_base.specs.declared.fault.Stop.TheVariants as stop
 use Rattle.node_build.specs.View.{OwnsNodes, nodes_of}
+use Rattle.node_build.specs.declared.builder.Builder.{Builder}
+use Rattle.star_blocks.specs.Nested.{ops_of}
+use Rattle.star_blocks.specs.declared.block.Op.{Op}
 use Rattle.star_functions.specs.declared.functions.Functions.{Functions}
+use Rattle.star_spec.specs.Eval.{starlark}
 use Rattle.star_spec.specs.Flow.{Flow}
 use Rattle.star_values.specs.Objects.{env_in}
 use Rattle.star_values.specs.Owns.{Grows, OwnsBuilt, OwnsEnv, OwnsFields}
 use Rattle.star_values.specs.View.{View, arguments_in, built_in, value_of}
+use Rattle.star_values.specs.declared.object.NamedBox.{NamedBox}
 use Rattle.star_values.specs.declared.value.CallArgs.{CallArgs}
 use Rattle.star_values.specs.declared.value.NamedValue.{NamedValue}
 use Rattle.star_values.specs.declared.value.Value as held_value
 use Rattle.template_meaning.specs.Calls.{bottom_children}
 use Rattle.template_meaning.specs.Files.{FileResult as PlainResult, Globals, ended}
+use Rattle.template_meaning.specs.Run.{runs}
 use Rattle.value_spec.specs.Outcomes.{Ending, done}
 use Rattle.value_spec.specs.Values.{Children, Env, Value}
 use Rattle.ytt_base.specs.declared.fault.Place.{Place}
@@ -21,7 +27,9 @@ use Rattle.star_eval.specs.Calling.{calls_at}
 use Rattle.star_eval.specs.Doing.{Nodes}
 use Rattle.star_eval.specs.Frames.{flow_ending_of, value_ending_of}
 use Rattle.star_eval.specs.Meets.{Here, arena_of, state_of}
+use Rattle.star_eval.specs.Scope.{variables_in}
 use Rattle.star_eval.specs.declared.file.FileResult.{FileResult}
+use Rattle.star_eval.specs.declared.frame.Code.{Code}
 use Rattle.star_eval.specs.declared.frame.Flow as held
 use Rattle.star_eval.specs.declared.looped.Called.{Called}
 use Rattle.star_eval.specs.declared.looped.Finished.{Finished}
@@ -34,6 +42,10 @@ block_ending e = flow_ending_of (arena_of e.session) e.result (nodes_of (arena_o
 -- how a call ended
 abbrev pub call_ending : Called → Ending Here Value
 call_ending e = value_ending_of (arena_of e.session) e.result (state_of e.session)
+
+-- a block of this code that runs in a session, in this scope and with these open nodes
+abbrev pub block_run : Code → (depth : ℕ) → List Op → List NamedBox → Builder → Session → Ending Here (Flow Nodes)
+block_run code d os scope nodes s = runs starlark (calls_at code.functions d) (ops_of code.file os) (variables_in s scope) (nodes_of (arena_of s) nodes) (state_of s)
 
 -- a call of a value in a session, where these functions are known
 abbrev pub called : Functions → (depth : ℕ) → Place → held_value.Value → CallArgs → Session → Ending Here Value

@@ -93,15 +93,19 @@ pub record Goes (a : View) (m : Machine) (c : Control) (before : Final) : Type 0
   pub owned : OwnsControl (arena_in m) c
   pub grows : Grows a (arena_in m)
 
+-- what a call leaves goes on to this
+abbrev pub GoesTo : {E : Type 0} → Result Control E → (after before : Machine) → Final → Type 0
+GoesTo r n m f = IfOk r (λ c. Goes (arena_in m) n c f)
+
 -- a call goes on to what comes of a value's computation, of a part of a block, or of a comprehension, in what waited
 abbrev pub GoesToValue : {E : Type 0} → Result Control E → (after before : Machine) → Computation Here plain.Value → Type 0
-GoesToValue r n m f = IfOk r (λ c. Goes (arena_in m) n c (around_value m (waiting_in m) (f (state_of m.session))))
+GoesToValue r n m f = GoesTo r n m (around_value m (waiting_in m) (f (state_of m.session)))
 
 abbrev pub GoesToFlow : {E : Type 0} → Result Control E → (after before : Machine) → Computation Here (Flow Nodes) → Type 0
-GoesToFlow r n m f = IfOk r (λ c. Goes (arena_in m) n c (around_flow m (waiting_in m) (f (state_of m.session))))
+GoesToFlow r n m f = GoesTo r n m (around_flow m (waiting_in m) (f (state_of m.session)))
 
 abbrev pub GoesToBag : {E : Type 0} → Result Control E → (after before : Machine) → Computation Here (Flow Bag) → Type 0
-GoesToBag r n m f = IfOk r (λ c. Goes (arena_in m) n c (around_bag m (waiting_in m) (f (state_of m.session))))
+GoesToBag r n m f = GoesTo r n m (around_bag m (waiting_in m) (f (state_of m.session)))
 
 -- this value, with so many steps left, is what an expression comes to, and nothing else changes
 pub record Known (m : Machine) (e : Expr) (found : Value × ℕ) : Type 0 where

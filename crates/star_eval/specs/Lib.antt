@@ -8,6 +8,7 @@ pub mod Hosted
 pub mod Hosts
 pub mod Meets
 pub mod Scope
+pub mod Seen
 pub mod Settled
 pub mod Sources
 pub mod View

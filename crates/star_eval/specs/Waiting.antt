@@ -167,6 +167,10 @@ statement_goes c take_it v k = taking v k
 statement_goes c (bind_to p x) v k = write_name p x v (box_of x c.env) >>= λ u. give (on k)
 statement_goes c (note_argument x form es before) v k = argument_then c form es before (λ vs. noting x vs k) v
 
+-- one turn of a loop for a member, and then those for the members behind it
+abbrev pub turn_and_more : {K : Type 0} → Place → (Value → Part Here K) → Value → List Value → Part Here K
+turn_and_more p turn v vs k = turn v k >>= next_turn (turns p turn vs)
+
 -- what one turn of a loop does for a member, which is bound before
 abbrev pub turn_of : Setting → Place → (target : Expr) → Ops → Value → Part Here Nodes
 turn_of c p x os v k = assigned c p x v >>= λ u. through c os k

@@ -2,12 +2,14 @@
 ghost use Rattle.std.specs.Prelude.{◌≡◌, []};
 ghost use Rattle.node_build.specs.Parts.{noting};
 ghost use Rattle.star_calls.specs.View.{form_of};
-ghost use Rattle.star_tree.specs.Whole.{expr_of, exprs_of};
+ghost use Rattle.star_tree.specs.Whole.{expr_of};
 ghost use Rattle.star_values.specs.Owns.{Owns, OwnsArguments};
-ghost use Rattle.star_values.specs.View.{arguments_in, value_of};
-ghost use Rattle.star_eval.specs.Doing.{all_calls, argument_form, argument_then, argument_value, arguments_then};
+ghost use Rattle.star_eval.specs.Doing.{argument_form, argument_value};
 ghost use Rattle.star_eval.specs.Frames.{GoesToFlow, GoesToValue};
-ghost use Rattle.star_eval.specs.View.{Sound, arena_in, nodes_in, setting_of};
+ghost use Rattle.star_eval.specs.View.{Sound, arena_in, nodes_in};
+ghost use Rattle.star_eval.specs.Seen.{arguments_in, arguments_then_in, called_in, statement_goes_in, value_goes_in, value_in};
+ghost use Rattle.star_eval.specs.declared.frame.InValue.TheVariants as value_frames;
+ghost use Rattle.star_eval.specs.declared.frame.InStatement.TheVariants as statement_frames;
 
 use crate::calls::call;
 use crate::frame::{Control, Flow, InStatement, InValue, Machine};
@@ -78,7 +80,7 @@ pub(crate) fn call_with<'p>(
     requires sound { Sound m.old }
     requires function { Owns (arena_in m.old) function }
     requires given { OwnsArguments (arena_in m.old) given }
-    ensures { GoesToValue result m.new m.old (arguments_then (setting_of m.old) (exprs_of m.old.code.file exprs.now) (arguments_in (arena_in m.old).held given) (all_calls (setting_of m.old) place (value_of (arena_in m.old) function))) }
+    ensures { GoesToValue result m.new m.old (arguments_then_in m.old exprs.now given (called_in m.old place function)) }
 {
     match exprs.split_first() {
         None => call(m, place, function, given),
@@ -104,7 +106,7 @@ pub(crate) fn argued<'p>(
     requires function { Owns (arena_in m.old) function }
     requires given { OwnsArguments (arena_in m.old) given }
     requires value { Owns (arena_in m.old) value }
-    ensures { GoesToValue result m.new m.old (argument_then (setting_of m.old) (form_of form.entry) (exprs_of m.old.code.file rest.now) (arguments_in (arena_in m.old).held given) (all_calls (setting_of m.old) place (value_of (arena_in m.old) function)) (value_of (arena_in m.old) value)) }
+    ensures { GoesToValue result m.new m.old (value_goes_in m.old (value_frames.Argument place function form.entry rest.entry given) (value_in m.old value)) }
 {
     let steps = m.session.work.steps;
     match add_argument(&m.session.arena, steps, form, value, given) {
@@ -123,7 +125,7 @@ pub(crate) fn note_with<'p>(
 ) -> Result<Control<'p>, Memory>
     requires sound { Sound m.old }
     requires given { OwnsArguments (arena_in m.old) given }
-    ensures { GoesToFlow result m.new m.old (arguments_then (setting_of m.old) (exprs_of m.old.code.file exprs.now) (arguments_in (arena_in m.old).held given) (λ vs. noting name.now vs (nodes_in m.old))) }
+    ensures { GoesToFlow result m.new m.old (arguments_then_in m.old exprs.now given (λ vs. noting name.now vs (nodes_in m.old))) }
 {
     match exprs.split_first() {
         None => noted(m, name, given),
@@ -139,7 +141,7 @@ pub(crate) fn note_with<'p>(
 fn noted<'p>(m: &mut Machine<'p>, name: &Text, args: CallArgs) -> Result<Control<'p>, Memory>
     requires sound { Sound m.old }
     requires args { OwnsArguments (arena_in m.old) args }
-    ensures { GoesToFlow result m.new m.old (noting name.now (arguments_in (arena_in m.old).held args) (nodes_in m.old)) }
+    ensures { GoesToFlow result m.new m.old (noting name.now (arguments_in m.old args) (nodes_in m.old)) }
 {
     let name = name.copy()?;
     m.nodes.note(BuiltNote { name, args })?;
@@ -158,7 +160,8 @@ pub(crate) fn note_argued<'p>(
     requires sound { Sound m.old }
     requires given { OwnsArguments (arena_in m.old) given }
     requires value { Owns (arena_in m.old) value }
-    ensures { GoesToFlow result m.new m.old (argument_then (setting_of m.old) (form_of form.entry) (exprs_of m.old.code.file rest.now) (arguments_in (arena_in m.old).held given) (λ vs. noting name.now vs (nodes_in m.old)) (value_of (arena_in m.old) value)) }
+    ensures { GoesToFlow result m.new m.old
+        (statement_goes_in m.old (statement_frames.NoteArgument name.entry form.entry rest.entry given) (value_in m.old value)) }
 {
     let steps = m.session.work.steps;
     match add_argument(&m.session.arena, steps, form, value, given) {

@@ -1,17 +1,13 @@
 // Assignments.
-ghost use Rattle.std.specs.Prelude.{◌≡◌, IfOk};
-ghost use Rattle.index_spec.specs.Index.{index_row, set_index_row};
-ghost use Rattle.builtin_spec.specs.Operators.{assignment_row};
-ghost use Rattle.star_spec.specs.Names.{box_of, write_name};
-ghost use Rattle.star_tree.specs.Whole.{binary_operator_of, expr_of, exprs_of};
+ghost use Rattle.index_spec.specs.Index.{set_index_row};
 ghost use Rattle.star_values.specs.Owns.{Owns};
-ghost use Rattle.star_values.specs.View.{value_of};
-ghost use Rattle.value_spec.specs.Outcomes.{then_do};
 ghost use Rattle.star_eval.specs.Frames.{GoesToFlow, GoesToValue};
-ghost use Rattle.star_eval.specs.Doing.{assigned, assigned_each, augmented_in, changed_at, concluded, spread_over};
-ghost use Rattle.star_eval.specs.Sources.{OwnsSource, left_of};
-ghost use Rattle.star_eval.specs.View.{Sound, arena_in, env_of, nodes_in, setting_of};
+ghost use Rattle.star_eval.specs.Doing.{assigned_each, concluded, spread_over};
+ghost use Rattle.star_eval.specs.Sources.{OwnsSource};
+ghost use Rattle.star_eval.specs.View.{Sound, arena_in, nodes_in, setting_of};
 ghost use Rattle.star_eval.specs.Waiting.{with_none};
+ghost use Rattle.star_eval.specs.Seen.{assigned_in, exprs_in, left_in, statement_goes_in, value_in, written_in};
+ghost use Rattle.star_eval.specs.declared.frame.InStatement.TheVariants as statement_frames;
 
 use crate::frame::{Control, InIndex, InStatement, InValue, Machine};
 use crate::indexes::within_index;
@@ -35,7 +31,7 @@ pub(crate) fn assign<'p>(
 ) -> Result<Control<'p>, Memory>
     requires sound { Sound m.old }
     requires value { Owns (arena_in m.old) value }
-    ensures { GoesToValue result m.new m.old (with_none (assigned (setting_of m.old) place (expr_of m.old.code.file target.now) (value_of (arena_in m.old) value))) }
+    ensures { GoesToValue result m.new m.old (with_none (assigned_in m.old place target.now value)) }
 {
     match target {
         Expr::Name(line, name) => {
@@ -84,7 +80,7 @@ pub(crate) fn target_gets<'p>(
 ) -> Result<Control<'p>, Memory>
     requires sound { Sound m.old }
     requires value { Owns (arena_in m.old) value }
-    ensures { GoesToFlow result m.new m.old (concluded (assigned (setting_of m.old) place (expr_of m.old.code.file target.now) (value_of (arena_in m.old) value)) (nodes_in m.old)) }
+    ensures { GoesToFlow result m.new m.old (concluded (assigned_in m.old place target.now value) (nodes_in m.old)) }
 {
     match target {
         Expr::Name(line, name) => {
@@ -110,7 +106,7 @@ fn spread<'p>(
 ) -> Result<Control<'p>, Memory>
     requires sound { Sound m.old }
     requires value { Owns (arena_in m.old) value }
-    ensures { GoesToValue result m.new m.old (with_none (spread_over (setting_of m.old) place (exprs_of m.old.code.file targets.now) (value_of (arena_in m.old) value))) }
+    ensures { GoesToValue result m.new m.old (with_none (spread_over (setting_of m.old) place (exprs_in m.old targets.now) (value_in m.old value))) }
 {
     // The count comes first, so that no more members are copied than there are targets.
     if member_count(&m.session.arena, value) != targets.len() as u128 {
@@ -131,7 +127,7 @@ pub(crate) fn next_target<'p>(
 ) -> Result<Control<'p>, Memory>
     requires sound { Sound m.old }
     requires source { OwnsSource (arena_in m.old) source }
-    ensures { GoesToValue result m.new m.old (with_none (assigned_each (setting_of m.old) place (exprs_of m.old.code.file targets.now) (left_of (arena_in m.old) source))) }
+    ensures { GoesToValue result m.new m.old (with_none (assigned_each (setting_of m.old) place (exprs_in m.old targets.now) (left_in m.old source))) }
 {
     let (target, rest) = match targets.split_first() {
         None => return Ok(Control::Gave(Value::None)),
@@ -159,7 +155,7 @@ pub(crate) fn augmented<'p>(
     requires sound { Sound m.old }
     requires old { Owns (arena_in m.old) old }
     requires value { Owns (arena_in m.old) value }
-    ensures { GoesToFlow result m.new m.old (λ s. then_do (assignment_row place (binary_operator_of op) (value_of (arena_in m.old) old) (value_of (arena_in m.old) value) s) (λ w. concluded (write_name at name.now w (box_of name.now (env_of m.old))) (nodes_in m.old))) }
+    ensures { GoesToFlow result m.new m.old (statement_goes_in m.old (statement_frames.Augment place op at name.entry old) (value_in m.old value)) }
 {
     match star_builtins::augment(
         &mut m.session.arena,
@@ -184,7 +180,7 @@ pub(crate) fn name_gets<'p>(
 ) -> Result<Control<'p>, Memory>
     requires sound { Sound m.old }
     requires value { Owns (arena_in m.old) value }
-    ensures { GoesToFlow result m.new m.old (concluded (write_name place name.now (value_of (arena_in m.old) value) (box_of name.now (env_of m.old))) (nodes_in m.old)) }
+    ensures { GoesToFlow result m.new m.old (concluded (written_in m.old place name.now (value_in m.old value)) (nodes_in m.old)) }
 {
     settle_flow(write(&mut m.session, m.scope.as_slice(), place, name, value))
 }
@@ -202,7 +198,7 @@ pub(crate) fn augment_at<'p>(
     requires sound { Sound m.old }
     requires indexed { Owns (arena_in m.old) indexed }
     requires index { Owns (arena_in m.old) index }
-    ensures { GoesToFlow result m.new m.old (λ s. then_do (index_row at (value_of (arena_in m.old) indexed) (value_of (arena_in m.old) index) s) (λ old. augmented_in (setting_of m.old) place (binary_operator_of op) at (value_of (arena_in m.old) indexed) (value_of (arena_in m.old) index) (expr_of m.old.code.file expr.now) old (nodes_in m.old))) }
+    ensures { GoesToFlow result m.new m.old (statement_goes_in m.old (statement_frames.AugmentAt place op at indexed expr.entry) (value_in m.old index)) }
 {
     let session = &mut m.session;
     match star_ops::index(&mut session.arena, &mut session.work, indexed, index, at) {
@@ -230,7 +226,8 @@ pub(crate) fn augmented_at<'p>(
     requires index { Owns (arena_in m.old) indexed.1 }
     requires old { Owns (arena_in m.old) old }
     requires value { Owns (arena_in m.old) value }
-    ensures { GoesToFlow result m.new m.old (changed_at place (binary_operator_of op) at (value_of (arena_in m.old) indexed.0) (value_of (arena_in m.old) indexed.1) (value_of (arena_in m.old) old) (value_of (arena_in m.old) value) (nodes_in m.old)) }
+    ensures { GoesToFlow result m.new m.old
+        (statement_goes_in m.old (statement_frames.AugmentIndex place op at indexed.0 indexed.1 old) (value_in m.old value)) }
 {
     let session = &mut m.session;
     match star_builtins::augment(&mut session.arena, &mut session.work, op, old, value, place) {
@@ -251,7 +248,8 @@ fn index_gets<'p>(
     requires indexed { Owns (arena_in m.old) indexed.0 }
     requires index { Owns (arena_in m.old) indexed.1 }
     requires new { Owns (arena_in m.old) new }
-    ensures { GoesToFlow result m.new m.old (concluded (set_index_row place (value_of (arena_in m.old) indexed.0) (value_of (arena_in m.old) indexed.1) (value_of (arena_in m.old) new)) (nodes_in m.old)) }
+    ensures { GoesToFlow result m.new m.old
+        (concluded (set_index_row place (value_in m.old indexed.0) (value_in m.old indexed.1) (value_in m.old new)) (nodes_in m.old)) }
 {
     let (value, index) = indexed;
     settle_flow(set_at(&mut m.session, place, value, index, new))

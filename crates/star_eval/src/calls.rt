@@ -5,21 +5,20 @@ ghost use Rattle.star_tree.specs.View.{item_kind_of};
 ghost use Rattle.star_tree.specs.Whole as whole;
 ghost use Rattle.star_spec.specs.Eval.{starlark};
 ghost use Rattle.star_functions.specs.View.{code_of};
-ghost use Rattle.star_values.specs.Objects.{env_in, seen};
 ghost use Rattle.star_values.specs.Owns.{Owns, OwnsAll, OwnsArguments, OwnsEnv, OwnsObjectRef};
-ghost use Rattle.star_values.specs.View.{arguments_in, value_of};
 ghost use Rattle.star_values.specs.declared.value.Sort.TheVariants as sort;
 ghost use Rattle.star_values.specs.declared.value.Value.TheVariants as value;
 ghost use Rattle.template_meaning.specs.Calls.{enter_ops, level_of};
 ghost use Rattle.value_spec.specs.Values.{function_value};
 ghost use Rattle.star_eval.specs.declared.frame.Control.TheVariants as control;
-ghost use Rattle.star_eval.specs.Calling.{calls_at, calls_from};
+ghost use Rattle.star_eval.specs.Calling.{calls_at};
 ghost use Rattle.star_eval.specs.Asking.{called_with, keys_in};
-ghost use Rattle.star_eval.specs.Doing.{all_calls};
 ghost use Rattle.star_eval.specs.Hosts.{is_hosted, native_at};
-ghost use Rattle.star_eval.specs.Frames.{Goes, GoesToValue, Opened, ResultGiven, inside};
+ghost use Rattle.star_eval.specs.Frames.{GoesTo, GoesToValue, Opened, ResultGiven, inside};
 ghost use Rattle.star_eval.specs.View.{OwnsCaller, OwnsFlow, Sound, arena_in, in_file, setting_of, waiting_with};
 ghost use Rattle.star_eval.specs.declared.frame.Frame.TheVariants as frame;
+ghost use Rattle.star_eval.specs.Seen.{arguments_in, called_in, called_within};
+ghost use Rattle.star_eval.specs.Scope.{variables_in};
 
 use crate::frame::{Asking, Caller, Control, Flow, Frame, InValue, Machine, Question};
 use crate::machine::{failed, ill_formed, settle};
@@ -48,7 +47,7 @@ pub(crate) fn call<'p>(
     requires sound { Sound m.old }
     requires function { Owns (arena_in m.old) function }
     requires args { OwnsArguments (arena_in m.old) args }
-    ensures { GoesToValue result m.new m.old (all_calls (setting_of m.old) place (value_of (arena_in m.old) function) (arguments_in (arena_in m.old).held args)) }
+    ensures { GoesToValue result m.new m.old (called_in m.old place function (arguments_in m.old args)) }
 {
     let left = m.session.work.steps;
     call_within(m, left, place, function, args)
@@ -65,7 +64,7 @@ pub(crate) fn call_within<'p>(
     requires sound { Sound m.old }
     requires function { Owns (arena_in m.old) function }
     requires args { OwnsArguments (arena_in m.old) args }
-    ensures { GoesToValue result m.new m.old (calls_from (setting_of m.old).function left place (value_of (arena_in m.old) function) (arguments_in (arena_in m.old).held args)) }
+    ensures { GoesToValue result m.new m.old (called_within m.old left place function (arguments_in m.old args)) }
 {
     match function {
         Value::Func(function) => call_function(m, place, function, args),
@@ -95,7 +94,7 @@ fn call_native<'p>(
     requires sound { Sound m.old }
     requires native { Owns (arena_in m.old) (value.Native native) }
     requires args { OwnsArguments (arena_in m.old) args }
-    ensures { GoesToValue result m.new m.old (calls_from (setting_of m.old).function left place (value_of (arena_in m.old) (value.Native native)) (arguments_in (arena_in m.old).held args)) }
+    ensures { GoesToValue result m.new m.old (called_within m.old left place (value.Native native) (arguments_in m.old args)) }
 {
     if is_hosted(&m.session.arena, native) {
         let asking = Asking {
@@ -121,7 +120,7 @@ fn call_own<'p>(
     requires native { Owns (arena_in m.old) (value.Native native) }
     requires own { is_hosted (native_at (arena_in m.old) native) ≡ false }
     requires args { OwnsArguments (arena_in m.old) args }
-    ensures { GoesToValue result m.new m.old (calls_from (setting_of m.old).function left place (value_of (arena_in m.old) (value.Native native)) (arguments_in (arena_in m.old).held args)) }
+    ensures { GoesToValue result m.new m.old (called_within m.old left place (value.Native native) (arguments_in m.old args)) }
 {
     match own_call(
         &mut m.session.arena,
@@ -283,7 +282,7 @@ fn call_function<'p>(
     requires sound { Sound m.old }
     requires function { OwnsObjectRef (arena_in m.old) sort.Func function }
     requires args { OwnsArguments (arena_in m.old) args }
-    ensures { GoesToValue result m.new m.old ((setting_of m.old).function place (function_value function.at) (arguments_in (arena_in m.old).held args)) }
+    ensures { GoesToValue result m.new m.old ((setting_of m.old).function place (function_value function.at) (arguments_in m.old args)) }
 {
     let known = m.session.arena.function(function);
     let file = known.file;
@@ -341,7 +340,9 @@ fn enter<'p>(
     requires sound { Sound m.old }
     requires scope { OwnsEnv (arena_in m.old) scope }
     requires depth { 1 ≤ m.old.depth }
-    ensures { GoesToValue result m.new m.old (enter_code starlark (enter_ops starlark) (calls_at m.old.code.functions (m.old.depth - 1)) (code_of file code.entry) (env_in (arena_in m.old).held scope)) }
+    ensures { GoesToValue result m.new m.old
+        (enter_code starlark (enter_ops starlark) (calls_at m.old.code.functions (m.old.depth - 1)) (code_of file code.entry)
+        (variables_in m.old.session scope)) }
 {
     match code {
         FunctionCode::Lambda(_, body) => {
@@ -420,7 +421,7 @@ pub(crate) fn returned<'p>(
     requires sound { Sound m.old }
     requires caller { OwnsCaller (arena_in m.old) caller }
     requires flow { OwnsFlow (arena_in m.old) flow }
-    ensures { IfOk result (λ c. Goes (arena_in m.old) m.new c (inside m.old (waiting_with m.old (frame.Call caller)) (control.Went flow))) }
+    ensures { GoesTo result m.new m.old (inside m.old (waiting_with m.old (frame.Call caller)) (control.Went flow)) }
 {
     let value = result_of(m, caller.fragment, flow)?;
     restore(m, caller);

@@ -1,21 +1,20 @@
 // Comprehensions: their clauses, and what they gather.
 ghost use Rattle.std.specs.Prelude.{◌≡◌, ◌∷◌, ◌++◌, [], ℕ, IfOk, OnOk};
 ghost use Rattle.code_spec.specs.Names.{clauses_names};
-ghost use Rattle.star_spec.specs.Eval.{turn_pair};
-ghost use Rattle.star_spec.specs.Flow.{next_turn, on, turns};
+ghost use Rattle.star_spec.specs.Flow.{turns};
 ghost use Rattle.star_tree.specs.Listed.{clauses_of};
-ghost use Rattle.star_tree.specs.Whole.{expr_of};
-ghost use Rattle.star_values.specs.Objects.{env_in, pairs_in};
 ghost use Rattle.star_values.specs.Owns.{Each, Owns, OwnsEnv, OwnsPair};
-ghost use Rattle.star_values.specs.View.{value_of};
-ghost use Rattle.value_spec.specs.Outcomes.{give, then_do};
-ghost use Rattle.star_eval.specs.Doing.{all_calls, bag_made, clause_looped, clauses_done, comprehended, element_done, first_done, pairs_bag};
+ghost use Rattle.star_eval.specs.Doing.{all_calls, bag_made, clauses_done, comprehended, element_done};
 ghost use Rattle.star_eval.specs.declared.frame.Frame.TheVariants as frames;
-ghost use Rattle.star_eval.specs.Frames.{Goes, GoesToBag, GoesToValue, OpensClauses, inside};
+ghost use Rattle.star_eval.specs.Frames.{GoesTo, GoesToBag, GoesToValue, OpensClauses, inside};
 ghost use Rattle.star_eval.specs.Meets.{arena_of};
-ghost use Rattle.star_eval.specs.Sources.{OwnsSource, Walked, left_of, members_at};
-ghost use Rattle.star_eval.specs.View.{OwnsBag, OwnsControl, OwnsInElement, Sound, arena_in, bag_of, element_frame, setting_of, waiting_in};
-ghost use Rattle.star_eval.specs.Waiting.{clause_turn_of, element_goes, in_element, walked};
+ghost use Rattle.star_eval.specs.Sources.{OwnsSource, Walked};
+ghost use Rattle.star_eval.specs.View.{OwnsBag, OwnsControl, OwnsInElement, Sound, arena_in, setting_of, waiting_in};
+ghost use Rattle.star_eval.specs.Waiting.{in_element, turn_and_more, walked};
+ghost use Rattle.star_eval.specs.Seen.{bag_in, clause_turn_in, clauses_in, element_frame_in, element_goes_in, left_in, members_walked, value_goes_in, value_in};
+ghost use Rattle.star_eval.specs.Scope.{variables_in};
+ghost use Rattle.star_eval.specs.declared.frame.InValue.TheVariants as value_frames;
+ghost use Rattle.star_eval.specs.declared.frame.InElement.TheVariants as element_frames;
 
 use crate::frame::{Bag, Control, Frame, InClauses, InElement, InValue, Machine};
 use crate::machine::{ill_formed, lost, push, push_value, settle};
@@ -43,7 +42,7 @@ pub(crate) fn comprehension<'p>(
 ) -> Result<Control<'p>, Memory>
     requires sound { Sound m.old }
     requires bag { OwnsBag (arena_in m.old) bag }
-    ensures { GoesToValue result m.new m.old (comprehended (setting_of m.old) place (clauses_of m.old.code.file clauses.now) (bag_of (arena_in m.old) m.old.code.file bag.entry)) }
+    ensures { GoesToValue result m.new m.old (comprehended (setting_of m.old) place (clauses_in m.old clauses.now) (bag_in m.old bag.entry)) }
 {
     match clauses.as_slice().split_first() {
         Some((Clause::ForIn(_target, members), _rest)) => {
@@ -64,7 +63,7 @@ fn push_element<'p>(
     requires sound { Sound m.old }
     requires frame { OwnsInElement (arena_in m.old) frame }
     requires control { OwnsControl (arena_in m.old) control }
-    ensures { IfOk result (λ c. Goes (arena_in m.old) m.new c (inside m.old (in_element (element_frame (arena_in m.old) m.old.code.file frame.entry) ∷ waiting_in m.old) control.entry)) }
+    ensures { GoesTo result m.new m.old (inside m.old (in_element (element_frame_in m.old frame.entry) ∷ waiting_in m.old) control.entry) }
 {
     let boxed = Boxed::new(m.session.arena.alloc(), frame)?;
     push(m, Frame::Element(boxed), control)
@@ -86,7 +85,8 @@ fn open_clauses(
     outer: &[NamedBox],
 ) -> Result<Boxes, Memory>
     requires { OwnsEnv (arena_of session.old) outer.now }
-    ensures { (file : ℕ) → IfOk result (OpensClauses (clauses_names (clauses_of file clauses.now)) (env_in (arena_of session.old).held outer.now) session.old session.new) }
+    ensures { (file : ℕ) → IfOk result
+        (OpensClauses (clauses_names (clauses_of file clauses.now)) (variables_in session.old outer.now) session.old session.new) }
 {
     let alloc = session.arena.alloc();
     let names = Scope::of(alloc, &clause_names(alloc, clauses)?)?;
@@ -113,7 +113,7 @@ pub(crate) fn first<'p>(
     requires sound { Sound m.old }
     requires bag { OwnsBag (arena_in m.old) bag }
     requires value { Owns (arena_in m.old) value }
-    ensures { GoesToValue result m.new m.old (first_done (setting_of m.old) place (clauses_of m.old.code.file clauses.now) (bag_of (arena_in m.old) m.old.code.file bag.entry) (value_of (arena_in m.old) value)) }
+    ensures { GoesToValue result m.new m.old (value_goes_in m.old (value_frames.First place clauses.entry bag.entry) (value_in m.old value)) }
 {
     match clauses.as_slice().split_first() {
         Some((Clause::ForIn(target, _), rest)) => {
@@ -139,7 +139,7 @@ fn clause_loop<'p>(
     requires sound { Sound m.old }
     requires bag { OwnsBag (arena_in m.old) bag }
     requires value { Owns (arena_in m.old) value }
-    ensures { GoesToBag result m.new m.old (clause_looped (setting_of m.old) place (expr_of m.old.code.file target.now) (clauses_of m.old.code.file clauses.now) (value_of (arena_in m.old) value) (bag_of (arena_in m.old) m.old.code.file bag.entry)) }
+    ensures { GoesToBag result m.new m.old (element_goes_in m.old (element_frames.Members place target.entry clauses.entry bag.entry) (value_in m.old value)) }
 {
     match walk_of(value) {
         Some(object) => walk_clause(m, place, target, clauses, object, bag),
@@ -162,7 +162,8 @@ fn walk_clause<'p>(
     requires sound { Sound m.old }
     requires object { Walked (arena_in m.old) object }
     requires bag { OwnsBag (arena_in m.old) bag }
-    ensures { GoesToBag result m.new m.old (walked object.at (turns place (clause_turn_of (setting_of m.old) place (expr_of m.old.code.file target.now) (clauses_of m.old.code.file clauses.now)) (members_at object.at (arena_in m.old).store)) (bag_of (arena_in m.old) m.old.code.file bag.entry)) }
+    ensures { GoesToBag result m.new m.old
+        (walked object.at (turns place (clause_turn_in m.old place target.now clauses.now) (members_walked m.old object)) (bag_in m.old bag.entry)) }
 {
     let members = begin(&mut m.session, object)?;
     push_clauses(m, InClauses::WalkEnd(object))?;
@@ -181,7 +182,7 @@ pub(crate) fn clause_turn<'p>(
     requires sound { Sound m.old }
     requires source { OwnsSource (arena_in m.old) source }
     requires bag { OwnsBag (arena_in m.old) bag }
-    ensures { GoesToBag result m.new m.old (turns place (clause_turn_of (setting_of m.old) place (expr_of m.old.code.file target.now) (clauses_of m.old.code.file clauses.now)) (left_of (arena_in m.old) source) (bag_of (arena_in m.old) m.old.code.file bag.entry)) }
+    ensures { GoesToBag result m.new m.old (turns place (clause_turn_in m.old place target.now clauses.now) (left_in m.old source) (bag_in m.old bag.entry)) }
 {
     match source.advance(&m.session.arena)? {
         None => Ok(Control::Bagged(bag)),
@@ -209,7 +210,8 @@ fn enter<'p>(
     requires value { Owns (arena_in m.old) value }
     requires source { OwnsSource (arena_in m.old) source }
     requires bag { OwnsBag (arena_in m.old) bag }
-    ensures { GoesToBag result m.new m.old (λ s. then_do (clause_turn_of (setting_of m.old) place (expr_of m.old.code.file target.now) (clauses_of m.old.code.file clauses.now) (value_of (arena_in m.old) value) (bag_of (arena_in m.old) m.old.code.file bag.entry) s) (next_turn (turns place (clause_turn_of (setting_of m.old) place (expr_of m.old.code.file target.now) (clauses_of m.old.code.file clauses.now)) (left_of (arena_in m.old) source)))) }
+    ensures { GoesToBag result m.new m.old
+        (turn_and_more place (clause_turn_in m.old place target.now clauses.now) (value_in m.old value) (left_in m.old source) (bag_in m.old bag.entry)) }
 {
     push_clauses(m, InClauses::Turn(place, target, clauses, source))?;
     push_element(
@@ -228,7 +230,7 @@ pub(crate) fn clauses<'p>(
 ) -> Result<Control<'p>, Memory>
     requires sound { Sound m.old }
     requires bag { OwnsBag (arena_in m.old) bag }
-    ensures { GoesToBag result m.new m.old (clauses_done (setting_of m.old) place (clauses_of m.old.code.file clauses.now) (bag_of (arena_in m.old) m.old.code.file bag.entry)) }
+    ensures { GoesToBag result m.new m.old (clauses_done (setting_of m.old) place (clauses_in m.old clauses.now) (bag_in m.old bag.entry)) }
 {
     match clauses.split_first() {
         None => element(m, place, bag),
@@ -247,7 +249,7 @@ pub(crate) fn clauses<'p>(
 fn element<'p>(m: &mut Machine<'p>, place: Place, bag: Bag<'p>) -> Result<Control<'p>, Memory>
     requires sound { Sound m.old }
     requires bag { OwnsBag (arena_in m.old) bag }
-    ensures { GoesToBag result m.new m.old (element_done (all_calls (setting_of m.old)) place (setting_of m.old).env (bag_of (arena_in m.old) m.old.code.file bag.entry)) }
+    ensures { GoesToBag result m.new m.old (element_done (all_calls (setting_of m.old)) place (setting_of m.old).env (bag_in m.old bag.entry)) }
 {
     match bag {
         Bag::Values(expr, values) => {
@@ -270,7 +272,7 @@ pub(crate) fn give_element<'p>(
     requires sound { Sound m.old }
     requires frame { OwnsInElement (arena_in m.old) frame }
     requires value { Owns (arena_in m.old) value }
-    ensures { GoesToBag result m.new m.old (element_goes (setting_of m.old) (element_frame (arena_in m.old) m.old.code.file frame.entry) (value_of (arena_in m.old) value)) }
+    ensures { GoesToBag result m.new m.old (element_goes_in m.old frame.entry (value_in m.old value)) }
 {
     match frame {
         InElement::Members(place, target, rest, bag) => {
@@ -311,7 +313,8 @@ fn pair<'p>(
     requires key { Owns (arena_in m.old) both.0 }
     requires value { Owns (arena_in m.old) both.1 }
     requires pairs { Each (OwnsPair (arena_in m.old)) pairs.entries }
-    ensures { GoesToBag result m.new m.old (λ s. then_do (turn_pair place (pairs_in (arena_in m.old).held pairs.entries) (value_of (arena_in m.old) both.0) (value_of (arena_in m.old) both.1) s) (λ all. give (on (pairs_bag (expr_of m.old.code.file key_expr.now) (expr_of m.old.code.file value_expr.now) all)))) }
+    ensures { GoesToBag result m.new m.old
+        (element_goes_in m.old (element_frames.PairOf place both.0 key_expr.entry value_expr.entry pairs) (value_in m.old both.1)) }
 {
     let (key, value) = both;
     let session = &mut m.session;
@@ -331,7 +334,7 @@ fn pair<'p>(
 pub(crate) fn bag_made<'p>(m: &mut Machine<'p>, bag: Bag<'p>) -> Result<Control<'p>, Memory>
     requires sound { Sound m.old }
     requires bag { OwnsBag (arena_in m.old) bag }
-    ensures { GoesToValue result m.new m.old (bag_made (bag_of (arena_in m.old) m.old.code.file bag.entry)) }
+    ensures { GoesToValue result m.new m.old (bag_made (bag_in m.old bag.entry)) }
 {
     match bag {
         Bag::Values(_expr, values) => settle(make_list(&mut m.session, values.as_slice())),

@@ -1,14 +1,10 @@
 // Displays of dicts.
-ghost use Rattle.std.specs.Prelude.{◌≡◌};
-ghost use Rattle.star_spec.specs.Eval.{display_pair};
-ghost use Rattle.star_tree.specs.Listed.{entries_of, entry_of};
-ghost use Rattle.star_values.specs.Objects.{pairs_in};
 ghost use Rattle.star_values.specs.Owns.{Each, Owns, OwnsPair};
-ghost use Rattle.star_values.specs.View.{value_of};
-ghost use Rattle.value_spec.specs.Outcomes.{then_do};
 ghost use Rattle.star_eval.specs.Frames.{GoesToValue};
 ghost use Rattle.star_eval.specs.Doing.{entries_done, with_entry};
 ghost use Rattle.star_eval.specs.View.{Sound, arena_in, setting_of};
+ghost use Rattle.star_eval.specs.Seen.{entries_in, entry_in, pairs_in, value_goes_in, value_in};
+ghost use Rattle.star_eval.specs.declared.frame.InValue.TheVariants as value_frames;
 
 use crate::frame::{Control, InValue, Machine};
 use crate::machine::{failed, push_value, settle};
@@ -28,7 +24,7 @@ pub(crate) fn entries<'p>(
 ) -> Result<Control<'p>, Memory>
     requires sound { Sound m.old }
     requires pairs { Each (OwnsPair (arena_in m.old)) pairs.entries }
-    ensures { GoesToValue result m.new m.old (entries_done (setting_of m.old) place (entries_of m.old.code.file entries.now) (pairs_in (arena_in m.old).held pairs.entries)) }
+    ensures { GoesToValue result m.new m.old (entries_done (setting_of m.old) place (entries_in m.old entries.now) (pairs_in m.old pairs.entries)) }
 {
     match entries.split_first() {
         None => settle(make_dict(&mut m.session, pairs)),
@@ -46,7 +42,8 @@ fn first_entry<'p>(
 ) -> Result<Control<'p>, Memory>
     requires sound { Sound m.old }
     requires pairs { Each (OwnsPair (arena_in m.old)) pairs.entries }
-    ensures { GoesToValue result m.new m.old (entries_done (setting_of m.old) place (with_entry (entry_of m.old.code.file entry.now) (entries_of m.old.code.file rest.now)) (pairs_in (arena_in m.old).held pairs.entries)) }
+    ensures { GoesToValue result m.new m.old
+        (entries_done (setting_of m.old) place (with_entry (entry_in m.old entry.now) (entries_in m.old rest.now)) (pairs_in m.old pairs.entries)) }
 {
     match entry {
         Entry::Pair(key, value) => {
@@ -70,7 +67,7 @@ pub(crate) fn pair<'p>(
     requires key { Owns (arena_in m.old) key }
     requires value { Owns (arena_in m.old) value }
     requires pairs { Each (OwnsPair (arena_in m.old)) pairs.entries }
-    ensures { GoesToValue result m.new m.old (λ s. then_do (display_pair place (pairs_in (arena_in m.old).held pairs.entries) (value_of (arena_in m.old) key) (value_of (arena_in m.old) value) s) (λ more. entries_done (setting_of m.old) place (entries_of m.old.code.file rest.now) more)) }
+    ensures { GoesToValue result m.new m.old (value_goes_in m.old (value_frames.PairOf place key rest.entry pairs) (value_in m.old value)) }
 {
     if let Some(kind) = key_offence(&m.session.arena, key) {
         return Ok(failed(m, kind, place));

@@ -4,17 +4,18 @@ ghost use Rattle.builtin_spec.specs.Attributes.{attribute_row};
 ghost use Rattle.builtin_spec.specs.Operators.{operator_row};
 ghost use Rattle.operator_spec.specs.Operators.{unary_row};
 ghost use Rattle.star_spec.specs.Names.{box_of, read_name};
-ghost use Rattle.star_tree.specs.Listed.{clauses_of, pieces_of};
-ghost use Rattle.star_tree.specs.Whole.{binary_operator_of, expr_of, exprs_of, parameters_of, unary_operator_of};
+ghost use Rattle.star_tree.specs.Listed.{pieces_of};
+ghost use Rattle.star_tree.specs.Whole.{binary_operator_of, expr_of, unary_operator_of};
 ghost use Rattle.star_values.specs.Owns.{Owns, OwnsAll};
-ghost use Rattle.star_values.specs.View.{value_of, values_of};
 ghost use Rattle.value_spec.specs.Outcomes.{give, then_do};
 ghost use Rattle.value_spec.specs.Values.{text_value};
 ghost use Rattle.star_eval.specs.declared.frame.Control.TheVariants as control;
-ghost use Rattle.star_eval.specs.Frames.{Goes, GoesToValue, Known, means};
-ghost use Rattle.star_eval.specs.Doing.{acted, all_evaluated, comprehended, evaluated, first_shown, making, pairs_bag, pieces_done, place_in, values_bag, written_text};
+ghost use Rattle.star_eval.specs.Frames.{GoesTo, GoesToValue, Known, means};
+ghost use Rattle.star_eval.specs.Doing.{acted, comprehended, first_shown, making, pairs_bag, pieces_done, place_in, values_bag, written_text};
 ghost use Rattle.star_eval.specs.View.{Sound, arena_in, env_of, gathering_of, setting_of};
-ghost use Rattle.star_eval.specs.Waiting.{callee, gathered, right, value_goes};
+ghost use Rattle.star_eval.specs.Waiting.{gathered};
+ghost use Rattle.star_eval.specs.Seen.{all_evaluated_in, clauses_in, evaluated_in, expr_in, parameters_in, pieces_in, value_goes_in, value_in, values_in};
+ghost use Rattle.star_eval.specs.declared.frame.InValue.TheVariants as value_frames;
 
 use crate::arguments::{call_with, no_arguments};
 use crate::comprehensions::comprehension;
@@ -65,7 +66,7 @@ fn place_of(file: u32, expr: &Expr) -> Option<Place>
 /// An expression, which takes a step before it acts.
 pub(crate) fn eval<'p>(m: &mut Machine<'p>, expr: &'p Expr) -> Result<Control<'p>, Memory>
     requires { Sound m.old }
-    ensures { IfOk result (λ c. Goes (arena_in m.old) m.new c (means m.old (control.Eval expr.entry))) }
+    ensures { GoesTo result m.new m.old (means m.old (control.Eval expr.entry)) }
 {
     match place_of(m.code.file, expr) {
         None => Ok(ill_formed(m)),
@@ -82,7 +83,7 @@ pub(crate) fn eval<'p>(m: &mut Machine<'p>, expr: &'p Expr) -> Result<Control<'p
 /// What an expression does after its step at this place.
 fn act<'p>(m: &mut Machine<'p>, place: Place, expr: &'p Expr) -> Result<Control<'p>, Memory>
     requires { Sound m.old }
-    ensures { GoesToValue result m.new m.old (acted (setting_of m.old) place (expr_of m.old.code.file expr.now)) }
+    ensures { GoesToValue result m.new m.old (acted (setting_of m.old) place (expr_in m.old expr.now)) }
 {
     match expr {
         Expr::Int(_, n) => Ok(Control::Gave(Value::Int(*n))),
@@ -133,7 +134,7 @@ fn act<'p>(m: &mut Machine<'p>, place: Place, expr: &'p Expr) -> Result<Control<
 /// The value of a number, or of a name whose box has one, with the steps that are left behind it: what needs no frame. None says nothing.
 fn known<'p>(m: &Machine<'p>, expr: &Expr) -> Option<(Value, u64)>
     requires { Sound m.now }
-    ensures { IfSome result (Known m.now (expr_of m.now.code.file expr.now)) }
+    ensures { IfSome result (Known m.now (expr_in m.now expr.now)) }
 {
     let left = m.session.work.steps.checked_sub(1)?;
     match expr {
@@ -156,7 +157,7 @@ fn binary<'p>(
     b: &'p Expr,
 ) -> Result<Control<'p>, Memory>
     requires { Sound m.old }
-    ensures { GoesToValue result m.new m.old (λ s. then_do (evaluated (setting_of m.old) (expr_of m.old.code.file a.now) s) (value_goes (setting_of m.old) (right place (binary_operator_of op) (expr_of m.old.code.file b.now)))) }
+    ensures { GoesToValue result m.new m.old (λ s. then_do (evaluated_in m.old a.now s) (value_goes_in m.old (value_frames.Right place op b.entry))) }
 {
     match known(m, a) {
         Some((left, steps)) => {
@@ -180,7 +181,7 @@ pub(crate) fn right_operand<'p>(
 ) -> Result<Control<'p>, Memory>
     requires sound { Sound m.old }
     requires left { Owns (arena_in m.old) left }
-    ensures { GoesToValue result m.new m.old (value_goes (setting_of m.old) (right place (binary_operator_of op) (expr_of m.old.code.file b.now)) (value_of (arena_in m.old) left)) }
+    ensures { GoesToValue result m.new m.old (value_goes_in m.old (value_frames.Right place op b.entry) (value_in m.old left)) }
 {
     match known(m, b) {
         Some((value, steps)) => {
@@ -202,7 +203,7 @@ fn called<'p>(
     exprs: &'p [Expr],
 ) -> Result<Control<'p>, Memory>
     requires { Sound m.old }
-    ensures { GoesToValue result m.new m.old (λ s. then_do (evaluated (setting_of m.old) (expr_of m.old.code.file function.now) s) (value_goes (setting_of m.old) (callee place (exprs_of m.old.code.file exprs.now)))) }
+    ensures { GoesToValue result m.new m.old (λ s. then_do (evaluated_in m.old function.now s) (value_goes_in m.old (value_frames.Callee place exprs.entry))) }
 {
     match known(m, function) {
         Some((value, steps)) => {
@@ -225,7 +226,8 @@ fn lambda<'p>(
     params: &'p [Param],
 ) -> Result<Control<'p>, Memory>
     requires { Sound m.old }
-    ensures { GoesToValue result m.new m.old (making (setting_of m.old) (record { place = place; name = codes "lambda"; number = number }) (parameters_of m.old.code.file params.now) []) }
+    ensures { GoesToValue result m.new m.old
+        (making (setting_of m.old) (record { place = place; name = codes "lambda"; number = number }) (parameters_in m.old params.now) []) }
 {
     let making = Making {
         place,
@@ -244,7 +246,7 @@ fn list_for<'p>(
     clauses: &'p Items<Clause>,
 ) -> Result<Control<'p>, Memory>
     requires { Sound m.old }
-    ensures { GoesToValue result m.new m.old (comprehended (setting_of m.old) place (clauses_of m.old.code.file clauses.now) (values_bag (expr_of m.old.code.file expr.now) [])) }
+    ensures { GoesToValue result m.new m.old (comprehended (setting_of m.old) place (clauses_in m.old clauses.now) (values_bag (expr_in m.old expr.now) [])) }
 {
     let none = Items::new(m.session.arena.alloc());
     comprehension(m, place, clauses, Bag::Values(expr, none))
@@ -259,7 +261,8 @@ fn dict_for<'p>(
     clauses: &'p Items<Clause>,
 ) -> Result<Control<'p>, Memory>
     requires { Sound m.old }
-    ensures { GoesToValue result m.new m.old (comprehended (setting_of m.old) place (clauses_of m.old.code.file clauses.now) (pairs_bag (expr_of m.old.code.file key.now) (expr_of m.old.code.file value.now) [])) }
+    ensures { GoesToValue result m.new m.old
+        (comprehended (setting_of m.old) place (clauses_in m.old clauses.now) (pairs_bag (expr_in m.old key.now) (expr_in m.old value.now) [])) }
 {
     let alloc = m.session.arena.alloc();
     let none = Boxed::new(alloc, IndexMap::new(alloc))?;
@@ -303,7 +306,7 @@ fn template<'p>(
     pieces: &'p [Piece],
 ) -> Result<Control<'p>, Memory>
     requires { Sound m.old }
-    ensures { GoesToValue result m.new m.old (pieces_done (setting_of m.old) place (pieces_of m.old.code.file pieces.now)) }
+    ensures { GoesToValue result m.new m.old (pieces_done (setting_of m.old) place (pieces_in m.old pieces.now)) }
 {
     match first_shown(pieces) {
         Some(expr) => {
@@ -341,7 +344,7 @@ pub(crate) fn attribute<'p>(
 ) -> Result<Control<'p>, Memory>
     requires sound { Sound m.old }
     requires value { Owns (arena_in m.old) value }
-    ensures { GoesToValue result m.new m.old (attribute_row place (value_of (arena_in m.old) value) name.now) }
+    ensures { GoesToValue result m.new m.old (attribute_row place (value_in m.old value) name.now) }
 {
     settle(star_builtins::attribute(&mut m.session.arena, value, name, place))
 }
@@ -353,7 +356,7 @@ fn row<'p>(
     members: &'p [Expr],
 ) -> Result<Control<'p>, Memory>
     requires { Sound m.old }
-    ensures { GoesToValue result m.new m.old (λ s. then_do (all_evaluated (setting_of m.old) (exprs_of m.old.code.file members.now) s) (gathered (gathering_of gathering))) }
+    ensures { GoesToValue result m.new m.old (λ s. then_do (all_evaluated_in m.old members.now s) (gathered (gathering_of gathering))) }
 {
     let before = Items::new(m.session.arena.alloc());
     gather(m, gathering, members, before)
@@ -368,7 +371,8 @@ pub(crate) fn gather<'p>(
 ) -> Result<Control<'p>, Memory>
     requires sound { Sound m.old }
     requires values { OwnsAll (arena_in m.old) values }
-    ensures { GoesToValue result m.new m.old (λ s. then_do (all_evaluated (setting_of m.old) (exprs_of m.old.code.file members.now) s) (λ ws. gathered (gathering_of gathering) (values_of (arena_in m.old) values ++ ws))) }
+    ensures { GoesToValue result m.new m.old
+        (λ s. then_do (all_evaluated_in m.old members.now s) (λ ws. gathered (gathering_of gathering) (values_in m.old values ++ ws))) }
 {
     match members.split_first() {
         Some((member, rest)) => {
@@ -387,7 +391,7 @@ fn gather_all<'p>(
 ) -> Result<Control<'p>, Memory>
     requires sound { Sound m.old }
     requires values { OwnsAll (arena_in m.old) values }
-    ensures { GoesToValue result m.new m.old (gathered (gathering_of gathering) (values_of (arena_in m.old) values)) }
+    ensures { GoesToValue result m.new m.old (gathered (gathering_of gathering) (values_in m.old values)) }
 {
     match gathering {
         Gathering::Tuple => settle(make_tuple(&mut m.session, values.as_slice())),
@@ -404,7 +408,7 @@ pub(crate) fn operated_on<'p>(
 ) -> Result<Control<'p>, Memory>
     requires sound { Sound m.old }
     requires operand { Owns (arena_in m.old) operand }
-    ensures { GoesToValue result m.new m.old (unary_row place (unary_operator_of op) (value_of (arena_in m.old) operand)) }
+    ensures { GoesToValue result m.new m.old (unary_row place (unary_operator_of op) (value_in m.old operand)) }
 {
     settle(star_ops::unary(
         &mut m.session.arena,
@@ -426,7 +430,7 @@ pub(crate) fn operated<'p>(
     requires sound { Sound m.old }
     requires left { Owns (arena_in m.old) left }
     requires right { Owns (arena_in m.old) right }
-    ensures { GoesToValue result m.new m.old (operator_row place (binary_operator_of op) (value_of (arena_in m.old) left) (value_of (arena_in m.old) right)) }
+    ensures { GoesToValue result m.new m.old (operator_row place (binary_operator_of op) (value_in m.old left) (value_in m.old right)) }
 {
     settle(star_builtins::binary(
         &mut m.session.arena,

@@ -12,7 +12,7 @@ ghost use Rattle.template_meaning.specs.Files.{bind_loaded, globals_in};
 ghost use Rattle.star_eval.specs.FileRun.{RunsFile};
 ghost use Rattle.star_eval.specs.Finishes.{EndsFile, Leaves, globals_of};
 ghost use Rattle.star_eval.specs.Meets.{Acts, arena_of};
-ghost use Rattle.star_eval.specs.Scope.{name_bound};
+ghost use Rattle.star_eval.specs.Scope.{name_bound, variables_in};
 
 use crate::frame::Code;
 use crate::host::Host;
@@ -76,7 +76,8 @@ fn end(
 ) -> Result<FileResult, Memory>
     requires scope { OwnsEnv (arena_of session.old) scope.now }
     requires nodes { OwnsNodes (arena_of session.old) nodes }
-    ensures ends { IfOk result (EndsFile mark.at (env_in (arena_of session.old).held scope.now) (bottom_children (nodes_of (arena_of session.old) nodes)) session.new session.old) }
+    ensures ends { IfOk result
+        (EndsFile mark.at (variables_in session.old scope.now) (bottom_children (nodes_of (arena_of session.old) nodes)) session.new session.old) }
     ensures work { session.new.work ≡ session.old.work }
 {
     let globals = globals_of(alloc, &session.arena, scope)?;
@@ -94,7 +95,7 @@ fn bind_name(
 ) -> Result<(), Stop>
     requires scope { OwnsEnv (arena_of session.old) scope.now }
     requires value { Owns (arena_of session.old) value }
-    ensures acts { Acts (name_bound name.now (value_of (arena_of session.old) value) (env_in (arena_of session.old).held scope.now)) result session.new session.old }
+    ensures acts { Acts (name_bound name.now (value_of (arena_of session.old) value) (variables_in session.old scope.now)) result session.new session.old }
     ensures work { session.new.work ≡ session.old.work }
 {
     match find(&session.arena, scope, name) {
@@ -110,7 +111,7 @@ fn bind_name(
 fn bind_loaded(session: &mut Session, scope: &[NamedBox], loaded: &[NamedValue]) -> Result<(), Stop>
     requires scope { OwnsEnv (arena_of session.old) scope.now }
     requires loaded { OwnsFields (arena_of session.old) loaded.now }
-    ensures acts { Acts (bind_loaded (globals_of (arena_of session.old) loaded.now) (env_in (arena_of session.old).held scope.now)) result session.new session.old }
+    ensures acts { Acts (bind_loaded (globals_of (arena_of session.old) loaded.now) (variables_in session.old scope.now)) result session.new session.old }
     ensures work { session.new.work ≡ session.old.work }
 {
     let mut rest = loaded;

@@ -1,13 +1,14 @@
 // New functions.
 ghost use Rattle.std.specs.Prelude.{◌≡◌, ◌∷◌, ℕ, IfNone, IfOk, IfSome, List, Some};
 ghost use Rattle.star_tree.specs.Whole.{Parameter, expr_of, parameter_of, parameters_from, parameters_of};
-ghost use Rattle.star_values.specs.Objects.{env_in};
 ghost use Rattle.star_values.specs.Owns.{OwnsAll, OwnsEnv};
 ghost use Rattle.star_values.specs.View.{values_of};
 ghost use Rattle.star_eval.specs.Doing.{function_made, making as plain_making, next_default};
 ghost use Rattle.star_eval.specs.Frames.{GoesToValue};
 ghost use Rattle.star_eval.specs.Meets.{GivesFrom, arena_of};
 ghost use Rattle.star_eval.specs.View.{Sound, arena_in, default_of, making_of, setting_of};
+ghost use Rattle.star_eval.specs.Seen.{parameters_in, values_in};
+ghost use Rattle.star_eval.specs.Scope.{variables_in};
 
 use crate::frame::{Control, InValue, Machine, Making};
 use crate::machine::{push_value, settle};
@@ -21,8 +22,10 @@ use ytt_base::text::{Memory, Text};
 
 /// The default of a parameter, if it has one.
 fn default_in<'p>(param: &'p Param) -> Option<&'p Expr>
-    ensures some { (file : ℕ) → (qs : List Parameter) → IfSome result (λ e. next_default (parameters_from (parameter_of file param.now ∷ qs)) ≡ Some (expr_of file e.now, parameters_from qs)) }
-    ensures none { (file : ℕ) → (qs : List Parameter) → IfNone result (next_default (parameters_from (parameter_of file param.now ∷ qs)) ≡ next_default (parameters_from qs)) }
+    ensures some { (file : ℕ) → (qs : List Parameter) →
+        IfSome result (λ e. next_default (parameters_from (parameter_of file param.now ∷ qs)) ≡ Some (expr_of file e.now, parameters_from qs)) }
+    ensures none { (file : ℕ) → (qs : List Parameter) →
+        IfNone result (next_default (parameters_from (parameter_of file param.now ∷ qs)) ≡ next_default (parameters_from qs)) }
 {
     match param {
         Param::Defaulted(_, expr) => Some(expr.get()),
@@ -56,7 +59,8 @@ pub(crate) fn make_function<'p>(
 ) -> Result<Control<'p>, Memory>
     requires sound { Sound m.old }
     requires defaults { OwnsAll (arena_in m.old) defaults }
-    ensures { GoesToValue result m.new m.old (plain_making (setting_of m.old) (making_of making.entry) (parameters_of m.old.code.file params.now) (values_of (arena_in m.old) defaults)) }
+    ensures { GoesToValue result m.new m.old
+        (plain_making (setting_of m.old) (making_of making.entry) (parameters_in m.old params.now) (values_in m.old defaults)) }
 {
     match next_default(params) {
         None => made(m, making, defaults),
@@ -93,7 +97,9 @@ fn new_function(
 ) -> Result<Value, Stop>
     requires scope { OwnsEnv (arena_of session.old) scope.now }
     requires defaults { OwnsAll (arena_of session.old) defaults }
-    ensures { GivesFrom (function_made (env_in (arena_of session.old).held scope.now) (making_of making.entry) (values_of (arena_of session.old) defaults)) result session.new session.old }
+    ensures { GivesFrom
+        (function_made (variables_in session.old scope.now) (making_of making.entry) (values_of (arena_of session.old) defaults))
+        result session.new session.old }
 {
     let alloc = session.arena.alloc();
     let name = name_of(alloc, making)?;
@@ -110,7 +116,7 @@ fn made<'p>(
 ) -> Result<Control<'p>, Memory>
     requires sound { Sound m.old }
     requires defaults { OwnsAll (arena_in m.old) defaults }
-    ensures { GoesToValue result m.new m.old (function_made (setting_of m.old).env (making_of making.entry) (values_of (arena_in m.old) defaults)) }
+    ensures { GoesToValue result m.new m.old (function_made (setting_of m.old).env (making_of making.entry) (values_in m.old defaults)) }
 {
     settle(new_function(&mut m.session, &m.scope, making, defaults))
 }

@@ -1,12 +1,10 @@
 // What goes on from a value.
-ghost use Rattle.std.specs.Prelude.{IfOk};
 ghost use Rattle.star_values.specs.Owns.{Owns};
-ghost use Rattle.star_values.specs.View.{value_of};
 ghost use Rattle.node_build.specs.Parts.{taking};
 ghost use Rattle.star_eval.specs.declared.frame.Control.TheVariants as control;
-ghost use Rattle.star_eval.specs.Frames.{Goes, GoesToFlow, GoesToValue, inside};
-ghost use Rattle.star_eval.specs.View.{OwnsFrame, OwnsInStatement, OwnsInValue, Sound, arena_in, nodes_in, setting_of, statement_frame, value_frame, waiting_with};
-ghost use Rattle.star_eval.specs.Waiting.{statement_goes, value_goes};
+ghost use Rattle.star_eval.specs.Frames.{GoesTo, GoesToFlow, GoesToValue, inside};
+ghost use Rattle.star_eval.specs.View.{OwnsFrame, OwnsInStatement, OwnsInValue, Sound, arena_in, nodes_in, waiting_with};
+ghost use Rattle.star_eval.specs.Seen.{statement_goes_in, value_goes_in, value_in};
 
 use crate::arguments::{argued, call_with, no_arguments, note_argued};
 use crate::assign::{augment_at, augmented, augmented_at, name_gets, next_target, target_gets};
@@ -36,7 +34,7 @@ pub(crate) fn give<'p>(
     requires sound { Sound m.old }
     requires frame { OwnsFrame (arena_in m.old) frame }
     requires value { Owns (arena_in m.old) value }
-    ensures { IfOk result (λ c. Goes (arena_in m.old) m.new c (inside m.old (waiting_with m.old frame.entry) (control.Gave value))) }
+    ensures { GoesTo result m.new m.old (inside m.old (waiting_with m.old frame.entry) (control.Gave value)) }
 {
     match frame {
         Frame::Value(inner) => give_value(m, inner.into_inner(), value),
@@ -62,7 +60,7 @@ fn give_value<'p>(
     requires sound { Sound m.old }
     requires frame { OwnsInValue (arena_in m.old) frame }
     requires value { Owns (arena_in m.old) value }
-    ensures { GoesToValue result m.new m.old (value_goes (setting_of m.old) (value_frame (arena_in m.old) m.old.code.file frame.entry) (value_of (arena_in m.old) value)) }
+    ensures { GoesToValue result m.new m.old (value_goes_in m.old frame.entry (value_in m.old value)) }
 {
     match frame {
         InValue::Right(place, op, right) => right_operand(m, place, op, value, right),
@@ -130,7 +128,7 @@ fn give_statement<'p>(
     requires sound { Sound m.old }
     requires frame { OwnsInStatement (arena_in m.old) frame }
     requires value { Owns (arena_in m.old) value }
-    ensures { GoesToFlow result m.new m.old (statement_goes (setting_of m.old) (statement_frame (arena_in m.old) m.old.code.file frame.entry) (value_of (arena_in m.old) value) (nodes_in m.old)) }
+    ensures { GoesToFlow result m.new m.old (statement_goes_in m.old frame.entry (value_in m.old value)) }
 {
     match frame {
         InStatement::Discard => Ok(Control::Went(Flow::On)),
@@ -169,7 +167,7 @@ fn give_statement<'p>(
 fn take<'p>(m: &mut Machine<'p>, value: Value) -> Result<Control<'p>, Memory>
     requires sound { Sound m.old }
     requires value { Owns (arena_in m.old) value }
-    ensures { GoesToFlow result m.new m.old (taking (value_of (arena_in m.old) value) (nodes_in m.old)) }
+    ensures { GoesToFlow result m.new m.old (taking (value_in m.old value) (nodes_in m.old)) }
 {
     settle_flow(m.nodes.value(&m.session.arena, &mut m.session.work, value))
 }

@@ -1,16 +1,14 @@
 // Indexes and slices, and targets that are indexes.
-ghost use Rattle.std.specs.Prelude.{◌≡◌};
 ghost use Rattle.index_spec.specs.Index.{index_row, set_index_row};
 ghost use Rattle.index_spec.specs.Slices.{slice_row};
-ghost use Rattle.star_tree.specs.Listed.{optional_of};
-ghost use Rattle.star_tree.specs.Whole.{expr_of};
 ghost use Rattle.star_values.specs.Owns.{Owns};
-ghost use Rattle.star_values.specs.View.{value_of};
 ghost use Rattle.value_spec.specs.Outcomes.{then_do};
 ghost use Rattle.star_eval.specs.Frames.{GoesToValue};
-ghost use Rattle.star_eval.specs.Doing.{bound_then, cut, evaluated};
-ghost use Rattle.star_eval.specs.View.{OwnsInIndex, Sound, arena_in, index_frame, setting_of};
-ghost use Rattle.star_eval.specs.Waiting.{cut_at, end_of, step_of, value_goes, with_none};
+ghost use Rattle.star_eval.specs.Doing.{cut};
+ghost use Rattle.star_eval.specs.View.{OwnsInIndex, Sound, arena_in};
+ghost use Rattle.star_eval.specs.Waiting.{with_none};
+ghost use Rattle.star_eval.specs.Seen.{bound_then_in, evaluated_in, index_goes_in, value_in};
+ghost use Rattle.star_eval.specs.declared.frame.InIndex.TheVariants as index_frames;
 
 use crate::frame::{Bound, Control, InIndex, InValue, Machine};
 use crate::machine::{push_value, settle, settle_none};
@@ -28,7 +26,7 @@ pub(crate) fn within_index<'p>(
 ) -> Result<Control<'p>, Memory>
     requires sound { Sound m.old }
     requires frame { OwnsInIndex (arena_in m.old) frame }
-    ensures { GoesToValue result m.new m.old (λ s. then_do (evaluated (setting_of m.old) (expr_of m.old.code.file expr.now) s) (value_goes (setting_of m.old) (index_frame (arena_in m.old) m.old.code.file frame.entry))) }
+    ensures { GoesToValue result m.new m.old (λ s. then_do (evaluated_in m.old expr.now s) (index_goes_in m.old frame.entry)) }
 {
     push_value(m, InValue::Index(frame), Control::Eval(expr))
 }
@@ -42,7 +40,7 @@ pub(crate) fn give_index<'p>(
     requires sound { Sound m.old }
     requires frame { OwnsInIndex (arena_in m.old) frame }
     requires value { Owns (arena_in m.old) value }
-    ensures { GoesToValue result m.new m.old (value_goes (setting_of m.old) (index_frame (arena_in m.old) m.old.code.file frame.entry) (value_of (arena_in m.old) value)) }
+    ensures { GoesToValue result m.new m.old (index_goes_in m.old frame.entry (value_in m.old value)) }
 {
     match frame {
         InIndex::IndexOf(place, index) => within_index(m, InIndex::IndexAt(place, value), index),
@@ -79,7 +77,7 @@ fn at_index<'p>(
     requires sound { Sound m.old }
     requires value { Owns (arena_in m.old) value }
     requires index { Owns (arena_in m.old) index }
-    ensures { GoesToValue result m.new m.old (index_row place (value_of (arena_in m.old) value) (value_of (arena_in m.old) index)) }
+    ensures { GoesToValue result m.new m.old (index_row place (value_in m.old value) (value_in m.old index)) }
 {
     let session = &mut m.session;
     settle(star_ops::index(&mut session.arena, &mut session.work, value, index, place))
@@ -97,7 +95,7 @@ fn index_gets<'p>(
     requires value { Owns (arena_in m.old) value }
     requires index { Owns (arena_in m.old) index }
     requires new { Owns (arena_in m.old) new }
-    ensures { GoesToValue result m.new m.old (with_none (set_index_row place (value_of (arena_in m.old) value) (value_of (arena_in m.old) index) (value_of (arena_in m.old) new))) }
+    ensures { GoesToValue result m.new m.old (with_none (set_index_row place (value_in m.old value) (value_in m.old index) (value_in m.old new))) }
 {
     settle_none(set_at(&mut m.session, place, value, index, new))
 }
@@ -113,7 +111,7 @@ fn bounds<'p>(
 ) -> Result<Control<'p>, Memory>
     requires sound { Sound m.old }
     requires value { Owns (arena_in m.old) value }
-    ensures { GoesToValue result m.new m.old (bound_then (setting_of m.old) (optional_of m.old.code.file from.now) (value_goes (setting_of m.old) (end_of place (value_of (arena_in m.old) value) (optional_of m.old.code.file to.now) (optional_of m.old.code.file step.now)))) }
+    ensures { GoesToValue result m.new m.old (bound_then_in m.old from.now (index_goes_in m.old (index_frames.EndOf place value to.entry step.entry))) }
 {
     match from {
         None => end_bound(m, place, value, Value::None, to, step),
@@ -133,7 +131,7 @@ fn end_bound<'p>(
     requires sound { Sound m.old }
     requires value { Owns (arena_in m.old) value }
     requires from { Owns (arena_in m.old) from }
-    ensures { GoesToValue result m.new m.old (bound_then (setting_of m.old) (optional_of m.old.code.file to.now) (value_goes (setting_of m.old) (step_of place (value_of (arena_in m.old) value) (value_of (arena_in m.old) from) (optional_of m.old.code.file step.now)))) }
+    ensures { GoesToValue result m.new m.old (bound_then_in m.old to.now (index_goes_in m.old (index_frames.StepOf place value from step.entry))) }
 {
     match to {
         None => step_bound(m, place, value, from, Value::None, step),
@@ -154,7 +152,7 @@ fn step_bound<'p>(
     requires value { Owns (arena_in m.old) value }
     requires from { Owns (arena_in m.old) from }
     requires to { Owns (arena_in m.old) to }
-    ensures { GoesToValue result m.new m.old (bound_then (setting_of m.old) (optional_of m.old.code.file step.now) (value_goes (setting_of m.old) (cut_at place (value_of (arena_in m.old) value) (value_of (arena_in m.old) from) (value_of (arena_in m.old) to)))) }
+    ensures { GoesToValue result m.new m.old (bound_then_in m.old step.now (index_goes_in m.old (index_frames.CutAt place value from to))) }
 {
     match step {
         None => {
@@ -178,7 +176,8 @@ fn slice<'p>(
 ) -> Result<Control<'p>, Memory>
     requires sound { Sound m.old }
     requires value { Owns (arena_in m.old) value }
-    ensures { GoesToValue result m.new m.old (slice_row place (value_of (arena_in m.old) value) (cut (value_of (arena_in m.old) parts.from) (value_of (arena_in m.old) parts.to) (value_of (arena_in m.old) parts.step))) }
+    ensures { GoesToValue result m.new m.old
+        (slice_row place (value_in m.old value) (cut (value_in m.old parts.from) (value_in m.old parts.to) (value_in m.old parts.step))) }
 {
     let session = &mut m.session;
     settle(star_ops::slice(&mut session.arena, &mut session.work, value, parts, place))

@@ -1,22 +1,17 @@
 // The loop.
 ghost use Rattle.std.specs.Prelude.{◌≡◌, IfOk, true, false};
-ghost use Rattle.ytt_base.specs.declared.fault.FaultKind.TheVariants as kind;
-ghost use Rattle.node_build.specs.View.{OwnsNodes, nodes_of};
-ghost use Rattle.star_blocks.specs.Nested.{ops_of};
-ghost use Rattle.star_spec.specs.Eval.{starlark};
-ghost use Rattle.star_values.specs.Objects.{env_in};
+ghost use Rattle.node_build.specs.View.{OwnsNodes};
 ghost use Rattle.star_values.specs.Owns.{Grows, Owns, OwnsArguments, OwnsEnv};
-ghost use Rattle.template_meaning.specs.Run.{runs};
-ghost use Rattle.star_eval.specs.Finishes.{Finishes, block_ending, call_ending, called};
-ghost use Rattle.star_eval.specs.Frames.{Goes, asks_host, given_by, is_active, left_by, means};
+ghost use Rattle.star_eval.specs.Finishes.{Finishes, block_ending, block_run, call_ending, called};
+ghost use Rattle.star_eval.specs.Frames.{GoesTo, asks_host, given_by, is_active, left_by, means};
 ghost use Rattle.star_eval.specs.Hosted.{Comes, hosted_at};
 ghost use Rattle.star_eval.specs.Hosts.{OwnsHosted, OwnsQuestion};
 ghost use Rattle.star_eval.specs.declared.frame.Control.TheVariants as control;
 ghost use Rattle.star_spec.specs.Hosts.{hosted};
-ghost use Rattle.star_eval.specs.Calling.{calls_at};
-ghost use Rattle.star_eval.specs.Meets.{arena_of, state_of};
+ghost use Rattle.star_eval.specs.Meets.{arena_of};
 ghost use Rattle.star_eval.specs.View.{OwnsControl, Sound, arena_in};
 ghost use Rattle.star_eval.specs.Waiting.{end_env, flow_ends, value_ends};
+ghost use Rattle.star_eval.specs.Scope.{variables_in};
 
 use crate::assign::assign;
 use crate::calls::call;
@@ -71,7 +66,7 @@ fn step<'p>(m: &mut Machine<'p>, control: Control<'p>) -> Result<Control<'p>, Me
     requires alone { asks_host control ≡ false }
     requires sound { Sound m.old }
     requires control { OwnsControl (arena_in m.old) control }
-    ensures { IfOk result (λ c. Goes (arena_in m.old) m.new c (means m.old control.entry)) }
+    ensures { GoesTo result m.new m.old (means m.old control.entry) }
 {
     match control {
         Control::Eval(expr) => eval(m, expr),
@@ -151,7 +146,8 @@ fn run_down<'p, H: Host>(
 ) -> Result<Stopped<'p>, Memory>
     requires sound { Sound machine }
     requires control { OwnsControl (arena_in machine) start }
-    ensures comes { IfOk result (λ e. Comes H.answers (arena_in machine.entry) e.machine e.control host.new (hosted_at H.answers (means machine.entry start.entry) host.old)) }
+    ensures comes { IfOk result (λ e.
+        Comes H.answers (arena_in machine.entry) e.machine e.control host.new (hosted_at H.answers (means machine.entry start.entry) host.old)) }
     ensures over { IfOk result (λ e. is_active e.machine e.control ≡ false) }
 {
     let mut machine = machine;
@@ -232,8 +228,9 @@ pub(crate) fn run_block<'p, H: Host>(
 ) -> Result<Finished, Memory>
     requires scope { OwnsEnv (arena_of session) scope }
     requires nodes { OwnsNodes (arena_of session) nodes }
-    ensures ended { IfOk result (λ e. hosted H.answers (block_ending e) host.new ≡ hosted H.answers (runs starlark (calls_at code.entry.functions depth) (ops_of code.entry.file block.now) (env_in (arena_of session).held scope) (nodes_of (arena_of session) nodes) (state_of session)) host.old) }
-    ensures finishes { IfOk result (Finishes (arena_of session) (env_in (arena_of session).held scope)) }
+    ensures ended { IfOk result (λ e.
+        hosted H.answers (block_ending e) host.new ≡ hosted H.answers (block_run code.entry depth block.now scope nodes session) host.old) }
+    ensures finishes { IfOk result (Finishes (arena_of session) (variables_in session scope)) }
 {
     let machine = Machine {
         code,
@@ -303,7 +300,8 @@ pub(crate) fn run_call<'p, H: Host>(
 ) -> Result<Called, Memory>
     requires function { Owns (arena_of session) function }
     requires args { OwnsArguments (arena_of session) args }
-    ensures ended { IfOk result (λ e. hosted H.answers (call_ending e) host.new ≡ hosted H.answers (called functions.entry depth place function args session) host.old) }
+    ensures ended { IfOk result (λ e.
+        hosted H.answers (call_ending e) host.new ≡ hosted H.answers (called functions.entry depth place function args session) host.old) }
     ensures owned { IfOk result (λ e. IfOk e.result (Owns (arena_of e.session))) }
     ensures grows { IfOk result (λ e. Grows (arena_of session) (arena_of e.session)) }
 {

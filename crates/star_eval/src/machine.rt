@@ -1,12 +1,13 @@
 // What is put on others, and ways to end.
-ghost use Rattle.std.specs.Prelude.{◌≡◌, ◌∷◌, IfOk};
+ghost use Rattle.std.specs.Prelude.{◌≡◌, ◌∷◌};
 ghost use Rattle.ytt_base.specs.declared.fault.FaultKind.TheVariants as kind;
 ghost use Rattle.ytt_base.specs.Outcomes.{fault_at, fault_of};
 ghost use Rattle.star_eval.specs.declared.frame.Control.TheVariants as control;
-ghost use Rattle.star_eval.specs.Frames.{Goes, inside};
+ghost use Rattle.star_eval.specs.Frames.{GoesTo, inside};
 ghost use Rattle.star_eval.specs.Settled.{Settles, SettlesFlow, SettlesNone, SettlesRun};
-ghost use Rattle.star_eval.specs.View.{OwnsControl, OwnsFrame, OwnsInStatement, OwnsInValue, Sound, arena_in, statement_frame, value_frame, waiting_in, waiting_with};
+ghost use Rattle.star_eval.specs.View.{OwnsControl, OwnsFrame, OwnsInStatement, OwnsInValue, Sound, arena_in, waiting_in, waiting_with};
 ghost use Rattle.star_eval.specs.Waiting.{in_statement, in_value};
+ghost use Rattle.star_eval.specs.Seen.{statement_frame_in, value_frame_in};
 
 use crate::frame::{Control, Flow, Frame, InStatement, InValue, Machine};
 use object_arena::{Arena, Value};
@@ -24,7 +25,7 @@ pub(crate) fn push<'p>(
     requires sound { Sound m.old }
     requires frame { OwnsFrame (arena_in m.old) frame }
     requires control { OwnsControl (arena_in m.old) control }
-    ensures { IfOk result (λ c. Goes (arena_in m.old) m.new c (inside m.old (waiting_with m.old frame.entry) control.entry)) }
+    ensures { GoesTo result m.new m.old (inside m.old (waiting_with m.old frame.entry) control.entry) }
 {
     m.frames.push(frame)?;
     Ok(control)
@@ -39,7 +40,7 @@ pub(crate) fn push_value<'p>(
     requires sound { Sound m.old }
     requires frame { OwnsInValue (arena_in m.old) frame }
     requires control { OwnsControl (arena_in m.old) control }
-    ensures { IfOk result (λ c. Goes (arena_in m.old) m.new c (inside m.old (in_value (value_frame (arena_in m.old) m.old.code.file frame.entry) ∷ waiting_in m.old) control.entry)) }
+    ensures { GoesTo result m.new m.old (inside m.old (in_value (value_frame_in m.old frame.entry) ∷ waiting_in m.old) control.entry) }
 {
     let boxed = Boxed::new(m.session.arena.alloc(), frame)?;
     push(m, Frame::Value(boxed), control)
@@ -54,7 +55,7 @@ pub(crate) fn push_statement<'p>(
     requires sound { Sound m.old }
     requires frame { OwnsInStatement (arena_in m.old) frame }
     requires control { OwnsControl (arena_in m.old) control }
-    ensures { IfOk result (λ c. Goes (arena_in m.old) m.new c (inside m.old (in_statement (statement_frame (arena_in m.old) m.old.code.file frame.entry) ∷ waiting_in m.old) control.entry)) }
+    ensures { GoesTo result m.new m.old (inside m.old (in_statement (statement_frame_in m.old frame.entry) ∷ waiting_in m.old) control.entry) }
 {
     let boxed = Boxed::new(m.session.arena.alloc(), frame)?;
     push(m, Frame::Statement(boxed), control)

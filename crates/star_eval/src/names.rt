@@ -3,11 +3,11 @@ ghost use Rattle.std.specs.Prelude.{◌≡◌, ℕ};
 ghost use Rattle.star_spec.specs.Names.{box_of, constant, read_name, unbound, write_name};
 ghost use Rattle.star_values.specs.Objects.{env_in, seen};
 ghost use Rattle.star_values.specs.Owns.{Owns, OwnsEnv};
-ghost use Rattle.star_values.specs.View.{View, text_in, value_of};
+ghost use Rattle.star_values.specs.View.{View, value_of};
 ghost use Rattle.value_spec.specs.Outcomes.{fail_with};
 ghost use Rattle.star_steps.specs.Meets.{Gives, state_in};
-ghost use Rattle.star_eval.specs.Meets.{Acts, GivesFrom};
-ghost use Rattle.star_eval.specs.Scope.{OwnsBox, position_of};
+ghost use Rattle.star_eval.specs.Meets.{Acts, GivesFrom, arena_of};
+ghost use Rattle.star_eval.specs.Scope.{OwnsBox, position_of, variables_in};
 
 use crate::session::Session;
 use object_arena::{Arena, NamedBox, Ref, Value};
@@ -69,8 +69,8 @@ pub(crate) fn read(
     place: Place,
     name: &Text,
 ) -> Result<Value, Stop>
-    requires { OwnsEnv (seen session.old.arena) scope.now }
-    ensures { GivesFrom (read_name place name.now (box_of name.now (env_in (seen session.old.arena).held scope.now))) result session.new session.old }
+    requires { OwnsEnv (arena_of session.old) scope.now }
+    ensures { GivesFrom (read_name place name.now (box_of name.now (variables_in session.old scope.now))) result session.new session.old }
 {
     match find(&session.arena, scope, name) {
         None => unbound(&mut session.arena, place, name),
@@ -89,9 +89,11 @@ pub(crate) fn write(
     name: &Text,
     value: Value,
 ) -> Result<(), Stop>
-    requires scope { OwnsEnv (seen session.old.arena) scope.now }
-    requires value { Owns (seen session.old.arena) value }
-    ensures { Acts (write_name place name.now (value_of (seen session.old.arena) value) (box_of name.now (env_in (seen session.old.arena).held scope.now))) result session.new session.old }
+    requires scope { OwnsEnv (arena_of session.old) scope.now }
+    requires value { Owns (arena_of session.old) value }
+    ensures { Acts
+        (write_name place name.now (value_of (arena_of session.old) value) (box_of name.now (variables_in session.old scope.now)))
+        result session.new session.old }
 {
     match find(&session.arena, scope, name) {
         None => {

@@ -1,18 +1,14 @@
 // Natives of a host: what it is asked, and what follows from what it answers.
-ghost use Rattle.std.specs.Prelude.{◌≡◌, ◌∷◌, IfOk, true};
-ghost use Rattle.star_spec.specs.Calls.{asking as host_asking, replied, resumed_with};
+ghost use Rattle.std.specs.Prelude.{◌≡◌, ◌∷◌, IfOk};
 ghost use Rattle.star_values.specs.Objects.{seen};
 ghost use Rattle.star_values.specs.Owns.{Owns, OwnsAll};
-ghost use Rattle.star_values.specs.View.{value_of, values_of};
 ghost use Rattle.star_values.specs.declared.value.Value.TheVariants as value;
-ghost use Rattle.value_spec.specs.Outcomes.{call_then, then_do};
-ghost use Rattle.value_spec.specs.Values.{arguments, no_fields, values_from};
-ghost use Rattle.star_eval.specs.declared.frame.Control.TheVariants as control;
-ghost use Rattle.star_eval.specs.Calling.{calls_from};
-ghost use Rattle.star_eval.specs.Frames.{Goes, GoesToValue, Waits, after_answer, inside};
-ghost use Rattle.star_eval.specs.Hosts.{HostGives, OwnsGot, OwnsHosted, OwnsQuestion, OwnsReply, answer_of, host_held, host_name, is_hosted, native_at, question_of, reply_of};
+ghost use Rattle.value_spec.specs.Outcomes.{call_then};
+ghost use Rattle.star_eval.specs.Frames.{GoesTo, GoesToValue, Waits, after_answer, inside};
+ghost use Rattle.star_eval.specs.Hosts.{HostGives, OwnsGot, OwnsHosted, OwnsQuestion, OwnsReply, answer_of, is_hosted, native_at, question_of, reply_of};
 ghost use Rattle.star_eval.specs.Meets.{arena_of};
-ghost use Rattle.star_eval.specs.View.{OwnsPending, Sound, arena_in, native_frame, setting_of, waiting_in};
+ghost use Rattle.star_eval.specs.View.{OwnsPending, Sound, arena_in, native_frame, waiting_in};
+ghost use Rattle.star_eval.specs.Seen.{after_call, called_within, positional_in, value_in};
 
 use crate::calls::call_within;
 use crate::frame::{Asking, Control, Frame, Machine, Pending, Question};
@@ -89,7 +85,7 @@ fn call_asked<'p>(
     requires native { OwnsHosted (arena_in m.old) asking.native }
     requires function { Owns (arena_in m.old) function }
     requires args { OwnsAll (arena_in m.old) args }
-    ensures { GoesToValue result m.new m.old (after_answer m.old asking (call_then (value_of (arena_in m.old) function) (arguments (values_from (values_of (arena_in m.old) args)) no_fields) tag)) }
+    ensures { GoesToValue result m.new m.old (after_answer m.old asking (call_then (value_in m.old function) (positional_in m.old args) tag)) }
 {
     if asking.left == 0 {
         return Ok(failed(m, FaultKind::Steps, asking.place));
@@ -114,7 +110,8 @@ fn call_for<'p>(
     requires native { OwnsHosted (arena_in m.old) asking.native }
     requires function { Owns (arena_in m.old) function }
     requires args { OwnsAll (arena_in m.old) args }
-    ensures { GoesToValue result m.new m.old (λ s. then_do (resumed_with host_asking asking.place (host_name (native_at (arena_in m.old) asking.native)) (host_held (native_at (arena_in m.old) asking.native)) tag (calls_from (setting_of m.old).function asking.left asking.place (value_of (arena_in m.old) function) (arguments (values_from (values_of (arena_in m.old) args)) no_fields) s)) (after_answer m.old asking)) }
+    ensures { GoesToValue result m.new m.old
+        (λ s. after_call m.old asking tag (called_within m.old asking.left asking.place function (positional_in m.old args) s)) }
 {
     wait_for(m, asking, tag)?;
     let named = Items::new(m.session.arena.alloc());
@@ -149,7 +146,7 @@ pub(crate) fn resume<'p>(
     requires sound { Sound m.old }
     requires pending { OwnsPending (arena_in m.old) pending }
     requires got { OwnsGot (arena_in m.old) got }
-    ensures { IfOk result (λ c. Goes (arena_in m.old) m.new c (inside m.old (native_frame (arena_in m.old) pending ∷ waiting_in m.old) (answer_of got))) }
+    ensures { GoesTo result m.new m.old (inside m.old (native_frame (arena_in m.old) pending ∷ waiting_in m.old) (answer_of got)) }
 {
     let question = Question::Resumed(pending.tag, got);
     let question = Boxed::new(m.session.arena.alloc(), question)?;

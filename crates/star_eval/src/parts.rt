@@ -1,14 +1,11 @@
 // Parts of nodes.
-ghost use Rattle.std.specs.Prelude.{◌≡◌};
 ghost use Rattle.code_spec.specs.Program.{node_start};
-ghost use Rattle.star_blocks.specs.Nested.{ops_of};
-ghost use Rattle.star_spec.specs.Flow.{go_on};
+ghost use Rattle.star_spec.specs.Flow.{in_turn};
 ghost use Rattle.star_tree.specs.View.{holds_of, item_kind_of};
-ghost use Rattle.star_tree.specs.Whole.{part_of};
-ghost use Rattle.value_spec.specs.Outcomes.{then_do};
 ghost use Rattle.star_eval.specs.Frames.{GoesToFlow};
-ghost use Rattle.star_eval.specs.Doing.{part_done, through, written_part};
+ghost use Rattle.star_eval.specs.Doing.{part_done, written_part};
 ghost use Rattle.star_eval.specs.View.{Sound, nodes_in, setting_of};
+ghost use Rattle.star_eval.specs.Seen.{part_in, through_in};
 
 use crate::arguments::{no_arguments, note_with};
 use crate::frame::{Control, Flow, Frame, InBlock, InStatement, Machine};
@@ -26,7 +23,7 @@ pub(crate) fn node_part<'p>(
     rest: &'p [Op],
 ) -> Result<Control<'p>, Memory>
     requires { Sound m.old }
-    ensures { GoesToFlow result m.new m.old (λ s. then_do (part_done (setting_of m.old) (part_of m.old.code.file part.now) (nodes_in m.old) s) (go_on (through (setting_of m.old) (ops_of m.old.code.file rest.now)))) }
+    ensures { GoesToFlow result m.new m.old (in_turn (part_done (setting_of m.old) (part_in m.old part.now)) (through_in m.old rest.now) (nodes_in m.old)) }
 {
     m.frames.push(Frame::Block(InBlock::Rest(rest)))?;
     build(m, part)
@@ -35,7 +32,7 @@ pub(crate) fn node_part<'p>(
 /// What a part of a node does. A start takes a step.
 fn build<'p>(m: &mut Machine<'p>, part: &'p NodeOp) -> Result<Control<'p>, Memory>
     requires { Sound m.old }
-    ensures { GoesToFlow result m.new m.old (part_done (setting_of m.old) (part_of m.old.code.file part.now) (nodes_in m.old)) }
+    ensures { GoesToFlow result m.new m.old (part_done (setting_of m.old) (part_in m.old part.now) (nodes_in m.old)) }
 {
     match part {
         NodeOp::Start(place, kind, holds) => start(m, *place, *kind, *holds),

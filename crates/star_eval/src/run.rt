@@ -1,16 +1,15 @@
 // Blocks and statements.
-ghost use Rattle.std.specs.Prelude.{◌≡◌, [], Some, IfOk};
+ghost use Rattle.std.specs.Prelude.{◌≡◌, Some};
 ghost use Rattle.code_spec.specs.Code as plain;
-ghost use Rattle.star_blocks.specs.Nested.{arms_of, op_of, ops_of, statement_of};
-ghost use Rattle.star_spec.specs.Flow.{go_on};
-ghost use Rattle.star_spec.specs.Names.{box_of, write_name};
-ghost use Rattle.star_tree.specs.Whole.{binary_operator_of, expr_of, parameters_of};
+ghost use Rattle.star_blocks.specs.Nested.{statement_of};
+ghost use Rattle.star_spec.specs.Flow.{in_turn};
+ghost use Rattle.star_tree.specs.Whole.{binary_operator_of};
 ghost use Rattle.value_spec.specs.Outcomes.{then_do};
 ghost use Rattle.star_eval.specs.declared.frame.Control.TheVariants as control;
-ghost use Rattle.star_eval.specs.Frames.{Goes, GoesToFlow, means};
-ghost use Rattle.star_eval.specs.Doing.{arms_done, augmented, concluded, done_after, evaluated, making, op_done, op_place, op_through, through};
-ghost use Rattle.star_eval.specs.View.{OwnsInStatement, Sound, arena_in, nodes_in, setting_of, statement_frame};
-ghost use Rattle.star_eval.specs.Waiting.{statement_goes};
+ghost use Rattle.star_eval.specs.Frames.{GoesTo, GoesToFlow, means};
+ghost use Rattle.star_eval.specs.Doing.{arms_done, augmented, defined, done_after, op_done, op_place, op_through};
+ghost use Rattle.star_eval.specs.View.{OwnsInStatement, Sound, arena_in, nodes_in, setting_of};
+ghost use Rattle.star_eval.specs.Seen.{arms_in, evaluated_in, expr_in, op_in, parameters_in, statement_goes_in, statement_in, through_in};
 
 use crate::frame::{Control, Flow, Frame, InBlock, InStatement, Machine, Making};
 use crate::functions::make_function;
@@ -46,7 +45,7 @@ fn place_of(file: u32, statement: &Statement) -> Place
 /// A block: what stands first in it, and then the rest. Each statement takes a step before it acts.
 pub(crate) fn run<'p>(m: &mut Machine<'p>, block: &'p [Op]) -> Result<Control<'p>, Memory>
     requires { Sound m.old }
-    ensures { IfOk result (λ c. Goes (arena_in m.old) m.new c (means m.old (control.Run block.entry))) }
+    ensures { GoesTo result m.new m.old (means m.old (control.Run block.entry)) }
 {
     match block.split_first() {
         None => Ok(Control::Went(Flow::On)),
@@ -57,7 +56,7 @@ pub(crate) fn run<'p>(m: &mut Machine<'p>, block: &'p [Op]) -> Result<Control<'p
 /// What stands first in a block, and then the rest.
 fn run_first<'p>(m: &mut Machine<'p>, first: &'p Op, rest: &'p [Op]) -> Result<Control<'p>, Memory>
     requires { Sound m.old }
-    ensures { GoesToFlow result m.new m.old (λ s. then_do (op_through (setting_of m.old) (op_of m.old.code.file first.now) (nodes_in m.old) s) (go_on (through (setting_of m.old) (ops_of m.old.code.file rest.now)))) }
+    ensures { GoesToFlow result m.new m.old (in_turn (op_through (setting_of m.old) (op_in m.old first.now)) (through_in m.old rest.now) (nodes_in m.old)) }
 {
     match first {
         Op::Node(part) => node_part(m, part, rest),
@@ -72,7 +71,8 @@ fn run_statement<'p>(
     rest: &'p [Op],
 ) -> Result<Control<'p>, Memory>
     requires { Sound m.old }
-    ensures { GoesToFlow result m.new m.old (λ s. then_do (op_done (setting_of m.old) (statement_of m.old.code.file statement.now) (nodes_in m.old) s) (go_on (through (setting_of m.old) (ops_of m.old.code.file rest.now)))) }
+    ensures { GoesToFlow result m.new m.old
+        (in_turn (op_done (setting_of m.old) (statement_in m.old statement.now)) (through_in m.old rest.now) (nodes_in m.old)) }
 {
     if rest.is_empty() {
         return begin(m, statement);
@@ -83,7 +83,7 @@ fn run_statement<'p>(
 
 fn begin<'p>(m: &mut Machine<'p>, statement: &'p Statement) -> Result<Control<'p>, Memory>
     requires { Sound m.old }
-    ensures { GoesToFlow result m.new m.old (op_done (setting_of m.old) (statement_of m.old.code.file statement.now) (nodes_in m.old)) }
+    ensures { GoesToFlow result m.new m.old (op_done (setting_of m.old) (statement_in m.old statement.now) (nodes_in m.old)) }
 {
     let place = place_of(m.code.file, statement);
     if m.session.work.steps == 0 {
@@ -100,7 +100,7 @@ fn act<'p>(
     statement: &'p Statement,
 ) -> Result<Control<'p>, Memory>
     requires { Sound m.old }
-    ensures { GoesToFlow result m.new m.old (done_after (setting_of m.old) place (statement_of m.old.code.file statement.now) (nodes_in m.old)) }
+    ensures { GoesToFlow result m.new m.old (done_after (setting_of m.old) place (statement_in m.old statement.now) (nodes_in m.old)) }
 {
     match statement {
         Statement::Expr(_, expr) => within(m, InStatement::Discard, expr.get()),
@@ -139,7 +139,8 @@ fn define<'p>(
     params: &'p [Param],
 ) -> Result<Control<'p>, Memory>
     requires { Sound m.old }
-    ensures { GoesToFlow result m.new m.old (λ s. then_do (making (setting_of m.old) (record { place = place; name = name.now; number = number }) (parameters_of m.old.code.file params.now) [] s) (λ f. concluded (write_name place name.now f (box_of name.now (setting_of m.old).env)) (nodes_in m.old))) }
+    ensures { GoesToFlow result m.new m.old
+        (defined (setting_of m.old) (record { place = place; name = name.now; number = number }) (parameters_in m.old params.now) (nodes_in m.old)) }
 {
     let frame = Boxed::new(m.session.arena.alloc(), InStatement::Bind(place, name))?;
     m.frames.push(Frame::Statement(frame))?;
@@ -160,7 +161,7 @@ pub(crate) fn within<'p>(
 ) -> Result<Control<'p>, Memory>
     requires sound { Sound m.old }
     requires frame { OwnsInStatement (arena_in m.old) frame }
-    ensures { GoesToFlow result m.new m.old (λ s. then_do (evaluated (setting_of m.old) (expr_of m.old.code.file expr.now) s) (λ v. statement_goes (setting_of m.old) (statement_frame (arena_in m.old) m.old.code.file frame.entry) v (nodes_in m.old))) }
+    ensures { GoesToFlow result m.new m.old (λ s. then_do (evaluated_in m.old expr.now s) (statement_goes_in m.old frame.entry)) }
 {
     push_statement(m, frame, Control::Eval(expr))
 }
@@ -174,7 +175,8 @@ fn augment<'p>(
     expr: &'p Expr,
 ) -> Result<Control<'p>, Memory>
     requires { Sound m.old }
-    ensures { GoesToFlow result m.new m.old (augmented (setting_of m.old) (binary_operator_of op) place (expr_of m.old.code.file target.now) (expr_of m.old.code.file expr.now) (nodes_in m.old)) }
+    ensures { GoesToFlow result m.new m.old
+        (augmented (setting_of m.old) (binary_operator_of op) place (expr_in m.old target.now) (expr_in m.old expr.now) (nodes_in m.old)) }
 {
     match target {
         Expr::Name(line, name) => {
@@ -228,7 +230,8 @@ fn augment_name<'p>(
     expr: &'p Expr,
 ) -> Result<Control<'p>, Memory>
     requires { Sound m.old }
-    ensures { GoesToFlow result m.new m.old (augmented (setting_of m.old) (binary_operator_of op) place (plain.name at name.now) (expr_of m.old.code.file expr.now) (nodes_in m.old)) }
+    ensures { GoesToFlow result m.new m.old
+        (augmented (setting_of m.old) (binary_operator_of op) place (plain.name at name.now) (expr_in m.old expr.now) (nodes_in m.old)) }
 {
     match read(&mut m.session, m.scope.as_slice(), at, name) {
         Ok(old) => within(m, InStatement::Augment(place, op, at, name, old), expr),
@@ -240,7 +243,7 @@ fn augment_name<'p>(
 /// The first of these branches whose test holds.
 pub(crate) fn choose<'p>(m: &mut Machine<'p>, arms: &'p [Arm]) -> Result<Control<'p>, Memory>
     requires { Sound m.old }
-    ensures { GoesToFlow result m.new m.old (arms_done (setting_of m.old) (arms_of m.old.code.file arms.now) (nodes_in m.old)) }
+    ensures { GoesToFlow result m.new m.old (arms_done (setting_of m.old) (arms_in m.old arms.now) (nodes_in m.old)) }
 {
     match arms.split_first() {
         None => Ok(Control::Went(Flow::On)),

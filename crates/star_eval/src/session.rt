@@ -1,10 +1,10 @@
 // What goes on through a run.
 ghost use Rattle.index_spec.specs.Index.{set_index_row};
 ghost use Rattle.std.specs.Prelude.{◌≡◌, []};
-ghost use Rattle.star_eval.specs.Meets.{Acts, GivesFrom, in_store, state_of};
+ghost use Rattle.star_eval.specs.Meets.{Acts, GivesFrom, arena_of, in_store, state_of};
 ghost use Rattle.value_spec.specs.Outcomes.{give, new_dict, new_list};
 ghost use Rattle.value_spec.specs.Values.{text_value, tuple_value, values_from};
-ghost use Rattle.star_values.specs.Objects.{pairs_in, seen};
+ghost use Rattle.star_values.specs.Objects.{pairs_in};
 ghost use Rattle.star_values.specs.Owns.{Each, Owns, OwnsAll, OwnsPair};
 ghost use Rattle.star_values.specs.View.{value_of, values_of};
 
@@ -44,24 +44,24 @@ pub(crate) fn make_text(session: &mut Session, text: &Text) -> Result<Value, Sto
 
 /// A tuple of these members.
 pub(crate) fn make_tuple(session: &mut Session, members: &[Value]) -> Result<Value, Stop>
-    requires { OwnsAll (seen session.old.arena) members.now }
-    ensures { GivesFrom (give (tuple_value (values_from (values_of (seen session.old.arena) members.now)))) result session.new session.old }
+    requires { OwnsAll (arena_of session.old) members.now }
+    ensures { GivesFrom (give (tuple_value (values_from (values_of (arena_of session.old) members.now)))) result session.new session.old }
 {
     Ok(session.arena.new_tuple(members)?)
 }
 
 /// A new list of these members.
 pub(crate) fn make_list(session: &mut Session, members: &[Value]) -> Result<Value, Stop>
-    requires { OwnsAll (seen session.old.arena) members.now }
-    ensures { GivesFrom (new_list (values_of (seen session.old.arena) members.now)) result session.new session.old }
+    requires { OwnsAll (arena_of session.old) members.now }
+    ensures { GivesFrom (new_list (values_of (arena_of session.old) members.now)) result session.new session.old }
 {
     Ok(session.arena.new_list(members)?)
 }
 
 /// A new dict of these pairs.
 pub(crate) fn make_dict(session: &mut Session, pairs: Pairs) -> Result<Value, Stop>
-    requires { Each (OwnsPair (seen session.old.arena)) pairs.entries }
-    ensures { GivesFrom (new_dict (pairs_in (seen session.old.arena).held pairs.entries)) result session.new session.old }
+    requires { Each (OwnsPair (arena_of session.old)) pairs.entries }
+    ensures { GivesFrom (new_dict (pairs_in (arena_of session.old).held pairs.entries)) result session.new session.old }
 {
     Ok(session.arena.new_dict_of(pairs)?)
 }
@@ -74,10 +74,12 @@ pub(crate) fn set_at(
     index: Value,
     new: Value,
 ) -> Result<(), Stop>
-    requires value { Owns (seen session.old.arena) value }
-    requires index { Owns (seen session.old.arena) index }
-    requires new { Owns (seen session.old.arena) new }
-    ensures { Acts (set_index_row place (value_of (seen session.old.arena) value) (value_of (seen session.old.arena) index) (value_of (seen session.old.arena) new)) result session.new session.old }
+    requires value { Owns (arena_of session.old) value }
+    requires index { Owns (arena_of session.old) index }
+    requires new { Owns (arena_of session.old) new }
+    ensures { Acts
+        (set_index_row place (value_of (arena_of session.old) value) (value_of (arena_of session.old) index) (value_of (arena_of session.old) new))
+        result session.new session.old }
 {
     star_ops::set_index(
         &mut session.arena,

@@ -1,18 +1,15 @@
 // Loops.
 ghost use Rattle.std.specs.Prelude.{◌≡◌, IfOk};
-ghost use Rattle.star_spec.specs.Flow.{next_turn, turns};
-ghost use Rattle.star_blocks.specs.Nested.{ops_of};
-ghost use Rattle.star_tree.specs.Whole.{expr_of};
+ghost use Rattle.star_spec.specs.Flow.{turns};
 ghost use Rattle.star_values.specs.Owns.{Owns};
 ghost use Rattle.star_values.specs.View.{View, value_of};
-ghost use Rattle.value_spec.specs.Outcomes.{on_store, then_do};
-ghost use Rattle.value_spec.specs.Store.{begin_loop};
-ghost use Rattle.star_eval.specs.Frames.{GoesToFlow, around_flow};
-ghost use Rattle.star_eval.specs.Meets.{Begins, arena_of, state_of};
-ghost use Rattle.star_eval.specs.Doing.{looped, through};
-ghost use Rattle.star_eval.specs.Sources.{IsWalkOf, OwnsMembers, OwnsSource, Walked, all_members, left_of, members_at};
+ghost use Rattle.star_eval.specs.Frames.{GoesToFlow};
+ghost use Rattle.star_eval.specs.Meets.{Begins, arena_of};
+ghost use Rattle.star_eval.specs.Doing.{looped};
+ghost use Rattle.star_eval.specs.Sources.{IsWalkOf, OwnsMembers, OwnsSource, Walked, all_members, members_at};
 ghost use Rattle.star_eval.specs.View.{Sound, arena_in, nodes_in, setting_of};
-ghost use Rattle.star_eval.specs.Waiting.{turn_of, walked};
+ghost use Rattle.star_eval.specs.Waiting.{turn_and_more, walked};
+ghost use Rattle.star_eval.specs.Seen.{expr_in, left_in, members_walked, through_in, turn_in, value_in};
 
 use crate::frame::{Control, Flow, Frame, InBlock, InStatement, Machine};
 use crate::machine::{left, push_statement, settle_run};
@@ -47,7 +44,8 @@ pub(crate) fn walk<'p>(
 ) -> Result<Control<'p>, Memory>
     requires sound { Sound m.old }
     requires value { Owns (arena_in m.old) value }
-    ensures { GoesToFlow result m.new m.old (looped (setting_of m.old) place (expr_of m.old.code.file target.now) (through (setting_of m.old) (ops_of m.old.code.file body.now)) (value_of (arena_in m.old) value) (nodes_in m.old)) }
+    ensures { GoesToFlow result m.new m.old
+        (looped (setting_of m.old) place (expr_in m.old target.now) (through_in m.old body.now) (value_in m.old value) (nodes_in m.old)) }
 {
     match walk_of(value) {
         Some(object) => walk_object(m, place, target, body, object),
@@ -83,7 +81,8 @@ fn walk_object<'p>(
 ) -> Result<Control<'p>, Memory>
     requires sound { Sound m.old }
     requires object { Walked (arena_in m.old) object }
-    ensures { GoesToFlow result m.new m.old (walked object.at (turns place (turn_of (setting_of m.old) place (expr_of m.old.code.file target.now) (ops_of m.old.code.file body.now)) (members_at object.at (arena_in m.old).store)) (nodes_in m.old)) }
+    ensures { GoesToFlow result m.new m.old
+        (walked object.at (turns place (turn_in m.old place target.now body.now) (members_walked m.old object)) (nodes_in m.old)) }
 {
     let members = begin(&mut m.session, object)?;
     m.frames.push(Frame::Block(InBlock::WalkEnd(object)))?;
@@ -100,7 +99,7 @@ pub(crate) fn turn<'p>(
 ) -> Result<Control<'p>, Memory>
     requires sound { Sound m.old }
     requires source { OwnsSource (arena_in m.old) source }
-    ensures { GoesToFlow result m.new m.old (turns place (turn_of (setting_of m.old) place (expr_of m.old.code.file target.now) (ops_of m.old.code.file body.now)) (left_of (arena_in m.old) source) (nodes_in m.old)) }
+    ensures { GoesToFlow result m.new m.old (turns place (turn_in m.old place target.now body.now) (left_in m.old source) (nodes_in m.old)) }
 {
     match source.advance(&m.session.arena)? {
         None => Ok(Control::Went(Flow::On)),
@@ -126,7 +125,8 @@ fn enter<'p>(
     requires sound { Sound m.old }
     requires value { Owns (arena_in m.old) value }
     requires source { OwnsSource (arena_in m.old) source }
-    ensures { GoesToFlow result m.new m.old (λ s. then_do (turn_of (setting_of m.old) place (expr_of m.old.code.file target.now) (ops_of m.old.code.file body.now) (value_of (arena_in m.old) value) (nodes_in m.old) s) (next_turn (turns place (turn_of (setting_of m.old) place (expr_of m.old.code.file target.now) (ops_of m.old.code.file body.now)) (left_of (arena_in m.old) source)))) }
+    ensures { GoesToFlow result m.new m.old
+        (turn_and_more place (turn_in m.old place target.now body.now) (value_in m.old value) (left_in m.old source) (nodes_in m.old)) }
 {
     let source = Boxed::new(m.session.arena.alloc(), source)?;
     let frame = InBlock::Turn(place, target, body, source);
@@ -144,7 +144,7 @@ fn bound<'p>(
 ) -> Result<Control<'p>, Memory>
     requires sound { Sound m.old }
     requires value { Owns (arena_in m.old) value }
-    ensures { GoesToFlow result m.new m.old (turn_of (setting_of m.old) place (expr_of m.old.code.file target.now) (ops_of m.old.code.file body.now) (value_of (arena_in m.old) value) (nodes_in m.old)) }
+    ensures { GoesToFlow result m.new m.old (turn_in m.old place target.now body.now (value_in m.old value) (nodes_in m.old)) }
 {
     match target {
         Expr::Name(line, name) => {

@@ -1,17 +1,18 @@
 // What goes on from the end of a block, from what a comprehension has gathered, or from a fault.
-ghost use Rattle.std.specs.Prelude.{◌≡◌, ◌∷◌, IfOk};
+ghost use Rattle.std.specs.Prelude.{◌∷◌, IfOk};
 ghost use Rattle.ytt_base.specs.declared.fault.FaultKind.TheVariants as kind;
 ghost use Rattle.ytt_base.specs.Outcomes.{fault_of};
 ghost use Rattle.value_spec.specs.Outcomes.{bad, done};
 ghost use Rattle.star_spec.specs.Flow.{on};
 ghost use Rattle.star_eval.specs.declared.frame.Control.TheVariants as control;
-ghost use Rattle.star_eval.specs.Frames.{Goes, around_bag, around_flow, flow_of, inside};
-ghost use Rattle.star_eval.specs.Meets.{Ends, arena_of, state_of};
+ghost use Rattle.star_eval.specs.Frames.{GoesTo, inside};
+ghost use Rattle.star_eval.specs.Meets.{Ends, arena_of};
 ghost use Rattle.star_eval.specs.Sources.{Walked};
-ghost use Rattle.star_eval.specs.View.{OwnsBag, OwnsCaller, OwnsFlow, OwnsFrame, OwnsInBlock, OwnsInClauses, Sound, arena_in, bag_of, block_frame, clauses_frame, nodes_in, setting_of, waiting_in, waiting_with};
-ghost use Rattle.star_eval.specs.Waiting.{block_ends, clauses_end, gather};
-ghost use Rattle.star_values.specs.Objects.{env_in};
+ghost use Rattle.star_eval.specs.View.{OwnsBag, OwnsFlow, OwnsFrame, OwnsInBlock, OwnsInClauses, Sound, arena_in, waiting_in, waiting_with};
+ghost use Rattle.star_eval.specs.Waiting.{gather};
 ghost use Rattle.star_values.specs.Owns.{OwnsEnv};
+ghost use Rattle.star_eval.specs.Seen.{bag_in, block_ends_in, clauses_end_in, flow_in};
+ghost use Rattle.star_eval.specs.Scope.{variables_in};
 
 use crate::calls::{restore, returned};
 use crate::comprehensions::{bag_made, clause_turn};
@@ -33,7 +34,7 @@ pub(crate) fn went<'p>(
     requires sound { Sound m.old }
     requires frame { OwnsFrame (arena_in m.old) frame }
     requires flow { OwnsFlow (arena_in m.old) flow }
-    ensures { IfOk result (λ c. Goes (arena_in m.old) m.new c (inside m.old (waiting_with m.old frame.entry) (control.Went flow))) }
+    ensures { GoesTo result m.new m.old (inside m.old (waiting_with m.old frame.entry) (control.Went flow)) }
 {
     match frame {
         Frame::Block(inner) => go_on(m, inner, flow),
@@ -52,7 +53,7 @@ fn go_on<'p>(m: &mut Machine<'p>, frame: InBlock<'p>, flow: Flow) -> Result<Cont
     requires sound { Sound m.old }
     requires frame { OwnsInBlock (arena_in m.old) frame }
     requires flow { OwnsFlow (arena_in m.old) flow }
-    ensures { IfOk result (λ c. Goes (arena_in m.old) m.new c (around_flow m.old (waiting_in m.old) (block_ends (setting_of m.old) (block_frame (arena_in m.old) m.old.code.file frame.entry) (done (flow_of (arena_in m.old) flow (nodes_in m.old)) (state_of m.old.session))))) }
+    ensures { GoesToFlow result m.new m.old (λ s. block_ends_in m.old frame.entry (done (flow_in m.old flow) s)) }
 {
     match frame {
         InBlock::Rest(rest) => match flow {
@@ -83,7 +84,7 @@ pub(crate) fn bagged<'p>(
     requires sound { Sound m.old }
     requires frame { OwnsFrame (arena_in m.old) frame }
     requires bag { OwnsBag (arena_in m.old) bag }
-    ensures { IfOk result (λ c. Goes (arena_in m.old) m.new c (inside m.old (waiting_with m.old frame.entry) (control.Bagged bag.entry))) }
+    ensures { GoesTo result m.new m.old (inside m.old (waiting_with m.old frame.entry) (control.Bagged bag.entry)) }
 {
     match frame {
         Frame::Clauses(inner) => next_clause_turn(m, inner.into_inner(), bag),
@@ -106,7 +107,7 @@ fn next_clause_turn<'p>(
     requires sound { Sound m.old }
     requires frame { OwnsInClauses (arena_in m.old) frame }
     requires bag { OwnsBag (arena_in m.old) bag }
-    ensures { IfOk result (λ c. Goes (arena_in m.old) m.new c (around_bag m.old (waiting_in m.old) (clauses_end (setting_of m.old) (clauses_frame (arena_in m.old) m.old.code.file frame.entry) (done (on (bag_of (arena_in m.old) m.old.code.file bag.entry)) (state_of m.old.session))))) }
+    ensures { GoesToBag result m.new m.old (λ s. clauses_end_in m.old frame.entry (done (on (bag_in m.old bag.entry)) s)) }
 {
     match frame {
         InClauses::Turn(place, target, clauses, source) => {
@@ -124,7 +125,7 @@ fn gathered<'p>(m: &mut Machine<'p>, scope: Boxes, bag: Bag<'p>) -> Result<Contr
     requires sound { Sound m.old }
     requires scope { OwnsEnv (arena_in m.old) scope }
     requires bag { OwnsBag (arena_in m.old) bag }
-    ensures { IfOk result (λ c. Goes (arena_in m.old) m.new c (inside m.old (gather (env_in (arena_in m.old).held scope) ∷ waiting_in m.old) (control.Bagged bag.entry))) }
+    ensures { GoesTo result m.new m.old (inside m.old (gather (variables_in m.old.session scope) ∷ waiting_in m.old) (control.Bagged bag.entry)) }
 {
     m.scope = scope;
     bag_made(m, bag)
@@ -146,7 +147,7 @@ pub(crate) fn fail<'p>(
 ) -> Result<Control<'p>, Memory>
     requires sound { Sound m.old }
     requires frame { OwnsFrame (arena_in m.old) frame }
-    ensures { IfOk result (λ c. Goes (arena_in m.old) m.new c (inside m.old (waiting_with m.old frame.entry) (control.Failed fault))) }
+    ensures { GoesTo result m.new m.old (inside m.old (waiting_with m.old frame.entry) (control.Failed fault)) }
 {
     match frame {
         Frame::Value(_inner) => Ok(Control::Failed(fault)),
@@ -170,7 +171,7 @@ pub(crate) fn fail<'p>(
 pub(crate) fn misplaced<'p>(m: &mut Machine<'p>, frame: Frame<'p>) -> Result<Control<'p>, Memory>
     requires sound { Sound m.old }
     requires frame { OwnsFrame (arena_in m.old) frame }
-    ensures { IfOk result (λ c. Goes (arena_in m.old) m.new c (inside m.old (waiting_with m.old frame.entry) (control.Failed (fault_of kind.CodeForm)))) }
+    ensures { GoesTo result m.new m.old (inside m.old (waiting_with m.old frame.entry) (control.Failed (fault_of kind.CodeForm))) }
 {
     let fault = form_fault(&m.session.arena);
     fail(m, frame, fault)
@@ -184,7 +185,7 @@ fn leave_block<'p>(
 ) -> Result<Control<'p>, Memory>
     requires sound { Sound m.old }
     requires frame { OwnsInBlock (arena_in m.old) frame }
-    ensures { IfOk result (λ c. Goes (arena_in m.old) m.new c (around_flow m.old (waiting_in m.old) (block_ends (setting_of m.old) (block_frame (arena_in m.old) m.old.code.file frame.entry) (bad fault (state_of m.old.session))))) }
+    ensures { GoesToFlow result m.new m.old (λ s. block_ends_in m.old frame.entry (bad fault s)) }
 {
     match frame {
         InBlock::WalkEnd(object) => {
@@ -204,7 +205,7 @@ fn leave_clauses<'p>(
 ) -> Result<Control<'p>, Memory>
     requires sound { Sound m.old }
     requires frame { OwnsInClauses (arena_in m.old) frame }
-    ensures { IfOk result (λ c. Goes (arena_in m.old) m.new c (around_bag m.old (waiting_in m.old) (clauses_end (setting_of m.old) (clauses_frame (arena_in m.old) m.old.code.file frame.entry) (bad fault (state_of m.old.session))))) }
+    ensures { GoesToBag result m.new m.old (λ s. clauses_end_in m.old frame.entry (bad fault s)) }
 {
     match frame {
         InClauses::WalkEnd(object) => {
