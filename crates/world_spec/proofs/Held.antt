@@ -5,7 +5,6 @@ use Rattle.template_meaning.specs.Files.{FileResult}
 use Rattle.template_spec.specs.Compiled.{compiled}
 use Rattle.template_spec.specs.ControlWords.{WordsStand, free}
 use Rattle.value_spec.specs.Outcomes.{Computation, give, ◌>>=◌}
-use Rattle.yaml_spec.specs.Noted.{drop_null}
 use Rattle.world_spec.proofs.Together.{units_run_as_built}
 use Rattle.world_spec.specs.Held.{AreUnits, HeldCode, program, documents, HeldUnit, Holds, blocks_from, blocks_held, blocks_of_code, source_seen, units_seen}
 use Rattle.world_spec.specs.Laws.{AreProgramsOf, HeldRunAsMeant}
@@ -85,7 +84,7 @@ same_documents files n m (u ∷ us) (h ∷ hs) p = λ i.
     >>= λ ts. same_documents files (suc n) (suc m) us hs p.1 i >>= λ more. give (trees_before ts more)
 
 same_parts : (files : Files) (us : List FileUnit) (hs : List HeldUnit) → AreUnits 1 us hs → all_parts files (units_seen hs) ≡ all_parts files us
-same_parts files us hs p = λ i. data_found files us >>= λ u. same_documents files 1 1 us hs p i >>= λ ts. overlaid ts >>= λ vs. give (drop_null vs)
+same_parts files us hs p = λ i. data_found files us >>= λ u. same_documents files 1 1 us hs p i >>= overlaid
 
 pub held_run_as_meant : HeldRunAsMeant
 unfolding units_meaning units_run

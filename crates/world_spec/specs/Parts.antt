@@ -9,7 +9,6 @@ use Rattle.star_spec.specs.Hosts.{Answers, knows_none}
 use Rattle.template_meaning.specs.Files.{FileResult}
 use Rattle.template_meaning.specs.Meaning.{documents}
 use Rattle.value_spec.specs.Outcomes.{State, Ending, done, bad, asks, Computation, give, ◌>>=◌}
-use Rattle.yaml_spec.specs.Noted.{drop_null}
 use Rattle.world_spec.specs.Units as units
 use Rattle.world_spec.specs.Units.{FileUnit, Source, code, plain, items_at, names_of}
 use Rattle.world_spec.specs.Worlds.{Kept, nothing_kept, unit_meaning, unit_run, table_of}
@@ -57,7 +56,7 @@ documents_from files n (u ∷ us) = do
   more ← documents_from files (suc n) us
   give (trees_before ts more)
 
--- ---- part 6: overlays on them, and part 7
+-- ---- parts 6 and 7: overlays on them, and then the null documents that they leave
 
 abbrev pub overlaid : Trees → Computation World Trees
 overlaid ts = give ts
@@ -66,8 +65,7 @@ abbrev pub all_parts : Files → List FileUnit → Computation World Trees
 all_parts files us = do
   u ← data_found files us
   ts ← documents_from files 1 us
-  vs ← overlaid ts
-  give (drop_null vs)
+  overlaid ts
 
 -- ---- the parts of a request
 

@@ -45,16 +45,22 @@ unit_of f s = record { name = f.name; role = role_of f.name; source = s }
 abbrev pub plain_source : (name : List ℕ) → Documents → Outcome Source
 plain_source name ds = if is_yaml_library name then Ok (code no_items) else (plain_trees ds >>= λ ts. Ok (plain ts))
 
-abbrev pub template_source : CodeReader → (ignore_unknown : Bool) → (number : ℕ) → Documents → Outcome Source
-template_source r ignore n ds = placed_whole r ignore n ds >>= (λ t. passed t >>= (λ u. Ok (code (numbered u))))
+-- the items of a template, whose functions have their numbers
+abbrev pub template_items : CodeReader → (ignore_unknown : Bool) → (number : ℕ) → Documents → Outcome Items
+template_items r ignore n ds = placed_whole r ignore n ds >>= passed >>= (λ t. Ok (numbered t))
+
+-- those of a file of code
+abbrev pub code_items : CodeReader → (number : ℕ) → (bytes : List ℕ) → Outcome Items
+code_items r n bytes = star_items r n bytes >>= passed
+
+abbrev pub code_source : Outcome Items → Outcome Source
+code_source o = o >>= (λ t. Ok (code t))
 
 abbrev pub yaml_source : CodeReader → (ignore_unknown : Bool) → (number : ℕ) → (name : List ℕ) → Documents → Outcome Source
-yaml_source r ignore n name ds = if has_code ds then template_source r ignore n ds else plain_source name ds
+yaml_source r ignore n name ds = if has_code ds then code_source (template_items r ignore n ds) else plain_source name ds
 
 abbrev pub source_of : CodeReader → (ignore_unknown : Bool) → (number : ℕ) → (name bytes : List ℕ) → Outcome Source
-source_of r ignore n name bytes =
-    if is_star name then (star_items r n bytes >>= (λ t. passed t >>= (λ u. Ok (code u))))
-    else (Read n bytes >>= yaml_source r ignore n name)
+source_of r ignore n name bytes = if is_star name then code_source (code_items r n bytes) else (Read n bytes >>= yaml_source r ignore n name)
 
 -- the unit of a file with a number, or the first fault of its passes
 abbrev pub unit_read : CodeReader → (ignore_unknown : Bool) → (number : ℕ) → FoundFile → (bytes : List ℕ) → Outcome FileUnit

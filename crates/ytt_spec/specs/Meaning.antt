@@ -1,5 +1,5 @@
 -- What a request means: documents, or a fault with the names of its files; and what is asked of the files for it.
-use Rattle.std.specs.Prelude.{ℕ, List, [], ◌∷◌, codes, Bool, Result, Ok, Err}
+use Rattle.std.specs.Prelude.{ℕ, suc, List, [], ◌∷◌, codes, Bool, Result, Ok, Err}
 use Rattle.ytt_base.specs.declared.fault.Fault.{Fault}
 use Rattle.ytt_base.specs.Outcomes as outcomes
 use Rattle.ytt_base.specs.Outcomes.{Outcome}
@@ -36,29 +36,30 @@ found_names (f ∷ fs) = f.name ∷ found_names fs
 -- ---- parts 1 and 2
 
 -- reading the files that were found
-abbrev pub files_read : CodeReader → Render → (tree : List ℕ → Standing) → List FoundFile → Traced (List FileUnit)
-files_read r asked tree fs = all_read tree (unit_read r asked.ignore_unknown) fs
+abbrev pub files_read : CodeReader → (ignore_unknown : Bool) → (tree : List ℕ → Standing) → List FoundFile → Traced (List FileUnit)
+files_read r ignore tree fs = all_read tree (unit_read r ignore) fs
 
 -- the names of the files that were found; none where a fault comes first
 abbrev pub names_found : Outcome (List FoundFile) → List (List ℕ)
 names_found (Ok fs) = found_names fs
 names_found (Err f) = []
 
--- the files of a request, in the order of their numbers
-abbrev pub files_asked : Render → (tree : List ℕ → Standing) → Traced (List FoundFile)
-files_asked asked tree = files_found tree asked.paths
-
--- finding and reading: the units, or the first fault, and what is asked of the files until then
-abbrev pub units_asked : CodeReader → Render → (tree : List ℕ → Standing) → Traced (List FileUnit)
-units_asked r asked tree = files_asked asked tree >>= files_read r asked tree
+-- finding and reading the files of these paths: the units, or the first fault, and what is asked of the files until then
+abbrev pub units_asked : CodeReader → (ignore_unknown : Bool) → (paths : List (List ℕ)) → (tree : List ℕ → Standing) → Traced (List FileUnit)
+units_asked r ignore paths tree = files_found tree paths >>= files_read r ignore tree
 
 -- the units, or the first fault with the names of the files
-abbrev pub units_found : CodeReader → Render → (tree : List ℕ → Standing) → Result (List FileUnit) Refusal
-units_found r asked tree = named_in (names_found (files_asked asked tree).outcome) (units_asked r asked tree).outcome
+abbrev pub units_found : CodeReader → (ignore_unknown : Bool) → (paths : List (List ℕ)) → (tree : List ℕ → Standing) → Result (List FileUnit) Refusal
+units_found r ignore paths tree = named_in (names_found (files_found tree paths).outcome) (units_asked r ignore paths tree).outcome
 
 -- the calls that a run makes of the files, in their order
-abbrev pub run_asks : CodeReader → Render → (tree : List ℕ → Standing) → List Ask
-run_asks r asked tree = (units_asked r asked tree).asks
+abbrev pub run_asks : CodeReader → (ignore_unknown : Bool) → (paths : List (List ℕ)) → (tree : List ℕ → Standing) → List Ask
+run_asks r ignore paths tree = (units_asked r ignore paths tree).asks
+
+-- units of the numbers from this one on that are read of some bytes
+abbrev pub AreRead : (ignore_unknown : Bool) → (number : ℕ) → List FileUnit → Type 0
+AreRead ignore n [] = Unit {0}
+AreRead ignore n (u ∷ us) = ((f : FoundFile) × (bytes : List ℕ) × MeansCode (λ r. unit_read r ignore n f bytes) (Ok u)) × AreRead ignore (suc n) us
 
 -- ---- a request
 
@@ -68,7 +69,7 @@ documents_meant asked (Err refusal) = Err refusal
 
 -- What a command means over a whole tree of files. The reader of code is a parameter: each that reads as code reads gives the same.
 abbrev pub meaning : CodeReader → Command → (tree : List ℕ → Standing) → Meant
-meaning r (render asked) tree = documents_meant asked (units_found r asked tree)
+meaning r (render asked) tree = documents_meant asked (units_found r asked.ignore_unknown asked.paths tree)
 
 -- it means this, whichever reader reads the code as it reads
 abbrev pub Means : Command → (tree : List ℕ → Standing) → Meant → Type 0

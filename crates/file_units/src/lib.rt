@@ -1,0 +1,12 @@
+//! The files of a request, found and read: what each gives, or the first fault of all.
+//!
+//! `read_units` finds the files (`file_find`) and reads one after another: a template as its program (`template_program`), a file of
+//! code as its own (`star_file`), and YAML without code as its documents. What is held of them is said by `specs/Held`, and what the
+//! call answers by `specs/Reads`.
+#![tactic(auto)]
+
+mod read;
+mod units;
+
+pub use read::read_units;
+pub use units::{Content, RenderStop, Units};
