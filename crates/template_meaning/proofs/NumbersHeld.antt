@@ -14,7 +14,7 @@ use Rattle.template_spec.proofs.Numbers.{items_nodes}
 -- ---- code
 
 mutual
-  held_expr : (e : Expr) (n : ℕ) → HeldExpr e → HeldExpr (number_expr e n).result
+  pub held_expr : (e : Expr) (n : ℕ) → HeldExpr e → HeldExpr (number_expr e n).result
   held_expr (expr.int p z) n h = h
   held_expr (expr.text p t) n h = h
   held_expr (expr.name p x) n h = tt
@@ -67,7 +67,7 @@ mutual
   held_pieces (text_piece t ps) n h = (h.0, held_pieces ps n h.1)
   held_pieces (expr_piece e ps) n h = (held_expr e n h.0, held_pieces ps (number_expr e n).next h.1)
 
-  held_parameters : (ps : Parameters) (n : ℕ) → HeldParameters ps → HeldParameters (number_parameters ps n).result
+  pub held_parameters : (ps : Parameters) (n : ℕ) → HeldParameters ps → HeldParameters (number_parameters ps n).result
   held_parameters no_parameters n h = tt
   held_parameters (required x ps) n h = held_parameters ps n h
   held_parameters (defaulted x e ps) n h = (held_expr e n h.0, held_parameters ps (number_expr e n).next h.1)
@@ -75,7 +75,7 @@ mutual
   held_parameters (starred_parameter x ps) n h = held_parameters ps n h
   held_parameters (double_starred_parameter x ps) n h = held_parameters ps n h
 
-held_statement : (s : Statement) (n : ℕ) → HeldStatement s → HeldStatement (number_statement s n).result
+pub held_statement : (s : Statement) (n : ℕ) → HeldStatement s → HeldStatement (number_statement s n).result
 held_statement (evaluate p e) n h = held_expr e n h
 held_statement (assign p x e) n h = (held_expr x n h.0, held_expr e (number_expr x n).next h.1)
 held_statement (augment p o q x e) n h = (held_expr x n h.0, held_expr e (number_expr x n).next h.1)
