@@ -1,0 +1,4 @@
+pub mod Levels
+pub mod ReadFiles
+pub mod Stack
+pub mod Statements
