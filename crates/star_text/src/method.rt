@@ -1,7 +1,8 @@
 // A call of a method of a text.
-ghost use Rattle.std.specs.Prelude.{◌≡◌};
-ghost use Rattle.star_steps.specs.Names.{Owns, OwnsAll, seen};
+ghost use Rattle.std.specs.Prelude.{◌≡◌, ℕ, List};
+ghost use Rattle.star_steps.specs.Names.{Gives, Owns, OwnsAll, seen, state_in, text_value, value_of};
 ghost use Rattle.star_values.specs.Owns.{OwnsArguments};
+ghost use Rattle.star_values.specs.View.{arguments_in};
 ghost use Rattle.star_values.specs.declared.value.Value.TheVariants as value;
 ghost use Rattle.text_spec.specs.Methods.{method_in, method_row, row_of, text_method, text_methods};
 ghost use Rattle.star_text.specs.Calls.{GivesWith, MethodAnswers, RefusesOther};
@@ -107,7 +108,9 @@ fn by_name(
 ) -> Given
     requires text { Owns (seen arena.old) (value.Text text) }
     requires args { OwnsArguments (seen arena.old) args }
-    ensures { GivesWith (value.Text text) (text_method place name.now) args result (seen arena.old) (seen arena.new) steps.old steps.new }
+    ensures { (t : List ℕ) → value_of (seen arena.old) (value.Text text) ≡ text_value t →
+        Gives (text_method place name.now t (arguments_in (seen arena.old).held args) (state_in (seen arena.old) steps.old)) result (seen arena.old)
+        (seen arena.new) steps.new }
 {
     if name.as_str() == "format" {
         format(arena, place, text, args, steps)
@@ -127,7 +130,9 @@ fn by_table(
 ) -> Given
     requires text { Owns (seen arena.old) (value.Text text) }
     requires args { OwnsArguments (seen arena.old) args }
-    ensures { GivesWith (value.Text text) (row_of place name.now (method_in name.now text_methods)) args result (seen arena.old) (seen arena.new) steps.old steps.new }
+    ensures { (t : List ℕ) → value_of (seen arena.old) (value.Text text) ≡ text_value t →
+        Gives (row_of place name.now (method_in name.now text_methods) t (arguments_in (seen arena.old).held args) (state_in (seen arena.old) steps.old))
+        result (seen arena.old) (seen arena.new) steps.new }
 {
     match method_named(name.as_str()) {
         Some(method) => call(arena, place, method, text, args, steps),

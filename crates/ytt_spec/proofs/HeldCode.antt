@@ -48,6 +48,7 @@ pub record ReadsHeld (r : CodeReader) : Type 0 where
   pub args : (place : Place) (text : List ℕ) → IfOk (r.args place text) HeldExprs
   pub simple : (place : Place) (text : List ℕ) → IfOk (r.simple place text) HeldLine
   pub header : (place : Place) (text : List ℕ) → IfOk (r.header place text) HeldHeader
+  pub file : (number : ℕ) (text : List ℕ) → IfOk (r.file number text) HeldLine
 
 -- ---- what is said
 

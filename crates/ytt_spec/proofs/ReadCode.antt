@@ -7,7 +7,7 @@ use Rattle.std.proofs.lemmas.Result.{IfOk-at_ok}
 use Rattle.std.proofs.lemmas.Str.{IsUtf8-from_ascii, IsUtf8-nil}
 use Rattle.std.proofs.lemmas.Str.Ascii.{IsAscii-cons, IsAscii-nil}
 use Rattle.ytt_base.specs.declared.fault.Place.{Place}
-use Rattle.ytt_base.specs.Outcomes.{Outcome}
+use Rattle.ytt_base.specs.Outcomes.{Outcome, place_at}
 use Rattle.code_spec.specs.Code as plain
 use Rattle.code_spec.specs.CodeReading.{CodeReader}
 use Rattle.star_spec.specs.Held.{HeldExpr, HeldExprs, HeldOptional, HeldEntries, HeldClauses, HeldParameters}
@@ -45,11 +45,12 @@ use Rattle.star_grammar.specs.declared.table.Terminal.{Terminal}
 use Rattle.star_grammar.specs.declared.table.Terminal.TheVariants as terminals
 use Rattle.star_grammar.specs.declared.token.Mark.{Mark}
 use Rattle.star_grammar.specs.declared.token.Mark.TheVariants as mark
+use Rattle.star_grammar.specs.declared.token.Origin.{Origin}
 use Rattle.star_grammar.specs.declared.token.Origin.TheVariants as origin
 use Rattle.star_grammar.specs.declared.token.Token.{Token}
 use Rattle.star_grammar.specs.declared.token.TokenKind.{TokenKind}
 use Rattle.star_grammar.specs.declared.token.TokenKind.TheVariants as kind
-use Rattle.star_grammar.specs.CodeReaders.{IsCodeReader, ReadsAs}
+use Rattle.star_grammar.specs.CodeReaders.{IsCodeReader, ReadsFrom}
 use Rattle.star_grammar.specs.Language.{language, Value, leaf, may_stand, taken, with_token}
 use Rattle.star_grammar.specs.Parts.{clauses_in, code_in, entries_in, expr_in, exprs_in, line_in, mark_in, name_of, optional_in, params_in, top, under}
 use Rattle.star_params.specs.Parameters.{Parameter, defaulted, with_default}
@@ -482,17 +483,18 @@ module _ (file : ℕ) where
   header_held (s ∷ []) h = header_one s h.0
   header_held (s ∷ t ∷ ss) h = header_held (t ∷ ss) h.1
 
-text_held : {A : Type 0} (s : Start) (view : Part → A) (P : A → Type 0) (place : Place) (text : List ℕ) (o : Outcome A) → ((p : Part) → HeldPart place.file p → P (view p)) →
-    ReadsAs s view place text o → IfOk o P
-text_held s view P place text (Ok x) f r =
-    subst P (sym r.4) (f (top r.1) (held_top place.file r.1 (read_held place.file s r.0 r.1 (IfOk-at_ok HeldTokens r.2 (tokens_held origin.Comment place.line text)) r.3)))
-text_held s view P place text (Err e) f r = tt
+text_held : {A : Type 0} (k : Origin) (s : Start) (view : Part → A) (P : A → Type 0) (place : Place) (text : List ℕ) (o : Outcome A) → ((p : Part) → HeldPart place.file p → P (view p)) →
+    ReadsFrom k s view place text o → IfOk o P
+text_held k s view P place text (Ok x) f r =
+    subst P (sym r.4) (f (top r.1) (held_top place.file r.1 (read_held place.file s r.0 r.1 (IfOk-at_ok HeldTokens r.2 (tokens_held k place.line text)) r.3)))
+text_held k s view P place text (Err e) f r = tt
 
 -- whatever reads code as the grammar says
 pub code_is_held : (r : CodeReader) → IsCodeReader r → ReadsHeld r
 code_is_held r reads = record {
-  expr = λ place text. text_held start.Expr (λ p. expr_of place.file (expr_in p)) HeldExpr place text (r.expr place text) (λ p h. (expr_held place.file p h).0) (reads.expr place text);
-  args = λ place text. text_held start.Args (λ p. exprs_of place.file (exprs_in p)) HeldExprs place text (r.args place text) (λ p h. exprs_held place.file p h) (reads.args place text);
-  simple = λ place text. text_held start.Line (λ p. instructions_of place.file (code_in p)) HeldLine place text (r.simple place text) (λ p h. code_held place.file p h) (reads.simple place text);
-  header = λ place text. text_held start.Header (λ p. whole.header_of place.file (header_in (code_in p))) HeldHeader place text (r.header place text) (λ p h. header_held place.file (code_in p) (code_held place.file p h)) (reads.header place text);
+  expr = λ place text. text_held origin.Comment start.Expr (λ p. expr_of place.file (expr_in p)) HeldExpr place text (r.expr place text) (λ p h. (expr_held place.file p h).0) (reads.expr place text);
+  args = λ place text. text_held origin.Comment start.Args (λ p. exprs_of place.file (exprs_in p)) HeldExprs place text (r.args place text) (λ p h. exprs_held place.file p h) (reads.args place text);
+  simple = λ place text. text_held origin.Comment start.Line (λ p. instructions_of place.file (code_in p)) HeldLine place text (r.simple place text) (λ p h. code_held place.file p h) (reads.simple place text);
+  header = λ place text. text_held origin.Comment start.Header (λ p. whole.header_of place.file (header_in (code_in p))) HeldHeader place text (r.header place text) (λ p h. header_held place.file (code_in p) (code_held place.file p h)) (reads.header place text);
+  file = λ n text. text_held origin.File start.File (λ p. instructions_of n (code_in p)) HeldLine (place_at n 1) text (r.file n text) (λ p h. code_held n p h) (reads.file n text);
 }
