@@ -1,3 +1,1 @@
-pub mod Names
-pub mod Refusals
 pub mod Told

@@ -7,7 +7,7 @@ use Rattle.yaml_spec.specs.ReadsBack.{ReadsAlone}
 use Rattle.yaml_spec.specs.Text.{Text}
 use Rattle.ytt_spec.specs.Due.{out_of_memory_line, write_failed_line}
 use Rattle.ytt_spec.specs.Meaning.{TextMeans}
-use Rattle.ytt_spec.specs.Words.{Budget}
+use Rattle.world_spec.specs.Parts.{Budget}
 use Rattle.ytt_main.specs.Found.{AreMeant, IsFaultLine, IsReadLine, IsUsageLine}
 use Rattle.ytt_main.specs.Seen.{Files, Sink}
 use Rattle.ytt_main.specs.declared.run.Status.{Status}

@@ -4,8 +4,11 @@ use Rattle.ytt_base.specs.FaultText.{fault_line}
 use Rattle.ytt_base.specs.Trees.{AreTrees, Trees, Writable}
 use Rattle.ytt_base.specs.View.{trees_of}
 use Rattle.ytt_outside.specs.Counts.{Rose}
+use Rattle.code_spec.specs.CodeReading.{CodeReader}
+use Rattle.star_grammar.specs.CodeReaders.{IsCodeReader}
+use Rattle.file_spec.specs.Reading.{IsPathOfRun}
 use Rattle.ytt_spec.specs.Due.{read_failed_line, usage_line}
-use Rattle.ytt_spec.specs.Meaning.{Meant, Means, Refusal, file_names}
+use Rattle.ytt_spec.specs.Meaning.{Meant, Means, Refusal, run_asks}
 use Rattle.ytt_spec.specs.Requests.{IsFirstWrong, IsRequest}
 use Rattle.ytt_spec.specs.Words.{Command, Render, render}
 use Rattle.ytt_main.specs.Seen.{Files}
@@ -23,11 +26,10 @@ pub record IsMeant (words : List (List ℕ)) (files : Files) (meant : Meant) : T
 abbrev pub AreMeant : (words : List (List ℕ)) → Files → Trees → Type 0
 AreMeant words files documents = IsMeant words files (Ok documents)
 
--- the words are a request that means a refusal, whose names, also where the files don't tell, are those of its files; and this is its line
+-- the words are a request that means a refusal, and this is its line
 pub record IsFaultLine (words : List (List ℕ)) (files : Files) (line : List ℕ) : Type 0 where
   pub refusal : Refusal
   pub meant : IsMeant words files (Err refusal)
-  pub names_are : refusal.names ≡ file_names meant.command
   pub line_is : line ≡ fault_line refusal.names refusal.fault
 
 -- the words are no request, and this is the line with the number of the first one at which none goes on; no call of the files failed
@@ -37,12 +39,15 @@ pub record IsUsageLine (words : List (List ℕ)) (files : Files) (line : List �
   pub none_failed : files.faults_now ≡ files.faults_before
   pub line_is : line ≡ usage_line number
 
--- the words are a request, the files' count of failures rose, and this is the line with the path that is asked for
+-- The words are a request, the files' count of failures rose, and this is the line with a path that its run asks for; where the files
+-- don't tell, that lies at or below one of the request's.
 pub record IsReadLine (words : List (List ℕ)) (files : Files) (line : List ℕ) : Type 0 where
   pub asked : Render
   pub request : IsRequest words (render asked)
   pub rose : Rose files.faults_before files.faults_now
-  pub line_is : line ≡ read_failed_line asked.path
+  pub path : List ℕ
+  pub is_asked : (r : CodeReader) → IsCodeReader r → IsPathOfRun asked.paths (run_asks r asked.ignore_unknown asked.paths) files.tree path
+  pub line_is : line ≡ read_failed_line path
 
 -- what stands behind an answer to the words; documents are such that their text reads back
 abbrev pub Found : (words : List (List ℕ)) → Files → Answer → Type 0

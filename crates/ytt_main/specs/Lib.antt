@@ -1,5 +1,4 @@
 pub mod Answers
-pub mod Asked
 pub mod Endings
 pub mod Found
 pub mod Headline

@@ -5,13 +5,14 @@ ghost use Rattle.ytt_main.specs.Answers.{Answers};
 ghost use Rattle.ytt_main.specs.Found.{Found};
 ghost use Rattle.ytt_main.specs.Seen.{seen_files};
 
-use crate::asked::{RenderStop, render};
+use file_units::RenderStop;
+use render_core::render;
 use std::alloc::Global;
 use ytt_base::report::fault_text;
 use ytt_base::text::{Memory, Text};
 use ytt_base::tree::Trees;
 use ytt_outside::files::Files;
-use ytt_words::read_words;
+use ytt_words::{WordsStop, read_words};
 
 /// What is to be written, and where: documents to `out`, or a line to `err`.
 #[derive(Drop)]
@@ -41,16 +42,17 @@ pub fn answer_words<F: Files>(alloc: Global, words: &[String], files: &mut F) ->
     ensures told { IfSome (F.tree files.old) (λ tree. Answers (IsDue (map string_bytes words.now) tree) result) }
     ensures found { Found (map string_bytes words.now) (seen_files F.tree F.faults files.old files.new) result }
 {
-    let request = match read_words(words) {
+    let request = match read_words(alloc, words) {
         Ok(request) => request,
-        Err(word) => {
+        Err(WordsStop::Wrong(word)) => {
             return match usage_text(alloc, word) {
                 Ok(line) => Answer::Usage(line),
                 Err(_) => Answer::Memory,
             };
         }
+        Err(WordsStop::Memory) => return Answer::Memory,
     };
-    match render(alloc, request, files) {
+    match render(alloc, &request, files) {
         Ok(trees) => Answer::Documents(trees),
         Err(RenderStop::Refused { fault, names }) => match fault_text(alloc, &fault, &names) {
             Ok(line) => Answer::Fault(line),

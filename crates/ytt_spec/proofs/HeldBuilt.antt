@@ -1,5 +1,5 @@
 -- The documents that units mean have a text that reads back: they are what the program holds, none is null, and none nests too deep.
-use Rattle.std.proofs.Common.{◌≡◌, ◌==◌, ℕ, suc, Bool, true, false, if◌then◌else◌, List, [], ◌∷◌, length, Option, Some, None, Ok, Err, refl, sym, ap, subst, ◌∙◌}
+use Rattle.std.proofs.Common.{◌≡◌, ◌==◌, ℕ, suc, Bool, true, false, if◌then◌else◌, List, [], ◌∷◌, length, Option, Some, None, Ok, Err, refl, sym, subst, ◌∙◌}
 use Rattle.std.specs.Result.{IfOk}
 use Rattle.std.proofs.lemmas.Result.{IfOk-at_ok}
 use Rattle.ytt_base.specs.declared.fault.Place.{Place}
@@ -14,17 +14,17 @@ use Rattle.code_spec.specs.CodeReading.{CodeReader}
 use Rattle.code_spec.specs.Scopes.{Use}
 use Rattle.star_grammar.specs.CodeReaders.{IsCodeReader}
 use Rattle.star_spec.proofs.CallsKeep.{asking_keeps, starlark_keeps}
-use Rattle.star_spec.proofs.Keeping.{Anything, Keeps, Kept, keeps_give, keeps_then}
+use Rattle.star_spec.proofs.Keeping.{Keeps, Kept, keeps_give, keeps_then}
 use Rattle.star_spec.specs.Calls.{asking}
 use Rattle.star_spec.specs.Eval.{starlark}
-use Rattle.star_spec.specs.Hosts.{hosted, knows_none}
-use Rattle.value_spec.specs.Outcomes.{Computation, Ending, State, asks, bad, done}
+use Rattle.star_spec.specs.Hosts.{hosted}
+use Rattle.value_spec.specs.Outcomes.{Computation, Ending, asks, bad, done}
 use Rattle.template_meaning.proofs.BuildKeeps.{HeldItems, HeldResult, built_keeps, documents_written, nothing_keeps}
 use Rattle.template_meaning.proofs.NothingLoaded.{items_loads_none}
 use Rattle.template_meaning.proofs.NumbersHeld.{numbered_held}
 use Rattle.template_meaning.proofs.NumbersLoad.{numbered_loads}
 use Rattle.template_meaning.specs.Calls.{template_calls}
-use Rattle.template_meaning.specs.Files.{File, FileResult, LoadedFile, items_loads, loader_of, nothing_to_load}
+use Rattle.template_meaning.specs.Files.{File, LoadedFile, items_loads, loader_of, nothing_to_load}
 use Rattle.template_meaning.specs.Meaning.{Build, documents}
 use Rattle.template_spec.specs.Names.{items_names}
 use Rattle.template_spec.specs.Nesting.{placed_whole}
@@ -38,7 +38,7 @@ use Rattle.world_spec.specs.Parts.{Budget, Files, World, all_parts, at_start, do
 use Rattle.world_spec.specs.StarFiles.{star_items}
 use Rattle.world_spec.specs.Units as units
 use Rattle.world_spec.specs.Units.{FileUnit, Source, code, plain, code_items, code_source, items_at, items_from, items_of, names_of, passed, plain_source, source_of, template_items, unit_of, unit_read, yaml_source}
-use Rattle.world_spec.specs.Worlds.{Kept as KeptWorld, behind_loads, inside, settled, shelf_of, unit_meaning}
+use Rattle.world_spec.specs.Worlds.{behind_loads, inside, settled, shelf_of, unit_meaning}
 use Rattle.ytt_spec.proofs.HeldCode.{ReadsHeld}
 use Rattle.ytt_spec.proofs.HeldStar.{star_held}
 use Rattle.ytt_spec.proofs.HeldWhole.{whole_held}

@@ -1,9 +1,9 @@
 -- The items of a file of code are what the program holds, where the file is read as such.
-use Rattle.std.proofs.Common.{◌≡◌, ℕ, suc, List, [], ◌∷◌, Option, Some, None, Ok, Err, sym, subst, if◌then◌else◌}
+use Rattle.std.proofs.Common.{ℕ, suc, List, [], ◌∷◌, Some, None, sym, subst, if◌then◌else◌}
 use Rattle.std.specs.Result.{IfOk}
 use Rattle.ytt_base.specs.declared.fault.Place.{Place}
 use Rattle.ytt_laws.proofs.Yielded.{yielded_behind, yielded_then}
-use Rattle.code_spec.specs.Blocks.{Op, op_part, op_statement, op_if, op_for, op_def, Ops, no_ops, Arms, no_arm, else_arm, arm, Parsed, broken, at_top, inside, put, open_if, next_arm, last_arm, open_block, parse, whole}
+use Rattle.code_spec.specs.Blocks.{Op, op_part, op_statement, op_if, op_for, op_def, Ops, Arms, no_arm, else_arm, arm, Parsed, broken, at_top, inside, put, open_if, next_arm, last_arm, open_block, parse, whole}
 use Rattle.code_spec.specs.Code.{Expr}
 use Rattle.code_spec.specs.CodeReading.{CodeReader}
 use Rattle.code_spec.specs.Numbering.{number_expr}

@@ -4,7 +4,7 @@ use Rattle.std.proofs.lemmas.Bool.Decides.{eqb_tells}
 use Rattle.std.proofs.lemmas.Slice.Eq.{bytes_eq-Decides}
 use Rattle.std.specs.Cmp.{first_so, second_so}
 use Rattle.std.specs.List.{list_all}
-use Rattle.ytt_spec.specs.Words.{Asked, wrong, CommandOption, Given, alone, apart, joined, Often, at_least_once, exactly_once, at_most_once, Purpose, is_for, Takes, a_value, no_value, added, asked_from, asked_value, begun, command_options, equals, is_flag, may_follow, may_have, may_stand, name_in, named, takes_text, value_in, value_of, values_of}
+use Rattle.ytt_spec.specs.Words.{Asked, wrong, CommandOption, Given, alone, apart, joined, Often, at_least_once, at_most_once, Purpose, is_for, Takes, a_value, no_value, added, asked_from, asked_value, begun, command_options, equals, is_flag, may_follow, may_have, may_stand, name_in, named, takes_text, value_in, value_of, values_of}
 
 -- ---- a word, cut at its first `=`
 
@@ -114,9 +114,6 @@ values_of-append purpose (g ∷ gs) hs = by (values_of-append purpose gs hs) (is
 -- an option that has another value behind these may follow them
 pub stands_after : (often : Often) (vs ws : List (List ℕ)) (v : List ℕ) → may_have often (vs ++ (v ∷ ws)) ≡ true → may_follow often vs ≡ true
 stands_after at_least_once vs ws v h = refl
-stands_after exactly_once [] ws v h = refl
 stands_after at_most_once [] ws v h = refl
-stands_after exactly_once (u ∷ []) ws v h = cc
 stands_after at_most_once (u ∷ []) ws v h = cc
-stands_after exactly_once (u ∷ w ∷ us) ws v h = cc
 stands_after at_most_once (u ∷ w ∷ us) ws v h = cc

@@ -5,7 +5,7 @@ use Rattle.std.specs.List.{list_all}
 use Rattle.ytt_spec.proofs.Options.{Follows, asked_next, begun_follows, follows_begun, named_holds, next, values_of-append}
 use Rattle.ytt_spec.proofs.WordsRead.{read_request, request_read}
 use Rattle.ytt_spec.specs.Requests.{Begins, IsFirstWrong, IsRequest}
-use Rattle.ytt_spec.specs.Words.{Asked, asked_for, wrong, Command, CommandOption, Given, Form, alone, apart, joined, Often, at_least_once, exactly_once, at_most_once, Purpose, for_path, for_steps, for_depth, for_ignoring, is_for, same_purpose, long_file_option, added, are_all_given, asked, asked_from, asked_value, begun, command_given, command_options, default_depth, default_steps, depth_option, file_option, ignore_option, is_command, may_follow, may_have, may_stand, name_in, named, render, steps_option, value_in, value_of, values_of}
+use Rattle.ytt_spec.specs.Words.{Asked, asked_for, wrong, Command, CommandOption, Given, Form, alone, apart, joined, Often, at_least_once, at_most_once, Purpose, for_path, for_steps, for_depth, for_ignoring, is_for, same_purpose, long_file_option, added, are_all_given, asked, asked_from, asked_value, begun, command_given, command_options, default_depth, default_steps, depth_option, file_option, ignore_option, is_command, may_follow, may_have, may_stand, name_in, named, render, steps_option, value_in, value_of, values_of}
 
 -- Of words from number n on, the one of number m is the first at which the reading can't end in a request.
 pub record Stops (read : List (List ℕ) → Asked) (n : ℕ) (words : List (List ℕ)) (m : ℕ) : Type 0 where
@@ -59,7 +59,6 @@ is_short (v ∷ w ∷ vs) = false
 -- an option with these values may still stand as often as it must
 abbrev may_begin : Often → List (List ℕ) → Bool
 may_begin at_least_once vs = true
-may_begin exactly_once vs = is_short vs
 may_begin at_most_once vs = is_short vs
 
 -- how often the options for something may stand
@@ -71,19 +70,13 @@ often_of for_ignoring = at_most_once
 
 abbrev same_often : Often → Often → Bool
 same_often at_least_once at_least_once = true
-same_often exactly_once exactly_once = true
 same_often at_most_once at_most_once = true
 same_often _ _ = false
 
 same_often_is : (a b : Often) → same_often a b ≡ true → a ≡ b
 same_often_is at_least_once at_least_once h = refl
-same_often_is at_least_once exactly_once h = cc
 same_often_is at_least_once at_most_once h = cc
-same_often_is exactly_once at_least_once h = cc
-same_often_is exactly_once exactly_once h = refl
-same_often_is exactly_once at_most_once h = cc
 same_often_is at_most_once at_least_once h = cc
-same_often_is at_most_once exactly_once h = cc
 same_often_is at_most_once at_most_once h = refl
 
 same_purpose_is : (p q : Purpose) → same_purpose p q ≡ true → p ≡ q
@@ -119,9 +112,7 @@ none_within for_ignoring = refl
 
 begins_after : (often : Often) (vs : List (List ℕ)) (v : List ℕ) → may_follow often vs ≡ true → may_begin often (vs ++ (v ∷ [])) ≡ true
 begins_after at_least_once vs v h = refl
-begins_after exactly_once [] v h = refl
 begins_after at_most_once [] v h = refl
-begins_after exactly_once (u ∷ us) v h = cc
 begins_after at_most_once (u ∷ us) v h = cc
 
 added_within : (gs : List Given) (name : List ℕ) (form : Form) (o : CommandOption) → Within gs → Follows gs name o → Within (added gs name form)

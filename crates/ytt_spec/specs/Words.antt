@@ -63,7 +63,6 @@ is_depth word = is_number_to most_depth word
 -- how often an option may stand
 pub data Often : Type 0 where
   at_least_once : Often
-  exactly_once : Often
   at_most_once : Often
 
 -- what an option takes: a value, by the texts that are one, or none, as a flag

@@ -7,7 +7,6 @@ returns-in-Ok-fault_text-clause-found g c =
     let cause = rw c.in-Err-Refused.field-0-is at c.in-Err-Refused.ensures.cause in
     record {
       refusal = record { fault = c.in-Err-Refused.fault; names = c.in-Err-Refused.names };
-      meant = record { command = command_of c.in-Ok.request; request = c.in-Ok.ensures.spelled; means = means; none_failed = cause.0 };
-      names_are = cause.1;
+      meant = record { command = command_of c.in-Ok.request; request = c.in-Ok.ensures.spelled; means = means; none_failed = cause };
       line_is = c.in-Ok-fault_text.ensures;
     }
