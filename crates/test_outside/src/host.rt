@@ -83,10 +83,11 @@ const PATHS: &[(&str, u64, &str)] = &[
     ("/b.yml", 3, "file; abc"),
     ("/b.yml", 2, "file; too large"),
     // a folder that is read as a file, and a file that is a folder on the way
-    ("", 3, "folder B b.yml link loop nothing é; missing"),
+    ("", 3, "folder B b.yml far link loop nothing é; missing"),
     ("/b.yml/c", 3, "missing; missing"),
     ("/b.yml/", 3, "missing; missing"),
-    // a link to a file
+    // a link to a folder, and one to a file
+    ("/far", 3, "folder c.yml; missing"),
     ("/link", 3, "file; abc"),
     // nothing can stand behind a loop of links, and nothing does behind a link to nothing
     ("/loop", 3, "missing; missing"),
@@ -102,10 +103,15 @@ fn joined(alloc: Global, front: &str, back: &str) -> Result<String, AllocError> 
 }
 
 /// Files below the folder, and their texts.
-const TEXTS: &[(&str, &str)] = &[("/b.yml", "abc"), ("/B", "")];
+const TEXTS: &[(&str, &str)] = &[("/b.yml", "abc"), ("/B", ""), ("/é/c.yml", "")];
 
 /// Links below the folder, and to what they lead.
-const LINKS: &[(&str, &str)] = &[("/link", "b.yml"), ("/loop", "loop"), ("/nothing", "c.yml")];
+const LINKS: &[(&str, &str)] = &[
+    ("/far", "é"),
+    ("/link", "b.yml"),
+    ("/loop", "loop"),
+    ("/nothing", "c.yml"),
+];
 
 fn add_folder(alloc: Global, rt: &HostRuntime, folder: &str, path: &str) -> Result<(), Fail> {
     let path = joined(alloc, folder, path)?;
