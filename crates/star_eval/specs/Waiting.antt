@@ -168,8 +168,8 @@ statement_goes c (bind_to p x) v k = write_name p x v (box_of x c.env) >>= λ u.
 statement_goes c (note_argument x form es before) v k = argument_then c form es before (λ vs. noting x vs k) v
 
 -- one turn of a loop for a member, and then those for the members behind it
-abbrev pub turn_and_more : {K : Type 0} → Place → (Value → Part Here K) → Value → List Value → Part Here K
-turn_and_more p turn v vs k = turn v k >>= next_turn (turns p turn vs)
+abbrev pub turn_and_more : {K : Type 0} → Place → (for_one : Value → Part Here K) → Value → List Value → Part Here K
+turn_and_more p f v vs k = f v k >>= next_turn (turns p f vs)
 
 -- what one turn of a loop does for a member, which is bound before
 abbrev pub turn_of : Setting → Place → (target : Expr) → Ops → Value → Part Here Nodes

@@ -5,7 +5,7 @@ ghost use Rattle.ytt_base.specs.Outcomes.{fault_of};
 ghost use Rattle.value_spec.specs.Outcomes.{bad, done};
 ghost use Rattle.star_spec.specs.Flow.{on};
 ghost use Rattle.star_eval.specs.declared.frame.Control.TheVariants as control;
-ghost use Rattle.star_eval.specs.Frames.{GoesTo, inside};
+ghost use Rattle.star_eval.specs.Frames.{GoesTo, GoesToBag, GoesToFlow, inside};
 ghost use Rattle.star_eval.specs.Meets.{Ends, arena_of};
 ghost use Rattle.star_eval.specs.Sources.{Walked};
 ghost use Rattle.star_eval.specs.View.{OwnsBag, OwnsFlow, OwnsFrame, OwnsInBlock, OwnsInClauses, Sound, arena_in, waiting_in, waiting_with};
