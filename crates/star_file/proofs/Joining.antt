@@ -21,4 +21,4 @@ joined_turn all old mid new ls j l lt here h g k =
 
 -- all lines
 pub joined_done : (all now : List ℕ) (ls : List Line) (j : ℕ) → length ls ≤ j → now ++ text_of (drop j ls) ≡ all → now ≡ all
-joined_done all now ls j le k = sym (append-nil now) ∙ ap (λ ks. now ++ text_of ks) (sym (drop_all ls j le)) ∙ k
+joined_done all now ls j le k = sym (append-nil now) ∙ ap (λ ks. now ++ text_of ks) (sym (drop_all j ls le)) ∙ k

@@ -52,7 +52,7 @@ module _ (file : ℕ) (ss : List Stmt) (all : Option Place) where
 
   -- at its end
   pub first_end : (now : Option Place) (j : ℕ) → length ss ≤ j → first_from now (left (drop j ss)) ≡ all → now ≡ all
-  first_end now j le k = sym (first_done now) ∙ ap (λ rest. first_from now (left rest)) (sym (drop_all ss j le)) ∙ k
+  first_end now j le k = sym (first_done now) ∙ ap (λ rest. first_from now (left rest)) (sym (drop_all j ss le)) ∙ k
 
 -- ---- in blocks
 

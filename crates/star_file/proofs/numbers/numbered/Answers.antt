@@ -11,7 +11,7 @@ pub loop-stmt-preserved : goal.loop-stmt-preserved
 loop-stmt-preserved c =
     let p = c.args.program.now in
     row_turn (instruction_of p.file) number_instruction _ p.code c.loop-stmt.code _ c.loop-stmt.stmt-index c.loop-stmt.next c.number_stmt.new.next c.stmt-item.result _
-    (rw c.as_slice-stmt-items.ensures at c.loop-stmt-test.true) (rw c.as_slice-stmt-items.ensures at c.stmt-item.is) c.in_ok.ensures c.in_ok-push.ensures.ok c.loop-stmt.invariant
+    (rw c.as_slice-stmt-items.ensures at c.loop-stmt-test.true) (rw c.as_slice-stmt-items.ensures at c.stmt-item.is) c.in_ok-number_stmt.ensures c.in_ok-push.ensures.ok c.loop-stmt.invariant
 
 pub returns-clause-code : goal.returns-clause-code
 returns-clause-code c =

@@ -10,7 +10,7 @@ returns-in_err-program-clause-items c =
     rw (p.1, p.2) (items_stop c.args.file c.args.bytes.now c.in_err-program.field-0.0 c.in_err-program.ensures.read)
 
 pub returns-clause-items : goal.returns-clause-items
-returns-clause-items c = items_read c.args.file c.args.bytes.now c.in_ok-program.program _ c.in_ok-program.ensures.read c.in_ok-program.ensures.code c.in_ok.ensures.code
+returns-clause-items c = items_read c.args.file c.args.bytes.now c.in_ok-program.program _ c.in_ok-program.ensures.read c.in_ok-program.ensures.code c.in_ok-numbered.ensures.code
 
 pub returns-clause-closed : goal.returns-clause-closed
-returns-clause-closed c = subst IsSome (sym (ap blocks c.in_ok.ensures.code ∙ c.in_ok-program.ensures.code.blocks_are)) refl
+returns-clause-closed c = subst IsSome (sym (ap blocks c.in_ok-numbered.ensures.code ∙ c.in_ok-program.ensures.code.blocks_are)) refl

@@ -16,4 +16,4 @@ returns-in_err-resolved c =
 pub returns : goal.returns
 returns c =
     program_read c.args.file (λ r. star_items r c.args.file c.args.bytes.now) c.in_ok-program.program c.in_ok-program.ensures.items c.in_ok-resolved.resolved _
-    c.in_ok-program.ensures.file c.in_ok-resolved.ensures.passes c.in_ok-resolved.ensures.program c.in_ok-resolved.ensures.globals c.in_ok.ensures.file c.in_ok.ensures.blocks c.in_ok.ensures.globals
+    c.in_ok-program.ensures.file c.in_ok-resolved.ensures.passes c.in_ok-resolved.ensures.program c.in_ok-resolved.ensures.globals c.in_ok-nested.ensures.file c.in_ok-nested.ensures.blocks c.in_ok-nested.ensures.globals
