@@ -2,12 +2,12 @@
 use Rattle.std.proofs.Common.{◌≡◌, ℕ, ◌+◌, ◌<◌, ◌≤◌, nat_lt, List, [], ◌∷◌, ◌++◌, Bool, true, false, Option, Some, None, if◌then◌else◌, refl, sym, ap, ◌∙◌, subst, append_assoc, length, drop, get_or}
 use Rattle.std.proofs.lemmas.List.{drop_more, drop_all}
 use Rattle.ytt_base.specs.declared.fault.Place.{Place}
-use Rattle.code_spec.specs.Blocks.{Op, Ops, op_part, op_statement, op_if, op_for, op_def, no_ops, an_op, Arms, no_arm, else_arm, arm, Parsed, broken, at_top, inside, put, open_if, next_arm, last_arm, open_block, parse, whole, blocks}
-use Rattle.code_spec.specs.Code.{Expr, Statement, load}
+use Rattle.code_spec.specs.Blocks.{Op, Ops, op_part, op_statement, op_if, op_for, op_def, an_op, Arms, no_arm, else_arm, arm, Parsed, broken, at_top, inside, put, open_if, next_arm, last_arm, open_block, parse, whole, blocks}
+use Rattle.code_spec.specs.Code.{Expr, load}
 use Rattle.code_spec.specs.Program.{Instruction, part, statement, begin_if, begin_elif, begin_else, begin_for, begin_def, close}
 use Rattle.star_tree.specs.declared.code.Stmt.{Stmt}
 use Rattle.star_tree.specs.Whole.{instruction_of, instructions_of}
-use Rattle.template_spec.specs.Unbuilt.{first_place, first_unbuilt, unbuilt_branches, unbuilt_function, unbuilt_items, unbuilt_statement}
+use Rattle.template_spec.specs.Unbuilt.{first_place, unbuilt_branches, unbuilt_function, unbuilt_items, unbuilt_statement}
 use Rattle.world_spec.proofs.CodeBlocks.{no_nodes}
 use Rattle.world_spec.specs.StarFiles.{arms_branches, ops_items}
 use Rattle.star_file.specs.Loads.{first_from, load_places, load_places_of}

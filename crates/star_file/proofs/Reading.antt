@@ -1,10 +1,10 @@
 -- Programs of what each reader of code gives.
-use Rattle.std.proofs.Common.{◌≡◌, ℕ, List, Some, Ok, Err, sym, ap, ◌∙◌, subst}
+use Rattle.std.proofs.Common.{◌≡◌, ℕ, List, Some, Ok, Err, sym, ap, ◌∙◌}
 use Rattle.ytt_base.specs.declared.fault.Stop.{Stop}
 use Rattle.ytt_base.specs.declared.fault.Stop.TheVariants as stop
 use Rattle.ytt_base.specs.Outcomes.{Outcome, and_then, ◌>>=◌}
 use Rattle.ytt_laws.proofs.Chains.{then_assoc}
-use Rattle.code_spec.specs.Blocks.{Ops, blocks}
+use Rattle.code_spec.specs.Blocks.{blocks}
 use Rattle.code_spec.specs.CodeReading.{CodeReader}
 use Rattle.code_spec.specs.Program.{Instruction}
 use Rattle.code_spec.specs.Scopes.{names_of_file, program_names}
@@ -12,7 +12,7 @@ use Rattle.star_blocks.specs.Nested.{ops_of}
 use Rattle.star_file.specs.declared.program.FileProgram.{FileProgram}
 use Rattle.star_file.specs.Passing.{Passed}
 use Rattle.star_file.specs.Programs.{ReadsItems, ReadsProgram, blocks_in}
-use Rattle.star_grammar.specs.CodeReaders.{GivesCode, MeansCode}
+use Rattle.star_grammar.specs.CodeReaders.{GivesCode}
 use Rattle.star_resolve.specs.declared.binding.Resolved.{Resolved}
 use Rattle.star_resolve.specs.Variables.{each_once}
 use Rattle.star_tree.specs.declared.code.Program.{Program}
@@ -65,8 +65,7 @@ module _ (n : ℕ) (outcome : CodeReader → Outcome Items) where
     pub program_read : (q : Resolved) (f : FileProgram) → p.file ≡ n → Passed (program_of p) (Ok q) → q.program ≡ p → q.globals ≡ each_once (program_names (program_of p)) →
         f.block.file ≡ q.program.file → Some (ops_of q.program.file f.block.block.value) ≡ blocks (program_of q.program) → f.globals ≡ q.globals → ReadsProgram n (Ok f) whole
     program_read q f number passes same names file nested globals =
-        let closed : Some (blocks_in f) ≡ blocks (program_of p) = ap (λ k. Some (ops_of k f.block.block.value)) file ∙ nested ∙ ap (λ (x : Program). blocks (program_of x)) same in
-        (
+        let closed : Some (blocks_in f) ≡ blocks (program_of p) = ap (λ k. Some (ops_of k f.block.block.value)) file ∙ nested ∙ ap (λ (x : Program). blocks (program_of x)) same in (
           ops_items h.0,
           λ r reads. ap (and_then passed) (h.3 r reads) ∙ passes h.0 h.1 h.2,
           record {

@@ -1,5 +1,5 @@
 -- What is told of a program of a file of code: its names first, and then what of it isn't built.
-use Rattle.std.proofs.Common.{◌≡◌, ℕ, List, [], ◌∷◌, Option, Some, None, Result, Ok, Err, OnOk, refl, sym, ap, ◌∙◌, subst}
+use Rattle.std.proofs.Common.{◌≡◌, ℕ, List, [], Option, Some, None, Result, Ok, Err, OnOk, refl, sym, ap, ◌∙◌, subst}
 use Rattle.ytt_base.specs.Outcomes.{Gives, Outcome, and_then, fault_at}
 use Rattle.ytt_base.specs.declared.fault.Fault.{Fault}
 use Rattle.ytt_base.specs.declared.fault.FaultKind.TheVariants as kind
@@ -12,11 +12,10 @@ use Rattle.code_spec.specs.Program.{Instruction}
 use Rattle.code_spec.specs.Scopes.{Use, names_of_file, program_names, program_uses, unknown_first, uses_of_file}
 use Rattle.star_resolve.specs.Variables.{IfFault, IfRefused, fault_of_use, program_fault}
 use Rattle.star_resolve.specs.declared.binding.Resolved.{Resolved}
-use Rattle.template_spec.specs.Compiled.{compiled}
 use Rattle.template_spec.specs.Names.{items_names}
 use Rattle.template_spec.specs.Passes.{all_built, bound, unless_unbuilt, unless_unknown}
 use Rattle.template_spec.specs.Template.{Items}
-use Rattle.template_spec.specs.Unbuilt.{first_unbuilt, unbuilt_items}
+use Rattle.template_spec.specs.Unbuilt.{first_unbuilt}
 use Rattle.template_spec.specs.Uses.{items_uses}
 use Rattle.template_spec.proofs.NamesAgree.{same_names}
 use Rattle.template_spec.proofs.Nested.{blocks_of, to_ops}

@@ -11,12 +11,7 @@ use std::alloc::Global;
 use ytt_base::text::Memory;
 
 /// A part of a node.
-fn number_part(
-    alloc: Global,
-    file: u32,
-    part: &NodeOp,
-    next: &mut usize,
-) -> Result<NodeOp, Memory>
+fn number_part(alloc: Global, file: u32, part: &NodeOp, next: &mut usize) -> Result<NodeOp, Memory>
     ensures { Numbers (part_of file) (number_part (part_of file part.now)) result next.old next.new }
 {
     match part {

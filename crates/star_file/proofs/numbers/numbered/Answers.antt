@@ -1,7 +1,7 @@
 use Rattle.std.proofs.Common.{ap, ◌∙◌, map as each, List}
 use Rattle.code_spec.specs.Numbering.{Passed}
 use Rattle.code_spec.specs.Program.{Instruction}
-use Rattle.star_tree.specs.Whole.{instruction_of, program_of}
+use Rattle.star_tree.specs.Whole.{instruction_of}
 use Rattle.template_spec.specs.Numbered.{number_instruction}
 use Rattle.star_number.proofs.Rows.{row_done, row_turn}
 use Rattle.star_file.proofs.Numbering.{program_row}

@@ -1,4 +1,3 @@
-use Rattle.std.proofs.lemmas.Result.{err_from_is_err_and}
 use Rattle.star_file.proofs.Texts.{gives_read, read_code, read_number}
 use Rattle.star_file.proofs.text.read_text.Goals as goal
 
