@@ -1,5 +1,5 @@
 -- Statements of which each block is closed, as they are read one after another: what is open behind each.
-use Rattle.std.proofs.Common.{◌≡◌, ℕ, List, [], ◌∷◌, ◌++◌, Option, Some, None, refl, sym, ap, ◌∙◌, subst}
+use Rattle.std.proofs.Common.{◌≡◌, ℕ, List, [], ◌∷◌, ◌++◌, Option, Some, None, refl, ap, ◌∙◌}
 use Rattle.ytt_base.specs.declared.fault.Place.{Place}
 use Rattle.code_spec.specs.Blocks.{Op, Ops, op_statement, op_if, op_for, op_def, Arms, no_arm, else_arm, arm, Parsed, broken, at_top, inside, put, open_if, next_arm, last_arm, open_block, parse, whole}
 use Rattle.code_spec.specs.Code.{Expr}
@@ -161,4 +161,4 @@ closed_whole (inside os arms outer) h = absurd h
 pub closed_blocks : (is : List Instruction) → run is (Some []) ≡ Some [] → AreCodeBlocks is
 closed_blocks is e =
     let w = closed_whole (parse (numbered_program is)) (fits (numbered_program is) [] (run_numbered is 0 (Some []) ∙ e)) in
-    record { ops = w.0; blocks_are = w.1; code = w.2; }
+    record { ops = w.0; blocks_are = w.1; code = w.2 }

@@ -1,6 +1,9 @@
+pub mod Joining
 pub mod Levels
 pub mod Loading
+pub mod Numbering
 pub mod ReadFiles
+pub mod Reading
 pub mod Stack
 pub mod Statements
 pub mod Telling

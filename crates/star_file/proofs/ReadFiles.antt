@@ -1,11 +1,8 @@
 -- What the grammar reads of a file has closed blocks, of statements alone.
-use Rattle.std.proofs.Common.{◌≡◌, [], ◌∷◌, Some, Ok, refl, sym, ap, ◌∙◌, subst}
-use Rattle.star_tree.specs.Whole.{instructions_of}
-use Rattle.star_grammar.specs.declared.part.Part.{Part}
+use Rattle.std.proofs.Common.{[], ◌∷◌, Some, refl, sym, ap, ◌∙◌}
 use Rattle.star_grammar.specs.declared.start.Start.TheVariants as start
 use Rattle.star_grammar.specs.declared.table.Kind.TheVariants as kind
 use Rattle.star_grammar.specs.declared.table.Rule.TheVariants as ruled
-use Rattle.star_grammar.specs.Parts.{code_in, top}
 use Rattle.star_grammar.specs.Reading.{empty_of}
 use Rattle.star_grammar.specs.Table.{passed, the}
 use Rattle.world_spec.specs.Laws.{ReadFilesAreCode}

@@ -1,5 +1,5 @@
 -- How many parts each rule of the grammar takes off those that were read, and how many it puts in their place.
-use Rattle.std.proofs.Common.{◌≡◌, ℕ, ◌+◌, ◌-◌, ◌&&◌, nat_eq, Bool, true, false, List, [], ◌∷◌, Option, Some, None, drop, refl, sym, ap, ◌∙◌, subst, arith, rules, if◌then◌else◌}
+use Rattle.std.proofs.Common.{◌≡◌, ℕ, ◌+◌, ◌-◌, ◌&&◌, nat_eq, Bool, true, false, List, [], ◌∷◌, Some, None, drop, refl, sym, ap, ◌∙◌, subst, arith, rules, if◌then◌else◌}
 use Rattle.std.proofs.lemmas.Bool.Decides.{nat_tests}
 use Rattle.std.proofs.lemmas.List.{drop-drop}
 use Rattle.ll.specs.Grammar.{Parts, done, token, node, IsWhole}
@@ -12,7 +12,6 @@ use Rattle.star_grammar.specs.declared.table.Choice.{Choice}
 use Rattle.star_grammar.specs.declared.table.Choice.TheVariants as choice
 use Rattle.star_grammar.specs.declared.table.Made.{Made}
 use Rattle.star_grammar.specs.declared.table.Made.TheVariants as made
-use Rattle.star_grammar.specs.declared.table.Opened.{Opened}
 use Rattle.star_grammar.specs.declared.table.Rule.{Rule}
 use Rattle.star_grammar.specs.declared.table.Rule.TheVariants as ruled
 use Rattle.star_grammar.specs.declared.table.Stated.{Stated}

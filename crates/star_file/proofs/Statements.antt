@@ -1,27 +1,25 @@
 -- What each rule of the grammar opens and closes of the blocks of a file.
-use Rattle.std.proofs.Common.{◌≡◌, ℕ, ◌+◌, ◌||◌, nat_eq, Bool, true, false, List, [], ◌∷◌, ◌++◌, Option, Some, None, drop, refl, sym, ap, ◌∙◌, subst, arith, if◌then◌else◌}
+use Rattle.std.proofs.Common.{◌≡◌, ℕ, ◌+◌, ◌||◌, nat_eq, Bool, true, false, List, [], ◌∷◌, Option, Some, drop, refl, sym, ap, ◌∙◌, subst, arith, if◌then◌else◌}
 use Rattle.std.proofs.lemmas.Bool.Decides.{nat_tests}
 use Rattle.std.proofs.lemmas.List.{drop-drop, map_push}
 use Rattle.star_tree.specs.declared.code.Expr.{Expr}
 use Rattle.star_tree.specs.declared.code.Stmt.{Stmt}
 use Rattle.star_tree.specs.Whole.{instruction_of, instructions_of}
 use Rattle.star_grammar.specs.declared.part.Part.{Part}
-use Rattle.star_grammar.specs.declared.part.Part.TheVariants as part
 use Rattle.star_grammar.specs.declared.table.Choice.{Choice}
 use Rattle.star_grammar.specs.declared.table.Choice.TheVariants as choice
 use Rattle.star_grammar.specs.declared.table.Kind.TheVariants as kind
 use Rattle.star_grammar.specs.declared.table.Rule.{Rule}
 use Rattle.star_grammar.specs.declared.table.Rule.TheVariants as ruled
 use Rattle.star_grammar.specs.declared.table.Stated.TheVariants as stated
-use Rattle.star_grammar.specs.declared.table.Terminal.TheVariants as terminal
 use Rattle.star_grammar.specs.declared.token.Mark.{Mark}
 use Rattle.star_grammar.specs.declared.token.Mark.TheVariants as mark
 use Rattle.star_grammar.specs.declared.token.Token.{Token}
 use Rattle.star_grammar.specs.declared.token.TokenKind.{TokenKind}
 use Rattle.star_grammar.specs.declared.token.TokenKind.TheVariants as token
-use Rattle.star_grammar.specs.Effects.{place, takes}
+use Rattle.star_grammar.specs.Effects.{place}
 use Rattle.star_grammar.specs.Language.{is_constant, kind_of_mark, kind_of_token, mark_of, mark_part}
-use Rattle.star_grammar.specs.Parts.{code_in, mark_in, top, under}
+use Rattle.star_grammar.specs.Parts.{code_in, mark_in, top}
 use Rattle.star_grammar.specs.Table.{action_of, body, head}
 use Rattle.star_grammar.specs.Trees.{built, fourth, second, stated_parts, statement_of_word, statement_with, third, with_statement}
 use Rattle.star_file.proofs.Levels.{Level, Levels, block, branch, closed, next_branch, opened, run, run_more, step, step_from}

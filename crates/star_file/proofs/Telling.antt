@@ -1,5 +1,5 @@
 -- What is told of a program of a file of code: its names first, and then what of it isn't built.
-use Rattle.std.proofs.Common.{◌≡◌, ℕ, List, [], ◌∷◌, Option, Some, None, Ok, Err, refl, sym, ap, ◌∙◌}
+use Rattle.std.proofs.Common.{◌≡◌, ℕ, List, [], Option, Some, None, Result, Ok, Err, OnOk, refl, sym, ap, ◌∙◌, subst}
 use Rattle.ytt_base.specs.Outcomes.{Gives, Outcome, and_then, fault_at}
 use Rattle.ytt_base.specs.declared.fault.Fault.{Fault}
 use Rattle.ytt_base.specs.declared.fault.FaultKind.TheVariants as kind
@@ -10,12 +10,12 @@ use Rattle.code_spec.specs.Blocks.{Ops, blocks}
 use Rattle.code_spec.specs.Names.{language_names}
 use Rattle.code_spec.specs.Program.{Instruction}
 use Rattle.code_spec.specs.Scopes.{Use, names_of_file, program_names, program_uses, unknown_first, uses_of_file}
-use Rattle.star_resolve.specs.Variables.{IfFault, fault_of_use, program_fault}
-use Rattle.template_spec.specs.Compiled.{compiled}
+use Rattle.star_resolve.specs.Variables.{IfFault, IfRefused, fault_of_use, program_fault}
+use Rattle.star_resolve.specs.declared.binding.Resolved.{Resolved}
 use Rattle.template_spec.specs.Names.{items_names}
 use Rattle.template_spec.specs.Passes.{all_built, bound, unless_unbuilt, unless_unknown}
 use Rattle.template_spec.specs.Template.{Items}
-use Rattle.template_spec.specs.Unbuilt.{first_unbuilt, unbuilt_items}
+use Rattle.template_spec.specs.Unbuilt.{first_unbuilt}
 use Rattle.template_spec.specs.Uses.{items_uses}
 use Rattle.template_spec.proofs.NamesAgree.{same_names}
 use Rattle.template_spec.proofs.Nested.{blocks_of, to_ops}
@@ -24,6 +24,7 @@ use Rattle.world_spec.proofs.CodeBlocks.{code_is_compiled}
 use Rattle.world_spec.specs.StarFiles.{AreCode, ops_items}
 use Rattle.world_spec.specs.Units.{passed}
 use Rattle.star_file.specs.Loads.{load_places}
+use Rattle.star_file.specs.Passing.{Bound}
 use Rattle.star_file.proofs.Loading.{loaded_places}
 
 abbrev told : Items → Option Fault → Outcome Items
@@ -72,8 +73,14 @@ module _ (is : List Instruction) (os : Ops) (code : AreCode os) (e : blocks is �
     pub built_whole : bound t ≡ Ok t → o ≡ None → passed t ≡ Ok t
     built_whole known none = built_or known ∙ ap (unless_unbuilt t) none
 
-    pub one_unbuilt : (p : Place) → bound t ≡ Ok t → o ≡ Some p → passed t ≡ Err (fault_at kind.NotBuilt p)
-    one_unbuilt p known some = built_or known ∙ ap (unless_unbuilt t) some
+    pub one_unbuilt : (X : Type 0) (p : Place) (s : Stop) → s ≡ stop.Fault (fault_at kind.NotBuilt p) → bound t ≡ Ok t → o ≡ Some p → Gives {X = X} (λ r. t) (Err s) (passed t)
+    one_unbuilt X p s same known some = subst (λ s. Gives {X = X} (λ r. t) (Err s) (passed t)) (sym same) (built_or known ∙ ap (unless_unbuilt t) some)
+
+-- what resolving tells
+pub names_pass : (is : List Instruction) (names : List (List ℕ)) (result : Result Resolved Stop) → names ≡ language_names → OnOk result (program_fault names is ≡ None) →
+    IfRefused result (λ f. program_fault names is ≡ Some f) → Bound is result
+names_pass is names (Ok q) n known told = λ os code e. all_bound is os code e names n known
+names_pass is names (Err s) n known told = λ os code e. one_unknown is os code e Resolved names s n told
 
 -- a name that is refused is told first
 pub refused_first : (X : Type 0) (t : Items) (s : Stop) → Gives {X = X} (λ r. t) (Err s) (bound t) → Gives {X = X} (λ r. t) (Err s) (passed t)

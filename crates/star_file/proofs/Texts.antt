@@ -1,5 +1,5 @@
 -- What the text of a file is read as.
-use Rattle.std.proofs.Common.{◌≡◌, ℕ, List, [], ◌∷◌, Result, Ok, Err, sym, ap, ◌∙◌, inl, inr}
+use Rattle.std.proofs.Common.{◌≡◌, ℕ, List, [], ◌∷◌, Result, Ok, Err, ap, ◌∙◌, inl, inr}
 use Rattle.std.specs.Result.{IfOk}
 use Rattle.ytt_base.specs.declared.fault.Fault.{Fault}
 use Rattle.ytt_base.specs.declared.fault.Stop.{Stop}
@@ -11,7 +11,7 @@ use Rattle.star_tree.specs.Whole.{instructions_of, program_of}
 use Rattle.star_grammar.specs.declared.part.Part.{Part}
 use Rattle.star_grammar.specs.declared.start.Start.TheVariants as start
 use Rattle.star_grammar.specs.declared.token.Origin.TheVariants as origin
-use Rattle.star_grammar.specs.CodeReaders.{IsTree, ReadsFileAs, refusal_fault}
+use Rattle.star_grammar.specs.CodeReaders.{ReadsFileAs, refusal_fault}
 use Rattle.star_grammar.specs.Parts.{code_in}
 use Rattle.star_token.specs.declared.found.Tokens as held
 use Rattle.star_token.specs.Outcome.{HasTokens}

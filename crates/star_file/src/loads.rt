@@ -13,7 +13,13 @@ fn sooner(first: Option<Place>, place: Place) -> Place
 {
     match first {
         None => place,
-        Some(before) => { if place.line < before.line { place } else { before } }
+        Some(before) => {
+            if place.line < before.line {
+                place
+            } else {
+                before
+            }
+        }
     }
 }
 

@@ -1,26 +1,17 @@
 // The statements of a program with the numbers of its functions. `next` is the next number.
-ghost use Rattle.std.specs.Prelude.{◌≡◌, IfOk, option_map};
-ghost use Rattle.code_spec.specs.Program.{begin_def};
+ghost use Rattle.std.specs.Prelude.{◌≡◌, IfOk};
 ghost use Rattle.star_number.specs.Rows.{Numbers};
-ghost use Rattle.star_tree.specs.View.{item_kind_of};
-ghost use Rattle.star_tree.specs.Whole.{instruction_of, parameters_of, part_of, program_of};
+ghost use Rattle.star_tree.specs.Whole.{instruction_of, part_of, program_of};
 ghost use Rattle.template_spec.specs.Numbered.{number_instruction, number_part, numbered_program};
-ghost use Rattle.ytt_base.specs.Outcomes.{place_at};
 
 use sqlite_items::Items;
 use star_number::{number_boxed, number_exprs, number_params, number_simple, take};
-use star_tree::ItemKind;
-use star_tree::code::{NodeOp, Params, Program, Stmt};
+use star_tree::code::{NodeOp, Program, Stmt};
 use std::alloc::Global;
-use ytt_base::text::{Memory, Text};
+use ytt_base::text::Memory;
 
 /// A part of a node.
-fn number_part(
-    alloc: Global,
-    file: u32,
-    part: &NodeOp,
-    next: &mut usize,
-) -> Result<NodeOp, Memory>
+fn number_part(alloc: Global, file: u32, part: &NodeOp, next: &mut usize) -> Result<NodeOp, Memory>
     ensures { Numbers (part_of file) (number_part (part_of file part.now)) result next.old next.new }
 {
     match part {
@@ -40,25 +31,8 @@ fn number_part(
     }
 }
 
-/// The head of a `def` block. The function's own number comes before those in its parameters.
-fn number_def(
-    alloc: Global,
-    file: u32,
-    line: u32,
-    fragment: Option<ItemKind>,
-    name: &Text,
-    params: &Params,
-    next: &mut usize,
-) -> Result<Stmt, Memory>
-    ensures { Numbers (instruction_of file) (number_instruction (begin_def (place_at file line) 0 (option_map item_kind_of fragment) name.now (parameters_of file params.now))) result next.old next.new }
-{
-    let number = take(next)?;
-    let params = number_params(alloc, file, params, next)?;
-    Ok(Stmt::Def(line, number, fragment, name.copy()?, params))
-}
-
 /// A statement, or the head or the end of a block, that equals this one but for the numbers of its functions, which begin with the next
-/// one.
+/// one. A `def` has its own number before those in its parameters.
 fn number_stmt(alloc: Global, file: u32, stmt: &Stmt, next: &mut usize) -> Result<Stmt, Memory>
     ensures { Numbers (instruction_of file) (number_instruction (instruction_of file stmt.now)) result next.old next.new }
 {
@@ -78,7 +52,10 @@ fn number_stmt(alloc: Global, file: u32, stmt: &Stmt, next: &mut usize) -> Resul
             Ok(Stmt::For(*line, target, members))
         }
         Stmt::Def(line, _, fragment, name, params) => {
-            number_def(alloc, file, *line, *fragment, name, params, next)
+            let number = take(next)?;
+            let name = name.copy()?;
+            let params = number_params(alloc, file, params, next)?;
+            Ok(Stmt::Def(*line, number, *fragment, name, params))
         }
         Stmt::Close(line) => Ok(Stmt::Close(*line)),
         Stmt::Node(part) => {

@@ -11,7 +11,7 @@ ghost use Rattle.ytt_base.specs.Outcomes.{and_then};
 use crate::numbers::numbered;
 use crate::passes::passed;
 use crate::text::read_bytes;
-use star_blocks::nest;
+use star_blocks::{Block, nest};
 use star_functions::FileBlock;
 use star_resolve::{Resolved, Scope};
 use star_tree::code::Program;
@@ -38,6 +38,15 @@ fn read_program(alloc: Global, bytes: &[u8], file: u32) -> Result<Program, Stop>
     Ok(numbered(alloc, &program)?)
 }
 
+/// The blocks of a file, which can be shared.
+fn file_block(alloc: Global, file: u32, ops: Block) -> Result<FileBlock, Memory>
+    ensures file { IfOk result (λ b. b.file ≡ file) }
+    ensures block { IfOk result (λ b. b.block.value ≡ ops) }
+{
+    let block = Rc::new(alloc, ops)?;
+    Ok(FileBlock { file, block })
+}
+
 /// A program with its names, cut into its blocks.
 fn nested(alloc: Global, resolved: Resolved) -> Result<FileProgram, Memory>
     requires { IsSome (blocks (program_of resolved.program)) }
@@ -46,15 +55,15 @@ fn nested(alloc: Global, resolved: Resolved) -> Result<FileProgram, Memory>
     ensures globals { IfOk result (λ p. p.globals ≡ resolved.globals) }
 {
     let Resolved {
-        program, globals, ..
+        program,
+        globals,
+        ..
     } = resolved;
     let Program { file, code } = program;
-    match nest(alloc, code)? {
-        Some(block) => {
-            let block = FileBlock {
-                file,
-                block: Rc::new(alloc, block)?,
-            };
+    let cut = nest(alloc, code)?;
+    match cut {
+        Some(ops) => {
+            let block = file_block(alloc, file, ops)?;
             Ok(FileProgram { block, globals })
         }
         None => unreachable!(),

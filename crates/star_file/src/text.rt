@@ -6,7 +6,7 @@ ghost use Rattle.world_spec.specs.Laws.{AreCodeBlocks};
 ghost use Rattle.world_spec.specs.StarFiles.{lines_text};
 ghost use Rattle.yaml_spec.specs.Held.{plain_lines};
 ghost use Rattle.yaml_spec.specs.Lines.{Lines};
-ghost use Rattle.ytt_base.specs.Outcomes.{◌>>=◌};
+ghost use Rattle.ytt_base.specs.Outcomes.{and_then};
 
 use star_read::read_file;
 use star_token::file_tokens;
@@ -42,7 +42,7 @@ fn read_text(alloc: Global, text: &str, file: u32) -> Result<Program, Stop>
 /// The statements of the bytes of a file of code, or their first fault: those of its lines come first.
 pub(crate) fn read_bytes(alloc: Global, bytes: &[u8], file: u32) -> Result<Program, Stop>
     requires { length bytes.now < 2 ^ 32 }
-    ensures read { GivesCode program_of result (λ r. Lines file bytes.now >>= (λ ls. r.file file (lines_text ls))) }
+    ensures read { GivesCode program_of result (λ r. and_then (λ ls. r.file file (lines_text ls)) (Lines file bytes.now)) }
     ensures file { IfOk result (λ p. p.file ≡ file) }
     ensures code { IfOk result (λ p. AreCodeBlocks (program_of p)) }
 {
