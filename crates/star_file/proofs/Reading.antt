@@ -63,9 +63,9 @@ module _ (n : ℕ) (outcome : CodeReader → Outcome Items) where
 
     -- the program
     pub program_read : (q : Resolved) (f : FileProgram) → p.file ≡ n → Passed (program_of p) (Ok q) → q.program ≡ p → q.globals ≡ each_once (program_names (program_of p)) →
-        f.block.file ≡ q.program.file → Some (ops_of q.program.file f.block.block.value) ≡ blocks (program_of q.program) → f.globals ≡ q.globals → ReadsProgram n (Ok f) whole
+        f.block.file ≡ q.program.file → Some (ops_of q.program.file f.block.block) ≡ blocks (program_of q.program) → f.globals ≡ q.globals → ReadsProgram n (Ok f) whole
     program_read q f number passes same names file nested globals =
-        let closed : Some (blocks_in f) ≡ blocks (program_of p) = ap (λ k. Some (ops_of k f.block.block.value)) file ∙ nested ∙ ap (λ (x : Program). blocks (program_of x)) same in (
+        let closed : Some (blocks_in f) ≡ blocks (program_of p) = ap (λ k. Some (ops_of k f.block.block)) file ∙ nested ∙ ap (λ (x : Program). blocks (program_of x)) same in (
           ops_items h.0,
           λ r reads. ap (and_then passed) (h.3 r reads) ∙ passes h.0 h.1 h.2,
           record {

@@ -18,7 +18,7 @@ use Rattle.world_spec.specs.StarFiles.{AreCode, ops_items}
 
 -- the blocks of a file's program
 abbrev pub blocks_in : FileProgram → Ops
-blocks_in p = ops_of p.block.file p.block.block.value
+blocks_in p = ops_of p.block.file p.block.block
 
 -- A program of a file with this number, whose blocks are those of these items compiled, and whose scope has each name that the file
 -- binds, once, in the order in which it first binds them.

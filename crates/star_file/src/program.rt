@@ -11,12 +11,11 @@ ghost use Rattle.ytt_base.specs.Outcomes.{and_then};
 use crate::numbers::numbered;
 use crate::passes::passed;
 use crate::text::read_bytes;
-use star_blocks::{Block, nest};
+use star_blocks::nest;
 use star_functions::FileBlock;
 use star_resolve::{Resolved, Scope};
 use star_tree::code::Program;
 use std::alloc::Global;
-use std::rc::Rc;
 use ytt_base::fault::Stop;
 use ytt_base::text::Memory;
 
@@ -38,20 +37,11 @@ fn read_program(alloc: Global, bytes: &[u8], file: u32) -> Result<Program, Stop>
     Ok(numbered(alloc, &program)?)
 }
 
-/// The blocks of a file, which can be shared.
-fn file_block(alloc: Global, file: u32, ops: Block) -> Result<FileBlock, Memory>
-    ensures file { IfOk result (λ b. b.file ≡ file) }
-    ensures block { IfOk result (λ b. b.block.value ≡ ops) }
-{
-    let block = Rc::new(alloc, ops)?;
-    Ok(FileBlock { file, block })
-}
-
 /// A program with its names, cut into its blocks.
 fn nested(alloc: Global, resolved: Resolved) -> Result<FileProgram, Memory>
     requires { IsSome (blocks (program_of resolved.program)) }
     ensures file { IfOk result (λ p. p.block.file ≡ resolved.program.file) }
-    ensures blocks { IfOk result (λ p. Some (ops_of resolved.program.file p.block.block.value) ≡ blocks (program_of resolved.program)) }
+    ensures blocks { IfOk result (λ p. Some (ops_of resolved.program.file p.block.block) ≡ blocks (program_of resolved.program)) }
     ensures globals { IfOk result (λ p. p.globals ≡ resolved.globals) }
 {
     let Resolved {
@@ -62,10 +52,10 @@ fn nested(alloc: Global, resolved: Resolved) -> Result<FileProgram, Memory>
     let Program { file, code } = program;
     let cut = nest(alloc, code)?;
     match cut {
-        Some(ops) => {
-            let block = file_block(alloc, file, ops)?;
-            Ok(FileProgram { block, globals })
-        }
+        Some(block) => Ok(FileProgram {
+            block: FileBlock { file, block },
+            globals,
+        }),
         None => unreachable!(),
     }
 }

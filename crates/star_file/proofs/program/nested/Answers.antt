@@ -10,7 +10,7 @@ unreachable-requires c =
     let file = c.args.resolved.program.file in
     false≢true (subst IsSome (sym (c.in_ok-cut.ensures file) ∙ ap (λ (o : Option (List Op)). option_map (ops_of file) o) c.in-None.is) c.requires)
 
-pub returns-clause-blocks : goal.returns-clause-blocks
-returns-clause-blocks c =
+pub returns-in-Some-clause-blocks : goal.returns-in-Some-clause-blocks
+returns-in-Some-clause-blocks c =
     let file = c.args.resolved.program.file in
-    ap (λ (b : List Op). Some (ops_of file b)) c.in_ok-block-in-Some.ensures.block ∙ sym (ap (λ (o : Option (List Op)). option_map (ops_of file) o) c.in-Some.is) ∙ c.in_ok-cut.ensures file
+    sym (ap (λ (o : Option (List Op)). option_map (ops_of file) o) c.in-Some.is) ∙ c.in_ok-cut.ensures file
