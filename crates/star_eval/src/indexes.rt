@@ -1,14 +1,14 @@
 // Indexes and slices, and targets that are indexes.
 ghost use Rattle.index_spec.specs.Index.{index_row, set_index_row};
 ghost use Rattle.index_spec.specs.Slices.{slice_row};
+ghost use Rattle.star_tree.specs.Listed.{optional_of};
 ghost use Rattle.star_values.specs.Owns.{Owns};
 ghost use Rattle.value_spec.specs.Outcomes.{then_do};
 ghost use Rattle.star_eval.specs.Frames.{GoesToValue};
 ghost use Rattle.star_eval.specs.Doing.{cut};
-ghost use Rattle.star_eval.specs.View.{OwnsInIndex, Sound, arena_in};
-ghost use Rattle.star_eval.specs.Waiting.{with_none};
+ghost use Rattle.star_eval.specs.View.{OwnsInIndex, Sound, arena_in, setting_of};
+ghost use Rattle.star_eval.specs.Waiting.{cut_at, end_of, step_of, value_goes, with_none};
 ghost use Rattle.star_eval.specs.Seen.{bound_then_in, evaluated_in, index_goes_in, value_in};
-ghost use Rattle.star_eval.specs.declared.frame.InIndex.TheVariants as index_frames;
 
 use crate::frame::{Bound, Control, InIndex, InValue, Machine};
 use crate::machine::{push_value, settle, settle_none};
@@ -111,7 +111,8 @@ fn bounds<'p>(
 ) -> Result<Control<'p>, Memory>
     requires sound { Sound m.old }
     requires value { Owns (arena_in m.old) value }
-    ensures { GoesToValue result m.new m.old (bound_then_in m.old from.now (index_goes_in m.old (index_frames.EndOf place value to.entry step.entry))) }
+    ensures { GoesToValue result m.new m.old (bound_then_in m.old from.now
+        (value_goes (setting_of m.old) (end_of place (value_in m.old value) (optional_of m.old.code.file to.now) (optional_of m.old.code.file step.now)))) }
 {
     match from {
         None => end_bound(m, place, value, Value::None, to, step),
@@ -131,7 +132,8 @@ fn end_bound<'p>(
     requires sound { Sound m.old }
     requires value { Owns (arena_in m.old) value }
     requires from { Owns (arena_in m.old) from }
-    ensures { GoesToValue result m.new m.old (bound_then_in m.old to.now (index_goes_in m.old (index_frames.StepOf place value from step.entry))) }
+    ensures { GoesToValue result m.new m.old (bound_then_in m.old to.now
+        (value_goes (setting_of m.old) (step_of place (value_in m.old value) (value_in m.old from) (optional_of m.old.code.file step.now)))) }
 {
     match to {
         None => step_bound(m, place, value, from, Value::None, step),
@@ -152,7 +154,8 @@ fn step_bound<'p>(
     requires value { Owns (arena_in m.old) value }
     requires from { Owns (arena_in m.old) from }
     requires to { Owns (arena_in m.old) to }
-    ensures { GoesToValue result m.new m.old (bound_then_in m.old step.now (index_goes_in m.old (index_frames.CutAt place value from to))) }
+    ensures { GoesToValue result m.new m.old (bound_then_in m.old step.now
+        (value_goes (setting_of m.old) (cut_at place (value_in m.old value) (value_in m.old from) (value_in m.old to)))) }
 {
     match step {
         None => {

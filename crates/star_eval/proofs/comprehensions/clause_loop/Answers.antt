@@ -14,8 +14,8 @@ use Rattle.star_eval.proofs.Going.{goes}
 use Rattle.star_eval.proofs.Loops.{over_no_object}
 use Rattle.star_eval.proofs.comprehensions.clause_loop.Goals as goal
 
-pub returns-in-Some-2 : goal.returns-in-Some-2
-returns-in-Some-2 c =
+pub returns : goal.returns
+returns c =
     let m = c.args.m.now in
     let a = arena_in m in
     let s = state_of m.session in
