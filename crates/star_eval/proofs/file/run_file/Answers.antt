@@ -25,7 +25,7 @@ use Rattle.star_eval.proofs.file.run_file.Goals as goal
 
 pub bind_loaded-requires-clause-loaded : goal.bind_loaded-requires-clause-loaded
 bind_loaded-requires-clause-loaded g c =
-    (globals_kept (arena_of c.args.session.now) (arena_of (record c.args.session.now { arena = c.open_scope.new.arena })) c.args.loaded.now c.in_ok-scope.ensures.grows c.requires.loaded).0
+    (globals_kept (arena_of c.args.session.now) (arena_of (record c.args.session.now { arena = c.open_scope.new.arena })) c.args.loaded.now c.in_ok-scope.ensures.grows c.requires).0
 
 pub run_block-requires-clause-nodes : goal.run_block-requires-clause-nodes
 run_block-requires-clause-nodes g c = c.new-nodes.ensures.owned (arena_of c.replace-own.result)
@@ -47,7 +47,7 @@ returns-in_err-bind_loaded-clause-runs generic c = λ globals.
     let scope = c.in_ok-scope.scope in
     let g = c.args.globals.now in
     let loaded = c.args.loaded.now in
-    let kept = globals_kept (arena_of before) (arena_of s) loaded c.in_ok-scope.ensures.grows c.requires.loaded in
+    let kept = globals_kept (arena_of before) (arena_of s) loaded c.in_ok-scope.ensures.grows c.requires in
     let e = c.in_err-bind_loaded.ensures.acts in
     let y = c.in_err-bind_loaded.field-0.0 in
     let table = table_of c.args.functions.now in
@@ -73,7 +73,7 @@ returns-clause-runs generic c = λ globals.
     let made = length (arena_of before).store in
     let depth = before.work.depth in
     let os = block_of c.args.program.now in
-    let fs = c.in_ok-functions.field-0 in
+    let fs = c.in_ok-shared.field-0 in
     let table = table_of c.args.functions.now in
     let answers = generic.H.Host.answers in
     let now = c.run_block.new.host in
@@ -81,9 +81,9 @@ returns-clause-runs generic c = λ globals.
     let e = c.in_ok-finished.finished in
     let ended = c.in_ok-finished.ensures in
     let acts = c.in_ok-bind_loaded.ensures.acts in
-    let kept = globals_kept (arena_of before) (arena_of s) c.args.loaded.now c.in_ok-scope.ensures.grows c.requires.loaded in
+    let kept = globals_kept (arena_of before) (arena_of s) c.args.loaded.now c.in_ok-scope.ensures.grows c.requires in
     let same_env : env_in (arena_of bound).held scope ≡ boxed made g [] = ap (λ h. env_in h scope) acts.held ∙ opened.env in
-    let call = same_calls fs table depth c.in_ok-functions.ensures in
+    let call = same_calls fs table depth c.in_ok-shared.ensures in
     let binds : bind_loaded (globals_of (arena_of before) c.args.loaded.now) (boxed made g []) (with_unset (length g) (state_of before)) ≡ done tt (state_of bound) =
     (λ i. bind_loaded (sym kept.1 i) (sym opened.env i) (in_store (sym opened.store i) before.work.steps))
     ∙ (λ i. bind_loaded (globals_of (arena_of s) c.args.loaded.now) (env_in (arena_of s).held (sym c.as_slice.ensures i)) (state_of s)) ∙ acts.meaning in
