@@ -1,5 +1,5 @@
 // The run of files that are held.
-ghost use Rattle.std.specs.Prelude.{◌≡◌, List, reverse, IfOk};
+ghost use Rattle.std.specs.Prelude.{◌≡◌, ◌++◌, List, reverse, IfOk, OnOk};
 ghost use Rattle.ytt_base.specs.Outcomes.{Gives};
 ghost use Rattle.ytt_base.specs.View.{trees_of};
 ghost use Rattle.code_spec.specs.Scopes.{ops_names};
@@ -95,6 +95,14 @@ fn run_content<'p>(
     }
 }
 
+/// Puts documents behind the others.
+fn put_behind(trees: &mut Trees, behind: Trees) -> Result<(), Memory>
+    ensures { OnOk result (trees.new ≡ trees.old ++ behind) }
+{
+    trees.append(behind)?;
+    Ok(())
+}
+
 /// The documents of files, in their order, where these functions may be called and `left` has what each gives, the last one first.
 fn run_all<'p>(
     alloc: Global,
@@ -114,7 +122,7 @@ fn run_all<'p>(
             unreachable!()
         };
         let behind = run_content(alloc, file, content, functions, &mut session)?;
-        trees.append(behind)?;
+        put_behind(&mut trees, behind)?;
         rest = more;
     }
     Ok(trees)

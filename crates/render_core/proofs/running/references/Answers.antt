@@ -10,7 +10,7 @@ loop-file-preserved c =
     let found = c.loop-file.found in
     let file = c.in-Some.file in
     let more = c.in-Some.more.now in
-    (λ i. blocks_in (c.in_ok-push.ensures i) ++ more)
+    (λ i. blocks_in (c.in_ok-push.ensures.ok i) ++ more)
     ∙ (λ i. map-append (λ (b : Bor FileBlock). b.now) found (file ∷ []) i ++ more)
     ∙ append_assoc (blocks_in found) (file.now ∷ []) more
     ∙ ap (λ bs. blocks_in found ++ bs) (sym c.in-Some.ensures.cases.0)

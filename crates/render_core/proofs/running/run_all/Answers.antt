@@ -30,7 +30,7 @@ loop-file-init c =
 pub unreachable-requires : goal.unreachable-requires
 unreachable-requires c =
     let inv = c.loop-file.invariant in
-    let none : reverse c.loop-file.left ≡ [] = ap (λ (cs : List Content). reverse cs) c.in_default.ensures.0 in
+    let none : reverse c.loop-file.left ≡ [] = ap (λ (cs : List Content). reverse cs) c.in_default-pop.ensures.0 in
     subst (λ (cs : List Content). MayRun inv.first (c.in-Some.file.now ∷ c.in-Some.more.now) cs) none
     (subst (λ (bs : List FileBlock). MayRun inv.first bs (reverse c.loop-file.left)) c.in-Some.ensures.cases.0 inv.may_run)
 
@@ -65,7 +65,7 @@ loop-file-preserved c =
       whole = inv.whole
           ∙ (λ i. outcome_of (put_before (trees_of ts) (all_documents table depth (split i) (left i) old)))
           ∙ turn table depth b bs x xs old new ts c.in_ok-behind.behind ((λ i. content_documents table (sym inv.depth i) b x old) ∙ c.in_ok-behind.ensures.ends)
-          ∙ ap (λ (us : List Tree). outcome_of (put_before (trees_of us) (all_documents table depth bs xs new))) (sym c.in_ok-append.ensures);
+          ∙ ap (λ (us : List Tree). outcome_of (put_before (trees_of us) (all_documents table depth bs xs new))) (sym c.in_ok-put_behind.ensures);
     }
 
 pub returns-in_err-behind : goal.returns-in_err-behind

@@ -12,9 +12,9 @@ abbrev pub invariant-loop-file : goal.invariant-loop-file
 invariant-loop-file l = record {
   first : ℕ;
   may_run : MayRun first l.rest (reverse l.left);
-  depth : l.session.work.depth ≡ l.budget.depth;
-  whole : outcome_of (all_documents (table_of l.functions) l.budget.depth l.files (reverse l.fn.left) (at_start l.budget.steps))
-      ≡ outcome_of (put_before (trees_of l.trees) (all_documents (table_of l.functions) l.budget.depth l.rest (reverse l.left) (world_of l.session)));
+  depth : l.session.work.depth ≡ l.fn.budget.depth;
+  whole : outcome_of (all_documents (table_of l.functions) l.fn.budget.depth l.files (reverse l.fn.left) (at_start l.fn.budget.steps))
+      ≡ outcome_of (put_before (trees_of l.trees) (all_documents (table_of l.functions) l.fn.budget.depth l.rest (reverse l.left) (world_of l.session)));
 }
 
 abbrev pub decreases-loop-file : goal.decreases-loop-file
