@@ -99,7 +99,7 @@ module _ (names : List (List ℕ)) (table : Table Ops) (blocks_at : ℕ → Opti
       let first : n ≤ n = omega arith in
       let here : blocks_at n ≡ Some (block_of b) = at n first ∙ (λ i. if eq-eqb n n refl i then blocks_of_code (code_in b c) else blocks_from (suc n) more n) ∙ code_blocks b c may.1 in
       let behind : (f : ℕ) → suc n ≤ f → blocks_at f ≡ blocks_from (suc n) more f =
-          λ f le. at f (omega arith) ∙ (λ i. if ne_eqb f n (λ same. omega arith) i then blocks_of_code (code_in b c) else blocks_from (suc n) more f) in
+      λ f le. at f (omega arith) ∙ (λ i. if ne_eqb f n (λ same. omega arith) i then blocks_of_code (code_in b c) else blocks_from (suc n) more f) in
       λ i. content_runs n b c here may.1 i >>= λ ts. documents_run (suc n) us bs cs may.2 h.1 behind i >>= λ vs. give (trees_before ts vs)
 
 -- ---- all of them

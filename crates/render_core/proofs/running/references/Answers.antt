@@ -1,4 +1,4 @@
-use Rattle.std.proofs.Common.{◌≡◌, ◌∙◌, ◌++◌, ◌∷◌, [], ap, sym}
+use Rattle.std.proofs.Common.{◌∙◌, ◌++◌, ◌∷◌, [], ap, sym}
 use Rattle.std.proofs.lemmas.List.{append-nil, append_assoc, map-append, nil_from_length}
 use Rattle.star_functions.specs.Known.{blocks_in}
 use Rattle.star_functions.specs.declared.programs.FileBlock.{FileBlock}

@@ -38,7 +38,7 @@ pub run_content-requires : goal.run_content-requires
 run_content-requires c =
     let inv = c.loop-file.invariant in
     let left : reverse c.loop-file.left ≡ c.in-Some-pop.content ∷ reverse c.pop.new.self =
-        ap (λ (cs : List Content). reverse cs) c.in-Some-pop.ensures ∙ reverse-append c.pop.new.self (c.in-Some-pop.content ∷ []) in
+    ap (λ (cs : List Content). reverse cs) c.in-Some-pop.ensures ∙ reverse-append c.pop.new.self (c.in-Some-pop.content ∷ []) in
     (subst (λ (cs : List Content). MayRun inv.first (c.in-Some.file.now ∷ c.in-Some.more.now) cs) left
     (subst (λ (bs : List FileBlock). MayRun inv.first bs (reverse c.loop-file.left)) c.in-Some.ensures.cases.0 inv.may_run)).1
 
@@ -57,7 +57,7 @@ loop-file-preserved c =
     let split = c.in-Some.ensures.cases.0 in
     let left : reverse c.loop-file.left ≡ x ∷ xs = ap (λ (cs : List Content). reverse cs) c.in-Some-pop.ensures ∙ reverse-append c.pop.new.self (x ∷ []) in
     let runs : MayRun inv.first (b ∷ bs) (x ∷ xs) =
-        subst (λ (cs : List Content). MayRun inv.first (b ∷ bs) cs) left (subst (λ (ys : List FileBlock). MayRun inv.first ys (reverse c.loop-file.left)) split inv.may_run) in
+    subst (λ (cs : List Content). MayRun inv.first (b ∷ bs) cs) left (subst (λ (ys : List FileBlock). MayRun inv.first ys (reverse c.loop-file.left)) split inv.may_run) in
     record {
       first = suc inv.first;
       may_run = runs.2;

@@ -1,4 +1,4 @@
-use Rattle.std.proofs.Common.{◌≡◌, ◌∙◌, [], Err, ap, rules, subst, sym}
+use Rattle.std.proofs.Common.{◌≡◌, ◌∙◌, Err, ap, rules, subst, sym}
 use Rattle.ytt_base.specs.View.{trees_of}
 use Rattle.star_eval.specs.Meets.{arena_of}
 use Rattle.star_values.specs.Owns.{OwnsFields}

@@ -25,6 +25,6 @@ returns c = λ us held.
     let table = table_of c.in_ok-functions.functions in
     let left : reverse c.in_ok-left.left ≡ cs = ap (λ (xs : List Content). reverse xs) c.in_ok-left.ensures ∙ reverse-reverse cs in
     let same : (f k : ℕ) → table f k ≡ known (files_of bs) f k =
-        λ f k. c.in_ok-functions.ensures f k ∙ (λ i. known (files_of (blocks_in (c.as_slice.ensures i))) f k) ∙ (λ i. known (files_of (c.in_ok-known.ensures i)) f k) in
+    λ f k. c.in_ok-functions.ensures f k ∙ (λ i. known (files_of (blocks_in (c.as_slice.ensures i))) f k) ∙ (λ i. known (files_of (c.in_ok-known.ensures i)) f k) in
     subst (Gives trees_of c.run_all.result) (sym (held_means (budget_of budget) us bs cs table c.requires held same))
     (subst (λ (xs : List Content). Gives trees_of c.run_all.result (outcome_of (all_documents table budget.depth bs xs (at_start budget.steps)))) left c.run_all.ensures)
