@@ -1,5 +1,5 @@
 -- What the run of a file's block says of its documents: no file is loaded, and no native is a host's.
-use Rattle.std.proofs.Common.{◌≡◌, ◌∙◌, ℕ, List, [], Some, Result, Ok, Err, refl, ap, subst, sym}
+use Rattle.std.proofs.Common.{◌≡◌, ◌∙◌, List, [], Some, Result, Ok, Err, refl, ap, subst, sym}
 use Rattle.ytt_base.specs.Trees.{Trees}
 use Rattle.ytt_base.specs.declared.fault.Fault.{Fault}
 use Rattle.ytt_base.specs.declared.fault.Stop.{Stop}

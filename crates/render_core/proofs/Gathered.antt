@@ -1,9 +1,8 @@
 -- Documents of one file after another, gathered in one list.
-use Rattle.std.proofs.Common.{◌≡◌, ◌∙◌, ℕ, List, [], ◌∷◌, ◌++◌, Ok, Err, refl, ap, sym}
+use Rattle.std.proofs.Common.{◌≡◌, ◌∙◌, ℕ, List, [], ◌∷◌, ◌++◌, Ok, Err, refl, ap}
 use Rattle.ytt_base.specs.Outcomes.{Gives}
 use Rattle.ytt_base.specs.Trees.{Trees, no_trees, tree}
 use Rattle.ytt_base.specs.View.{tree_of, trees_of}
-use Rattle.ytt_base.specs.declared.fault.Fault.{Fault}
 use Rattle.ytt_base.specs.declared.fault.Stop.{Stop}
 use Rattle.ytt_base.specs.declared.fault.Stop.TheVariants as stop
 use Rattle.ytt_base.specs.declared.tree.Tree.{Tree}

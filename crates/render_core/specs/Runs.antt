@@ -30,6 +30,10 @@ EndsIn (Ok trees) s ending = ending ≡ done (trees_of trees) s
 EndsIn (Err (stop.Fault f)) s ending = ending ≡ bad f s
 EndsIn (Err stop.Memory) s ending = Unit {0}
 
+-- a call gives what a computation does, from the session before it, and leaves the session that the computation does
+abbrev pub EndsFrom : Computation World Trees → Result (List Tree) Stop → (after before : Session) → Type 0
+EndsFrom m result after before = EndsIn result (world_of after) (m (world_of before))
+
 abbrev pub given_documents : FileResult → Computation World Trees
 given_documents r = give (documents r.documents)
 

@@ -10,7 +10,7 @@ ghost use Rattle.file_units.specs.Held.{AreHeld, IsWhole, MayRun, block_of};
 ghost use Rattle.world_spec.specs.Parts.{at_start, outcome_of, units_meaning};
 ghost use Rattle.world_spec.specs.Units.{FileUnit};
 ghost use Rattle.ytt_words.specs.Asks.{budget_of};
-ghost use Rattle.render_core.specs.Runs.{EndsIn, all_documents, block_documents, content_documents, world_of};
+ghost use Rattle.render_core.specs.Runs.{EndsFrom, all_documents, block_documents, content_documents};
 
 use crate::natives::NoNatives;
 use file_units::Content;
@@ -58,7 +58,7 @@ fn run_block<'p>(
     session: &mut Session,
 ) -> Result<Trees, Stop>
     requires { names.now ≡ each_once (ops_names (block_of file.now)) }
-    ensures ends { EndsIn result (world_of session.new) (block_documents (table_of functions.now) session.old.work.depth file.now (world_of session.old)) }
+    ensures ends { EndsFrom (block_documents (table_of functions.now) session.old.work.depth file.now) result session.new session.old }
     ensures depth { session.new.work.depth ≡ session.old.work.depth }
 {
     let nothing = Items::new(alloc);
@@ -85,7 +85,7 @@ fn run_content<'p>(
     session: &mut Session,
 ) -> Result<Trees, Stop>
     requires { IsWhole file.now content }
-    ensures ends { EndsIn result (world_of session.new) (content_documents (table_of functions.now) session.old.work.depth file.now content (world_of session.old)) }
+    ensures ends { EndsFrom (content_documents (table_of functions.now) session.old.work.depth file.now content) result session.new session.old }
     ensures depth { session.new.work.depth ≡ session.old.work.depth }
 {
     match content {
