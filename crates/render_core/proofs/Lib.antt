@@ -1,2 +1,4 @@
-pub mod Built
-pub mod Texts
+pub mod Blocks
+pub mod Gathered
+pub mod Held
+pub mod Read

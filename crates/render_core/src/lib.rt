@@ -1,11 +1,13 @@
-//! What the text of a file means: documents, or a fault.
+//! What a request means over the files: documents, or the first fault.
 //!
-//! `read_documents` gives exactly the documents that a text means, such as can be written, or exactly its first fault
-//! (`documents`, `held`, `writable`). A text with code is a template, which is placed, compiled and run; any other is its documents.
+//! `render` finds and reads the files (`file_units`), and runs them one after another within one budget, with the functions of all of them
+//! in one table: a template gives the documents that it builds, a file without code its own, and a library none. It answers exactly what
+//! the request means, where the tree of the files is told (`told`); its documents are such as can be written (`held`, `writable`); and each
+//! failure has its cause (`cause`).
 #![tactic(auto)]
 
 mod natives;
 mod rendering;
-mod template;
+mod running;
 
-pub use rendering::read_documents;
+pub use rendering::render;

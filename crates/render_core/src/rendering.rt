@@ -1,104 +1,59 @@
-// What the text of a file means.
-ghost use Rattle.std.specs.Prelude.{◌^◌, ◌<◌, IfOk, length};
-ghost use Rattle.ytt_base.specs.Outcomes.{Gives, and_then};
+// What a request means.
+ghost use Rattle.std.specs.Prelude.{◌≡◌, List, IfOk, IfSome};
 ghost use Rattle.ytt_base.specs.Trees.{AreTrees, Writable};
 ghost use Rattle.ytt_base.specs.View.{trees_of};
-ghost use Rattle.yaml_held.specs.Keyed.{KeyedDocuments};
-ghost use Rattle.yaml_noted.specs.View.{documents_of};
-ghost use Rattle.star_grammar.specs.CodeReaders.{GivesCode};
-ghost use Rattle.template_spec.specs.Passes.{template_passed};
-ghost use Rattle.template_spec.specs.Template.{Items as TemplateItems};
-ghost use Rattle.ytt_spec.specs.Meaning.{built, documents_meaning, text_meaning};
-ghost use Rattle.ytt_words.specs.Asks.{budget_of};
-ghost use Rattle.render_core.specs.Programs.{IsProgramOf};
+ghost use Rattle.file_units.specs.Held.{AreHeld, MayRun};
+ghost use Rattle.file_units.specs.Reads.{HasCause};
+ghost use Rattle.world_spec.specs.Units.{FileUnit};
+ghost use Rattle.ytt_spec.specs.Meaning.{Means};
+ghost use Rattle.ytt_words.specs.Asks.{budget_of, command_of};
+ghost use Rattle.render_core.specs.Renders.{Renders, RendersUnits};
 
-use crate::natives::NoNatives;
-use crate::template::pass_template;
+use crate::running::run_units;
+use file_units::{RenderStop, Units, read_units};
 use notes_read::a_code_reader_exists;
-use sqlite_items::Items;
-use star_eval::{Session, run_file};
-use star_resolve::Resolved;
 use std::alloc::Global;
-use template_tree::place;
-use yaml_held::reads_keyed;
-use yaml_read::{NotedDocs, has_code, plain_trees, read_noted};
 use ytt_base::fault::Stop;
 use ytt_base::tree::Trees;
-use ytt_words::Budget;
+use ytt_outside::files::Files;
+use ytt_words::{Budget, Request};
 
-/// The documents of a program within a budget, in a session of its own, or the fault that it ends with.
-fn run_within(alloc: Global, program: Resolved, budget: Budget) -> Result<Trees, Stop>
-    ensures { (t : TemplateItems) → IsProgramOf t program → Gives trees_of result (built (budget_of budget) t) }
+/// The documents of units, or the first fault with their names.
+fn render_units(alloc: Global, units: Units, budget: Budget) -> Result<Trees, RenderStop>
+    requires { MayRun 1 units.files units.contents }
+    ensures { (us : List FileUnit) → AreHeld 1 us units.files units.contents → RendersUnits (budget_of budget) us units.names result }
 {
-    let mut session = Session::new(alloc, budget.steps, budget.depth);
-    let loaded = Items::new(alloc);
-    let file = run_file(alloc, program, &loaded, &mut session, &mut NoNatives)?;
-    let trees = node_build::documents_of(alloc, file.documents.as_slice())?;
-    Ok(trees)
-}
-
-/// The documents that a template builds within a budget, or its first fault.
-fn build(
-    alloc: Global,
-    documents: NotedDocs,
-    ignore_unknown: bool,
-    budget: Budget,
-) -> Result<Trees, Stop>
-    requires { KeyedDocuments (documents_of documents) }
-    ensures { GivesCode trees_of result (λ r. and_then (built (budget_of budget)) (template_passed r ignore_unknown 1 (documents_of documents))) }
-{
-    let template = place(alloc, documents, 1, ignore_unknown)?;
-    let program = pass_template(alloc, template)?;
-    run_within(alloc, program, budget)
-}
-
-/// What noted documents mean: with code they are a template, which is built, and without they are
-/// documents.
-fn resolve(
-    alloc: Global,
-    documents: NotedDocs,
-    ignore_unknown: bool,
-    budget: Budget,
-) -> Result<Trees, Stop>
-    requires { KeyedDocuments (documents_of documents) }
-    ensures { GivesCode trees_of result (λ r. documents_meaning r ignore_unknown (budget_of budget) (documents_of documents)) }
-{
-    if has_code(&documents) {
-        return build(alloc, documents, ignore_unknown, budget);
+    let Units {
+        names,
+        files,
+        contents,
+    } = units;
+    match run_units(alloc, files.as_slice(), contents, budget) {
+        Ok(trees) => Ok(trees),
+        Err(Stop::Fault(fault)) => Err(RenderStop::Refused { fault, names }),
+        Err(Stop::Memory) => Err(RenderStop::Memory),
     }
-    plain_trees(alloc, &documents)
 }
 
-/// The documents of a text, or its first fault.
-fn read_text(
-    alloc: Global,
-    bytes: &[u8],
-    ignore_unknown: bool,
-    budget: Budget,
-) -> Result<Trees, Stop>
-    requires { length bytes.now < 2 ^ 32 }
-    ensures { GivesCode trees_of result (λ r. text_meaning r ignore_unknown (budget_of budget) bytes.now) }
-{
-    let documents = read_noted(alloc, bytes, 1)?;
-    reads_keyed();
-    resolve(alloc, documents, ignore_unknown, budget)
-}
-
-/// The documents of a text of file 1, such as can be written, or its first fault.
+/// The documents of the files that are asked for, within the budget of the request, or the first fault of all.
 ///
-/// The faults of the text come first, then, where it has code, those of the template: of its comments, its placing, its names, of
-/// what isn't built yet, and of its run within the budget. Want of memory is `Stop::Memory`.
-pub fn read_documents(
+/// The faults of finding the files come first, then those of reading each in its turn, and then those of their runs, which stand in one
+/// budget. `Refused` has the names of all files that were found, the first for number 1. `ReadFailed` has the path where the files failed,
+/// and `Memory` says that there was no room.
+pub fn render<F: Files>(
     alloc: Global,
-    bytes: &[u8],
-    ignore_unknown: bool,
-    budget: Budget,
-) -> Result<Trees, Stop>
-    requires { length bytes.now < 2 ^ 32 }
-    ensures documents { GivesCode trees_of result (λ r. text_meaning r ignore_unknown (budget_of budget) bytes.now) }
+    request: &Request,
+    files: &mut F,
+) -> Result<Trees, RenderStop>
+    ensures told { IfSome (F.tree files.old) (λ tree. Renders (Means (command_of request.now) tree) result) }
     ensures held { IfOk result (λ trees. AreTrees (trees_of trees)) }
     ensures writable { IfOk result (λ trees. Writable (trees_of trees)) }
+    ensures keeps { F.tree files.new ≡ F.tree files.old }
+    ensures cause { HasCause request.now.ignore_unknown request.now.paths (F.tree files.old) (F.faults files.old) (F.faults files.new) result }
 {
     a_code_reader_exists();
-    read_text(alloc, bytes, ignore_unknown, budget)
+    match read_units(alloc, &request.paths, request.ignore_unknown, files) {
+        Ok(units) => render_units(alloc, units, request.budget),
+        Err(stop) => Err(stop),
+    }
 }
