@@ -28,10 +28,10 @@ files_stop ignore fs tree names same (find_stop.Fault f) h = (same, h)
 files_stop ignore fs tree names same (find_stop.ReadFailed path) h = tt
 files_stop ignore fs tree names same find_stop.Memory h = tt
 
-pub ends_stop : {A B : Type 0} (At : List ℕ → Type 0) (before now : ℕ) (names : List (List ℕ)) (e : FindStop) → FailsAt {A = A} At before now (Err e) → EndsAt {A = B} At before now (Err (stop_with names e))
-ends_stop At before now names (find_stop.Fault f) h = h
-ends_stop At before now names (find_stop.ReadFailed path) h = h
-ends_stop At before now names find_stop.Memory h = tt
+pub ends_stop : (A B : Type 0) (At : List ℕ → Type 0) (before now : ℕ) (names : List (List ℕ)) (e : FindStop) → FailsAt {A = A} At before now (Err e) → EndsAt {A = B} At before now (Err (stop_with names e))
+ends_stop A B At before now names (find_stop.Fault f) h = h
+ends_stop A B At before now names (find_stop.ReadFailed path) h = h
+ends_stop A B At before now names find_stop.Memory h = tt
 
 module _ (ignore : Bool) (paths : List (List ℕ)) where
   -- ---- finding stops

@@ -42,16 +42,16 @@ module _ (ignore : Bool) (n : ℕ) (f : FoundFile) (before now : ℕ) where
     -- they mean nothing
     pub meaningless : (tree : Option Tree) (s : Stop) → IfSome tree (λ t. bytes_within (limit_of before) f.path (t f.path) ≡ Ok bytes)
         → ReadsSource n (role_of f.name) (Err s) (λ r. source_of r ignore n f.name bytes) → ReadsFile ignore n f before now tree (Err (stop_of s))
-    meaningless None (plain_stop.Fault g) told h = tt
-    meaningless (Some t) (plain_stop.Fault g) told h = λ r reads. ap (and_then (unit_read r ignore n f)) told ∙ ap (and_then (λ s. Ok (unit_of f s))) (h r reads)
-    meaningless tree plain_stop.Memory told h = tt
+    meaningless None (plain_stop.Fault g) within h = tt
+    meaningless (Some t) (plain_stop.Fault g) within h = λ r reads. ap (and_then (unit_read r ignore n f)) within ∙ ap (and_then (λ s. Ok (unit_of f s))) (h r reads)
+    meaningless tree plain_stop.Memory within h = tt
 
     pub was_read : (tree : Option Tree) (h : HeldFile) → IfSome tree (λ t. bytes_within (limit_of before) f.path (t f.path) ≡ Ok bytes) → now ≡ before - length bytes
         → ReadsSource n (role_of f.name) (Ok h) (λ r. source_of r ignore n f.name bytes) → IsRead ignore n f before now tree h
-    was_read tree h told left g = record {
+    was_read tree h within left g = record {
       bytes = bytes;
       source = g.0;
-      told = told;
+      told = within;
       left = left;
       means = λ r reads. ap (and_then (λ s. Ok (unit_of f s))) (g.1 r reads);
       held = record { role_is = g.2; holds = g.3 };
@@ -67,10 +67,10 @@ fails_still At before now (plain_stop.Fault g) h = h
 fails_still At before now plain_stop.Memory h = tt
 
 -- where nothing had failed before
-pub fails_later : {A B : Type 0} (At Far : List ℕ → Type 0) (first before now : ℕ) (e : FindStop) → before ≡ first → ((path : List ℕ) → At path → Far path) → FailsAt {A = A} At before now (Err e) → FailsAt {A = B} Far first now (Err e)
-fails_later At Far first before now (find_stop.Fault g) still far h = h ∙ still
-fails_later At Far first before now (find_stop.ReadFailed path) still far h = (subst (λ b. Rose b now) still h.0, far path h.1)
-fails_later At Far first before now find_stop.Memory still far h = tt
+pub fails_later : (A B : Type 0) (At Far : List ℕ → Type 0) (first before now : ℕ) (e : FindStop) → before ≡ first → ((path : List ℕ) → At path → Far path) → FailsAt {A = A} At before now (Err e) → FailsAt {A = B} Far first now (Err e)
+fails_later A B At Far first before now (find_stop.Fault g) still far h = h ∙ still
+fails_later A B At Far first before now (find_stop.ReadFailed path) still far h = (subst (λ b. Rose b now) still h.0, far path h.1)
+fails_later A B At Far first before now find_stop.Memory still far h = tt
 
 -- ---- units in front of those that follow
 
@@ -225,7 +225,7 @@ module _ (ignore : Bool) (fs : List FoundFile) (tree : Option Tree) where
     pub goes_on : (now : ℕ) (h : HeldFile) → IsRead ignore n f left now tree h → IsWholeAs n h → IsOn ignore fs tree (n + 1) now rest (blocks ++ h.block ∷ []) (contents ++ h.content ∷ [])
     goes_on now h is whole = record {
       units = on.units ++ u ∷ [];
-      count = ap suc (length_more on.units u) ∙ next;
+      count = next;
       read = read_more ignore u 1 n on.units on.count on.read (f, is.bytes, is.means);
       are_held = held_more u h.block h.content 1 n on.units blocks contents on.count on.are_held is.held;
       may_run = runs_more u h.block h.content 1 n on.units blocks contents on.count on.are_held on.may_run whole;
@@ -236,13 +236,13 @@ module _ (ignore : Bool) (fs : List FoundFile) (tree : Option Tree) where
         u : FileUnit
         u = unit_of f is.source
 
-        next : 1 + suc (length on.units) ≡ n + 1
-        next = let e = on.count in omega (arith, e)
+        next : 1 + length (on.units ++ u ∷ []) ≡ n + 1
+        next = let e = on.count in let m = length_more on.units u in omega (arith, e, m)
 
         by : (tree : Option Tree) → IfSome tree (λ t. bytes_within (limit_of left) f.path (t f.path) ≡ Ok is.bytes) → Leading tree
             → IfSome tree (λ t. (r : CodeReader) → IsCodeReader r → Leads (files_read r ignore t fs) (behind (on.units ++ u ∷ []) (read_from t (unit_read r ignore) (n + 1) now rest)))
-        by None told l = tt
-        by (Some t) told l = λ r reads.
+        by None within l = tt
+        by (Some t) within l = λ r reads.
             let m = unit_read r ignore in
             let tail = read_from t m (n + 1) (left - length is.bytes) rest in
             let whole = files_read r ignore t fs in
@@ -250,7 +250,7 @@ module _ (ignore : Bool) (fs : List FoundFile) (tree : Option Tree) where
             subst P (sym is.left)
             (leads_on whole (behind on.units (read_from t m n left (f ∷ rest))) (behind (on.units ++ u ∷ []) tail) (l r reads)
             (leads_on (behind on.units (read_from t m n left (f ∷ rest))) (behind on.units (behind (u ∷ []) tail)) (behind (on.units ++ u ∷ []) tail)
-            (leads_behind on.units (read_from t m n left (f ∷ rest)) (behind (u ∷ []) tail) (next_read t m n left f rest is.bytes u told (is.means r reads)))
+            (leads_behind on.units (read_from t m n left (f ∷ rest)) (behind (u ∷ []) tail) (next_read t m n left f rest is.bytes u within (is.means r reads)))
             (leads_twice on.units u tail)))
 
     -- or its fault

@@ -124,7 +124,7 @@ module _ (n : ℕ) (b : Bool) (ds : Documents) where
     )
 
     pub library_whole : (names : List (List ℕ)) → names ≡ [] → IsWholeAs n (held_as n os (content.Library names))
-    library_whole names none = (refl, none ∙ sym (ap (λ os. each_once (ops_names (ops_of n os))) empty), ap (λ os. ops_loads (ops_of n os)) empty)
+    library_whole names none = (refl, (none ∙ sym (ap (λ os. each_once (ops_names (ops_of n os))) empty), ap (λ os. ops_loads (ops_of n os)) empty))
 
     pub documents_read : (ts : List Tree) → b ≡ false → plain_trees ds ≡ Ok (trees_of ts) → ReadsSource n (role_for b) (Ok (held_as n os (content.Documents ts))) (λ r. plain_for b ds)
     documents_read ts e g = (

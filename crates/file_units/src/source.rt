@@ -1,6 +1,6 @@
 // What the bytes of a file are read as.
 ghost use Rattle.std.specs.Prelude.{◌≡◌, ◌<◌, ◌^◌, true, IfOk, length};
-ghost use Rattle.ytt_base.specs.Outcomes.{◌>>=◌};
+ghost use Rattle.ytt_base.specs.Outcomes.{and_then};
 ghost use Rattle.file_units.specs.Files.{IsWholeAs, ReadsSource, content_for, plain_for, role_for, yaml_for};
 ghost use Rattle.world_spec.specs.Units.{code_items, code_source, role_of, source_of};
 ghost use Rattle.yaml_held.specs.Keyed.{KeyedDocuments};
@@ -96,7 +96,7 @@ fn read_yaml(
     ignore_unknown: bool,
 ) -> Result<HeldFile, Stop>
     requires { length bytes.now < 2 ^ 32 }
-    ensures read { ReadsSource file (role_for library) result (λ r. Read file bytes.now >>= yaml_for r ignore_unknown file library) }
+    ensures read { ReadsSource file (role_for library) result (λ r. and_then (yaml_for r ignore_unknown file library) (Read file bytes.now)) }
     ensures whole { IfOk result (IsWholeAs file) }
 {
     let documents = read_noted(alloc, bytes, file)?;

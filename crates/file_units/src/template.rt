@@ -32,7 +32,8 @@ fn nested(alloc: Global, resolved: Resolved) -> Result<FileProgram, Memory>
         program, globals, ..
     } = resolved;
     let Program { file, code } = program;
-    match nest(alloc, code)? {
+    let cut = nest(alloc, code)?;
+    match cut {
         Some(block) => {
             let block = FileBlock { file, block };
             Ok(FileProgram { block, globals })

@@ -93,7 +93,7 @@ returns-in_err-one-clause-cause g c =
     let At : List ℕ → Type 0 = λ p. p ≡ file.path in
     let Far : List ℕ → Type 0 = IsReached ignore fs tree in
     let stopped : FailsAt {A = HeldFiles} Far first now (Err e) =
-    fails_later {A = HeldFile} At Far first before now e inv.1 (reaches ignore fs tree n left (file_of file) (each file_of rest) bs cs (subst Left next inv.3) (has_at gs i file rest next)) c.in_err-one.ensures.cause in
+    fails_later HeldFile HeldFiles At Far first before now e inv.1 (reaches ignore fs tree n left (file_of file) (each file_of rest) bs cs (subst Left next inv.3) (has_at gs i file rest next)) c.in_err-one.ensures.cause in
     search rules
 
 pub returns-in_err-push-clause-keeps : goal.returns-in_err-push-clause-keeps

@@ -21,7 +21,7 @@ returns-in-Err-clause-cause g c =
     let before = g.F.Files.faults c.args.files.now in
     let now = g.F.Files.faults c.read_files.new.files in
     let P : RenderStop → Type 0 = λ s. EndsAt {A = Units} At before now (Err s) in
-    subst P (sym c.stop_with.ensures) (ends_stop {A = HeldFiles} At before now c.in_ok-names.names c.in-Err.stop c.in-Err.ensures.cause)
+    subst P (sym c.stop_with.ensures) (ends_stop HeldFiles Units At before now c.in_ok-names.names c.in-Err.stop c.in-Err.ensures.cause)
 
 pub returns-in-Ok-clause-read : goal.returns-in-Ok-clause-read
 returns-in-Ok-clause-read g c = (c.in-Ok.ensures.read, c.in_ok-names.ensures)

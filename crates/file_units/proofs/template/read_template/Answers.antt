@@ -15,7 +15,7 @@ nested-requires c = subst IsSome (sym (ap blocks c.in_ok-resolved.ensures.code â
 pub returns-in_err-template-clause-program : goal.returns-in_err-template-clause-program
 returns-in_err-template-clause-program c =
     let p = err_from_is_err_and c.from_residual.result c.from_residual.ensures.1 in
-    rw (p.1, p.2) (place_stop template_of c.args.file c.args.ignore_unknown (documents_of c.args.documents) c.in_err-template.field-0.0 c.in_err-template.ensures.template)
+    rw (p.1, p.2) (place_stop c.args.file c.args.ignore_unknown (documents_of c.args.documents) template_of c.in_err-template.field-0.0 c.in_err-template.ensures.template)
 
 pub returns-in_err-resolved-clause-program : goal.returns-in_err-resolved-clause-program
 returns-in_err-resolved-clause-program c =
@@ -24,9 +24,9 @@ returns-in_err-resolved-clause-program c =
 
 pub returns-clause-program : goal.returns-clause-program
 returns-clause-program c =
-    template_read c.args.file c.args.ignore_unknown (documents_of c.args.documents) (template_of c.in_ok-template.template) c.in_ok-template.ensures.template c.in_ok-resolved.resolved _
+    template_read c.args.file c.args.ignore_unknown (documents_of c.args.documents) (template_of c.in_ok-template.template) c.in_ok-template.ensures.template c.in_ok-resolved.resolved c.in_ok-nested.field-0
     (c.in_ok-template.ensures.placed c.requires) (c.in_ok-resolved.ensures.file âˆ™ c.in_ok-template.ensures.file) c.in_ok-resolved.ensures.passes c.in_ok-resolved.ensures.code c.in_ok-resolved.ensures.globals
-    c.in_ok.ensures.file c.in_ok.ensures.blocks c.in_ok.ensures.globals
+    c.in_ok-nested.ensures.file c.in_ok-nested.ensures.blocks c.in_ok-nested.ensures.globals
 
 pub returns-clause-loads : goal.returns-clause-loads
-returns-clause-loads c = loads_none c.in_ok-resolved.resolved _ c.in_ok-resolved.ensures.loads c.in_ok.ensures.file c.in_ok.ensures.blocks
+returns-clause-loads c = loads_none c.in_ok-resolved.resolved c.in_ok-nested.field-0 c.in_ok-resolved.ensures.loads c.in_ok-nested.ensures.file c.in_ok-nested.ensures.blocks
