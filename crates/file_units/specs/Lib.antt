@@ -1,2 +1,4 @@
+pub mod Files
 pub mod Held
 pub mod Reads
+pub mod Stops

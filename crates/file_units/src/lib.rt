@@ -5,7 +5,11 @@
 //! call answers by `specs/Reads`.
 #![tactic(auto)]
 
+mod files;
+mod names;
 mod read;
+mod source;
+mod template;
 mod units;
 
 pub use read::read_units;
