@@ -13,12 +13,7 @@ pub fn many_in(name: &str) -> Option<(u64, &str)> {
 }
 
 /// Puts a number behind a text, with zeros before it that make it as long as the last number.
-fn push_number(
-    alloc: Global,
-    text: &mut String,
-    number: u64,
-    last: u64,
-) -> Result<(), AllocError> {
+fn push_number(alloc: Global, text: &mut String, number: u64, last: u64) -> Result<(), AllocError> {
     let digits = format!(in alloc; "{number}")?;
     let most = format!(in alloc; "{last}")?;
     for _ in digits.len()..most.len() {
