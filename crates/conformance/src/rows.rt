@@ -1,6 +1,7 @@
 // Rows of an archive.
 
 use crate::archive::Section;
+use crate::many::{many_in, numbered_path};
 use crate::rule::ruled;
 use crate::scan::words_of;
 use crate::stop::Stop;
@@ -249,6 +250,29 @@ impl Row {
         Ok(())
     }
 
+    /// Takes so many files of one text, with their numbers from 1 in their paths.
+    fn take_many(
+        &mut self,
+        alloc: Global,
+        count: u64,
+        path: &str,
+        text: &[u8],
+    ) -> Result<(), AllocError> {
+        for before in 0..count {
+            let path = numbered_path(alloc, path, before.saturating_add(1), count)?;
+            self.take_file(alloc, path.as_str(), Vec::from_slice(alloc, text)?)?;
+        }
+        Ok(())
+    }
+
+    /// Takes the file of a name, or the files that it gives.
+    fn take_files(&mut self, alloc: Global, name: &str, text: Vec<u8>) -> Result<(), AllocError> {
+        match many_in(name) {
+            Some((count, path)) => self.take_many(alloc, count, path, text.as_slice()),
+            None => self.take_file(alloc, name, text),
+        }
+    }
+
     /// Takes the text below a name.
     fn take(&mut self, alloc: Global, name: &str, text: Vec<u8>, line: u64) -> Result<(), Stop> {
         if !self.names.insert(String::from_str(alloc, name)?)? {
@@ -260,7 +284,7 @@ impl Row {
             "words" | "status" | "steps" | "fails" => {
                 return self.take_lines(alloc, name, text, line);
             }
-            _ => self.take_file(alloc, name, text)?,
+            _ => self.take_files(alloc, name, text)?,
         }
         Ok(())
     }

@@ -1,6 +1,6 @@
 //! Renders Carvel ytt templates:
-//! `gingercrag [render] -f PATH [--steps N] [--depth N] [--ignore-unknown-comments]`, where the numbers may also be
-//! written `--steps=N` and `--depth=N`.
+//! `gingercrag [render] -f PATH .. [--steps N] [--depth N] [--ignore-unknown-comments]`, where each path is a file or a folder, with
+//! `-f` or `--file` before it, and a value may also stand behind `=`: `--file=PATH`, `--steps=N` and `--depth=N`.
 #![tactic(auto)]
 
 use std::process::ExitCode;
