@@ -1,5 +1,5 @@
 -- What finding and reading ends with.
-use Rattle.std.proofs.Common.{◌≡◌, ℕ, Bool, List, [], ◌∷◌, ◌++◌, Option, Some, None, Result, Ok, Err, IfSome, map as each, refl, sym, ap, subst, ◌∙◌}
+use Rattle.std.proofs.Common.{◌≡◌, ℕ, Bool, List, [], Option, Some, None, Result, Ok, Err, IfSome, sym, ap, subst, ◌∙◌}
 use Rattle.ytt_outside.specs.Counts.{Rose}
 use Rattle.code_spec.specs.CodeReading.{CodeReader}
 use Rattle.file_find.proofs.Runs.{asks_left, asks_right}
@@ -13,10 +13,9 @@ use Rattle.file_spec.specs.Reading.{IsAtOrBelow, IsPathOfRun}
 use Rattle.star_grammar.specs.CodeReaders.{IsCodeReader, MeansCode}
 use Rattle.world_spec.specs.Units.{FileUnit}
 use Rattle.ytt_spec.specs.Meaning.{files_read, found_names, named_in, names_found, run_asks, units_found}
-use Rattle.file_units.specs.Files.{IsReached, ReadsFiles, ReadsFound, RefusesFiles}
+use Rattle.file_units.specs.Files.{IsReached, ReadsFiles, ReadsFound}
 use Rattle.file_units.specs.Reads.{HasCause, ReadsUnits, Tree}
 use Rattle.file_units.specs.Stops.{EndsAt, FailsAt, stop_with}
-use Rattle.file_units.specs.declared.units.HeldFiles.{HeldFiles}
 use Rattle.file_units.specs.declared.units.RenderStop.{RenderStop}
 use Rattle.file_units.specs.declared.units.RenderStop.TheVariants as stop
 use Rattle.file_units.specs.declared.units.Units.{Units}

@@ -1,12 +1,12 @@
 -- Files that are read one after another.
-use Rattle.std.proofs.Common.{◌≡◌, ℕ, suc, ◌+◌, ◌-◌, List, [], ◌∷◌, ◌++◌, length, drop, take, Bool, Option, Some, None, Result, Ok, Err, IfSome, map as each, refl, sym, ap, subst, ◌∙◌, inl, inr, ⊎_elim, arith, append_assoc, append-nil, take-append-drop}
+use Rattle.std.proofs.Common.{◌≡◌, ℕ, suc, ◌+◌, ◌-◌, List, [], ◌∷◌, ◌++◌, length, drop, take, Bool, Option, Some, None, Ok, Err, IfSome, map as each, refl, sym, ap, subst, ◌∙◌, inl, inr, arith, append_assoc, append-nil, take-append-drop}
 use Rattle.ytt_base.specs.declared.fault.Fault.{Fault}
 use Rattle.ytt_base.specs.declared.fault.Stop.{Stop}
 use Rattle.ytt_base.specs.declared.fault.Stop.TheVariants as plain_stop
 use Rattle.ytt_base.specs.Outcomes.{Outcome, and_then}
 use Rattle.ytt_outside.specs.Counts.{Rose}
 use Rattle.code_spec.specs.CodeReading.{CodeReader}
-use Rattle.file_find.proofs.Runs.{Leads, asks_left, leads_on, leads_then}
+use Rattle.file_find.proofs.Runs.{Leads, leads_on, leads_then}
 use Rattle.file_find.specs.Comes.{HasPath}
 use Rattle.file_find.specs.Finds.{file_of, stop_of}
 use Rattle.file_find.specs.Reads as one
@@ -19,7 +19,7 @@ use Rattle.file_spec.specs.Limits.{largest_whole}
 use Rattle.file_spec.specs.Reading.{bytes_within, limit_of, read_from}
 use Rattle.star_functions.specs.declared.programs.FileBlock.{FileBlock}
 use Rattle.star_grammar.specs.CodeReaders.{IsCodeReader, MeansCode}
-use Rattle.world_spec.specs.Units.{FileUnit, Source, names_of, role_of, source_of, unit_of, unit_read}
+use Rattle.world_spec.specs.Units.{FileUnit, names_of, role_of, source_of, unit_of, unit_read}
 use Rattle.ytt_spec.specs.Meaning.{AreRead, files_read, found_names}
 use Rattle.file_units.specs.Files.{AreFilesRead, IsReached, IsRead, IsWholeAs, ReadsFile, ReadsFiles, ReadsSource, RefusesFiles, file_read}
 use Rattle.file_units.specs.Held.{AreHeld, IsHeld, IsWhole, MayRun}

@@ -7,26 +7,25 @@ use Rattle.ytt_base.specs.declared.tree.Tree.{Tree}
 use Rattle.ytt_base.specs.Outcomes.{Gives, Outcome, and_then, ◌>>=◌}
 use Rattle.ytt_base.specs.Trees.{Trees}
 use Rattle.ytt_base.specs.View.{trees_of}
-use Rattle.code_spec.specs.Blocks.{Ops, blocks}
 use Rattle.code_spec.specs.CodeReading.{CodeReader}
-use Rattle.code_spec.specs.Scopes.{Use, ops_names, unknown_first}
+use Rattle.code_spec.specs.Scopes.{Use, ops_names}
 use Rattle.file_spec.specs.Names.{is_star, is_yaml_library}
 use Rattle.star_blocks.specs.Nested.{ops_of}
 use Rattle.star_blocks.specs.declared.block.Op.{Op}
 use Rattle.star_file.specs.Programs.{IsFileProgram, ReadsProgram, blocks_in}
 use Rattle.star_file.specs.declared.program.FileProgram.{FileProgram}
 use Rattle.star_functions.specs.declared.programs.FileBlock.{FileBlock}
-use Rattle.star_grammar.specs.CodeReaders.{GivesCode, IsCodeReader, MeansCode}
+use Rattle.star_grammar.specs.CodeReaders.{IsCodeReader}
 use Rattle.star_resolve.specs.Variables.{each_once}
 use Rattle.template_meaning.proofs.Loads.{loads_agree}
 use Rattle.template_meaning.proofs.NothingLoaded.{items_loads_none}
 use Rattle.template_meaning.specs.Files.{ops_loads}
 use Rattle.template_meaning.specs.Meaning.{loads_in}
-use Rattle.template_spec.specs.Passes.{all_built, bound, unless_unbuilt, unless_unknown}
+use Rattle.template_spec.specs.Passes.{all_built, unless_unbuilt, unless_unknown}
 use Rattle.template_spec.specs.Template.{Items, no_items}
 use Rattle.template_spec.specs.Unbuilt.{first_unbuilt, unbuilt_items}
-use Rattle.world_spec.specs.Held.{Holds, documents, program}
-use Rattle.world_spec.specs.Units.{Role, Source, code, code_items, code_source, loaded, passed, plain, source_of, template, template_items, yaml_source}
+use Rattle.world_spec.specs.Held.{Holds}
+use Rattle.world_spec.specs.Units.{Role, code, code_items, code_source, loaded, passed, plain, template, template_items, yaml_source}
 use Rattle.yaml_spec.specs.Noted.{Documents, has_code}
 use Rattle.yaml_spec.specs.Read.{Read, plain_trees}
 use Rattle.file_units.specs.Files.{IsWholeAs, ReadsSource, content_for, plain_for, role_for, yaml_for}
@@ -79,8 +78,7 @@ module _ (n : ℕ) (outcome : CodeReader → Outcome Items) where
     pub program_held : ReadsProgram n (Ok p) outcome → ReadsSource n (role_for b) (Ok h) (λ r. code_source (outcome r))
     program_held g =
         let Q : FileBlock → Type 0 = λ x. Holds n (code g.0) (code_in x h.content) in
-        let R : Content → Type 0 = λ x. Holds n (code g.0) (code_in p.block x) in
-        (
+        let R : Content → Type 0 = λ x. Holds n (code g.0) (code_in p.block x) in (
           code g.0,
           λ r reads. ap code_source (g.1 r reads),
           ap role_in gives ∙ role_is b p.globals,

@@ -1,5 +1,5 @@
 -- Templates as programs.
-use Rattle.std.proofs.Common.{◌≡◌, ℕ, Bool, [], Some, Result, Ok, Err, sym, ap, ◌∙◌}
+use Rattle.std.proofs.Common.{◌≡◌, ℕ, Bool, [], Some, Ok, Err, sym, ap, ◌∙◌}
 use Rattle.ytt_base.specs.declared.fault.Stop.{Stop}
 use Rattle.ytt_base.specs.declared.fault.Stop.TheVariants as stop
 use Rattle.ytt_base.specs.Outcomes.{Gives, Outcome, and_then}
@@ -41,8 +41,7 @@ module _ (n : ℕ) (ignore : Bool) (ds : Documents) where
     pub template_read : (q : Resolved) (p : FileProgram) → Placed t → q.program.file ≡ n → passed t ≡ Ok t → program_of q.program ≡ compiled (numbered t) → q.globals ≡ each_once (program_names (program_of q.program)) →
         p.block.file ≡ q.program.file → Some (ops_of q.program.file p.block.block) ≡ blocks (program_of q.program) → p.globals ≡ q.globals → ReadsProgram n (Ok p) items
     template_read q p is number passes code names file nested globals =
-        let closed : Some (blocks_in p) ≡ blocks (program_of q.program) = ap (λ k. Some (ops_of k p.block.block)) file ∙ nested in
-        (
+        let closed : Some (blocks_in p) ≡ blocks (program_of q.program) = ap (λ k. Some (ops_of k p.block.block)) file ∙ nested in (
           numbered t,
           λ r reads. ap (λ o. and_then (λ t. Ok (numbered t)) (and_then passed o)) (placed r reads) ∙ ap (and_then (λ t. Ok (numbered t))) passes,
           record {

@@ -1,9 +1,8 @@
 -- What reading one file, and one file after another, answers.
-use Rattle.std.specs.Prelude.{◌≡◌, ℕ, ◌-◌, Bool, List, [], length, if◌then◌else◌, Option, Some, None, Result, Ok, Err, IfSome}
+use Rattle.std.specs.Prelude.{◌≡◌, ℕ, ◌-◌, Bool, List, length, if◌then◌else◌, Option, Some, None, Result, Ok, Err, IfSome}
 use Rattle.ytt_base.specs.declared.fault.Stop.{Stop}
 use Rattle.ytt_base.specs.declared.fault.Stop.TheVariants as plain_stop
 use Rattle.ytt_base.specs.Outcomes.{Outcome, ◌>>=◌}
-use Rattle.ytt_outside.specs.Standing.{Standing}
 use Rattle.code_spec.specs.CodeReading.{CodeReader}
 use Rattle.file_find.specs.Comes.{HasPath}
 use Rattle.file_find.specs.declared.found.FindStop.{FindStop}

@@ -29,7 +29,9 @@ fn nested(alloc: Global, resolved: Resolved) -> Result<FileProgram, Memory>
     ensures globals { IfOk result (λ p. p.globals ≡ resolved.globals) }
 {
     let Resolved {
-        program, globals, ..
+        program,
+        globals,
+        ..
     } = resolved;
     let Program { file, code } = program;
     let cut = nest(alloc, code)?;

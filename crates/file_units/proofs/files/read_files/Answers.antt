@@ -1,9 +1,8 @@
-use Rattle.std.proofs.Common.{◌≡◌, ℕ, ◌+◌, ◌++◌, List, [], ◌∷◌, drop, Option, Ok, Err, map as each, refl, sym, ap, subst, ◌∙◌, rules}
+use Rattle.std.proofs.Common.{◌≡◌, ℕ, ◌+◌, ◌++◌, List, [], ◌∷◌, drop, Option, Err, map as each, refl, sym, ap, subst, ◌∙◌, rules}
 use Rattle.std.proofs.lemmas.List.{drop_all}
 use Rattle.ytt_laws.proofs.Lists.{dropped}
 use Rattle.file_find.specs.Finds.{file_of}
 use Rattle.file_find.specs.declared.found.FoundFile.{FoundFile}
-use Rattle.file_spec.specs.Finding as plain
 use Rattle.star_functions.specs.declared.programs.FileBlock.{FileBlock}
 use Rattle.file_units.specs.Files.{IsReached, IsRead, ReadsFile, ReadsFiles}
 use Rattle.file_units.specs.Reads.{Tree}
@@ -39,8 +38,7 @@ loop-file-preserved g c =
     let Over : Option Tree → Type 0 = λ t. IsRead ignore n (file_of file) left now t h in
     let Blocks : List FileBlock → Type 0 = λ bs. IsOn ignore fs tree (n + 1) now rest bs c.push.new.self.contents in
     let Contents : List Content → Type 0 = λ cs. IsOn ignore fs tree (n + 1) now rest (bs ++ h.block ∷ []) cs in
-    let on = goes_on ignore fs tree n left (file_of file) rest bs cs (subst Left next inv.3) now h (subst Over inv.0 c.in_ok-one.ensures.read) c.in_ok-one.ensures.whole in
-    (
+    let on = goes_on ignore fs tree n left (file_of file) rest bs cs (subst Left next inv.3) now h (subst Over inv.0 c.in_ok-one.ensures.read) c.in_ok-one.ensures.whole in (
       c.read_one.ensures.keeps ∙ inv.0,
       c.in_ok-one.ensures.cause ∙ inv.1,
       ap (λ k. k + 1) inv.2,

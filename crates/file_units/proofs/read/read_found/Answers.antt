@@ -1,4 +1,4 @@
-use Rattle.std.proofs.Common.{Err, map as each, ◌≡◌, sym, subst, ◌∙◌}
+use Rattle.std.proofs.Common.{Err, map as each, sym, subst}
 use Rattle.file_find.specs.Finds.{file_of}
 use Rattle.file_units.specs.Files.{IsReached, ReadsFound}
 use Rattle.file_units.specs.Stops.{EndsAt}

@@ -1,6 +1,5 @@
-use Rattle.std.proofs.Common.{◌≡◌, List, ℕ, Option, Err, IfSome, Ok, map as each, sym, subst, ◌∙◌}
+use Rattle.std.proofs.Common.{List, ℕ, Option, Err, map as each, sym, subst, ◌∙◌}
 use Rattle.file_find.specs.Finds.{file_of}
-use Rattle.file_spec.specs.Finding.{files_found}
 use Rattle.file_units.specs.Files.{IsReached, ReadsFound}
 use Rattle.file_units.specs.Reads.{HasCause, ReadsUnits, Tree}
 use Rattle.file_units.specs.Stops.{EndsAt, stop_with}

@@ -1,7 +1,6 @@
 use Rattle.std.proofs.Common.{IsSome, sym, ap, ◌∙◌, subst, refl}
 use Rattle.std.proofs.lemmas.Result.{err_from_is_err_and}
 use Rattle.code_spec.specs.Blocks.{blocks}
-use Rattle.star_tree.specs.Whole.{program_of}
 use Rattle.template_spec.proofs.Nested.{blocks_of}
 use Rattle.template_spec.specs.Numbered.{numbered}
 use Rattle.template_tree.specs.View.{template_of}
