@@ -1,4 +1,4 @@
-use Rattle.std.proofs.Common.{List, Option, IsSome, Some, ap, sym, ◌∙◌, subst}
+use Rattle.std.proofs.Common.{List, Option, IsSome, ap, sym, ◌∙◌, subst}
 use Rattle.std.specs.Option.{option_map}
 use Rattle.std.proofs.lemmas.Bool.{false≢true}
 use Rattle.star_blocks.specs.Nested.{ops_of}
@@ -10,7 +10,7 @@ unreachable-requires c =
     let file = c.args.resolved.program.file in
     false≢true (subst IsSome (sym (c.in_ok-cut.ensures file) ∙ ap (λ (o : Option (List Op)). option_map (ops_of file) o) c.in-None.is) c.requires)
 
-pub returns-in-Some-clause-blocks : goal.returns-in-Some-clause-blocks
-returns-in-Some-clause-blocks c =
+pub returns-clause-blocks : goal.returns-clause-blocks
+returns-clause-blocks c =
     let file = c.args.resolved.program.file in
     sym (ap (λ (o : Option (List Op)). option_map (ops_of file) o) c.in-Some.is) ∙ c.in_ok-cut.ensures file
