@@ -85,18 +85,27 @@ fn put_name<R: std::rt::Files + Alloc + Clone + Drop>(
     Ok(())
 }
 
-/// The names in the folder. The standard library leaves out `.` and `..`, and refuses a name that
-/// isn't UTF-8.
+/// The names of a folder's entries.
+fn names_of<R: std::rt::Files + Alloc + Clone + Drop>(
+    alloc: Global,
+    entries: fs::ReadDir<R, R::A>,
+) -> io::Result<BTreeSet<String>> {
+    let mut names = BTreeSet::new(alloc);
+    for entry in entries {
+        put_name(alloc, &mut names, entry)?;
+    }
+    Ok(names)
+}
+
+/// The names in the folder, where it is one. The standard library leaves out `.` and `..`, and refuses a name that isn't
+/// UTF-8, as it refuses a path that is too long: so what it says of an entry stands apart.
 fn read_names<R: std::rt::Files + Alloc + Clone + Drop>(
     alloc: Global,
     rt: &R,
     path: &str,
-) -> io::Result<BTreeSet<String>> {
-    let mut names = BTreeSet::new(alloc);
-    for entry in fs::read_dir(rt, path)? {
-        put_name(alloc, &mut names, entry)?;
-    }
-    Ok(names)
+) -> io::Result<io::Result<BTreeSet<String>>> {
+    let entries = fs::read_dir(rt, path)?;
+    Ok(names_of(alloc, entries))
 }
 
 impl<R: std::rt::Files + Alloc + Clone + Drop> Files for HostFiles<R> {
@@ -132,10 +141,11 @@ impl<R: std::rt::Files + Alloc + Clone + Drop> Files for HostFiles<R> {
         ensures counts { faults_in self.new ≡ count_after result (faults_in self.old) }
     {
         match read_names(alloc, &self.rt, path) {
-            Ok(names) => match texts_of(alloc, names) {
+            Ok(Ok(names)) => match texts_of(alloc, names) {
                 Ok(names) => Ok(names),
                 Err(_) => Err(FilesStop::Memory),
             },
+            Ok(Err(error)) => Err(self.stop(&error)),
             Err(error) => {
                 if is_missing(&error) {
                     return Ok(Items::new(alloc));
