@@ -6,7 +6,7 @@
 //! the command line, without it `render -f a.yml`; `out`, `err` and `status` what is due, without them nothing and 0; `steps`
 //! holds `N FILE:LINE`, the budget that just suffices and where one step less is short; `fails` what fails, by lines as `files 2`,
 //! `out 1 after 3` and `err room 22`; any other name is a file in memory, and `N files PATH`, as `20 files d/#.yml`, so many of one
-//! text, with the numbers from 1 for each `#`, all of the last one's length.
+//! text, with the numbers from 1 for each `#`, all of the last one's length; `{next}` in the text is the next file's number.
 //!
 //! Below `-- NAME by rule --` stands a rule on each line, `text "..."`, `repeat N "..."`, `indented N "..."` or `numbered N "..."`,
 //! and `-- NAME from PATH --` takes the text of a file where it runs. In double quotes, in a rule and in `words`, may stand

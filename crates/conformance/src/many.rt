@@ -1,6 +1,7 @@
 // Many files that one name gives.
 
 use std::alloc::{AllocError, Global};
+use std::str;
 
 /// `N files PATH`, where the path has a `#`: how many files there are, and their path.
 pub fn many_in(name: &str) -> Option<(u64, &str)> {
@@ -37,4 +38,24 @@ pub fn numbered_path(
         whole.push_str(part)?;
     }
     Ok(whole)
+}
+
+/// The text of a file among so many: the next file's number, as long as the last one, for each `{next}`. One that isn't UTF-8 stays.
+pub fn numbered_text(
+    alloc: Global,
+    text: &[u8],
+    number: u64,
+    last: u64,
+) -> Result<Vec<u8>, AllocError> {
+    let Ok(text) = str::from_utf8(text) else {
+        return Vec::from_slice(alloc, text);
+    };
+    let mut whole = String::new(alloc);
+    for (at, part) in text.split("{next}").enumerate() {
+        if at > 0 {
+            push_number(alloc, &mut whole, number.saturating_add(1), last)?;
+        }
+        whole.push_str(part)?;
+    }
+    Vec::from_slice(alloc, whole.as_bytes())
 }

@@ -1,7 +1,7 @@
 // Rows of an archive.
 
 use crate::archive::Section;
-use crate::many::{many_in, numbered_path};
+use crate::many::{many_in, numbered_path, numbered_text};
 use crate::rule::ruled;
 use crate::scan::words_of;
 use crate::stop::Stop;
@@ -250,7 +250,7 @@ impl Row {
         Ok(())
     }
 
-    /// Takes so many files of one text, with their numbers from 1 in their paths.
+    /// Takes so many files of one text, with their numbers from 1 in their paths, and the next one's in their texts.
     fn take_many(
         &mut self,
         alloc: Global,
@@ -259,8 +259,10 @@ impl Row {
         text: &[u8],
     ) -> Result<(), AllocError> {
         for before in 0..count {
-            let path = numbered_path(alloc, path, before.saturating_add(1), count)?;
-            self.take_file(alloc, path.as_str(), Vec::from_slice(alloc, text)?)?;
+            let number = before.saturating_add(1);
+            let path = numbered_path(alloc, path, number, count)?;
+            let text = numbered_text(alloc, text, number, count)?;
+            self.take_file(alloc, path.as_str(), text)?;
         }
         Ok(())
     }

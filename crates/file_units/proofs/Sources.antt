@@ -1,6 +1,5 @@
 -- What is held of the source of a file.
-use Rattle.std.proofs.Common.{◌≡◌, ℕ, Bool, true, false, List, [], ◌∷◌, Option, Some, None, if◌then◌else◌, Result, Ok, Err, refl, sym, ap, subst, ◌∙◌}
-use Rattle.ytt_base.specs.declared.fault.Place.{Place}
+use Rattle.std.proofs.Common.{◌≡◌, ℕ, Bool, true, false, List, [], Some, if◌then◌else◌, Result, Ok, Err, refl, sym, ap, subst, ◌∙◌}
 use Rattle.ytt_base.specs.declared.fault.Stop.{Stop}
 use Rattle.ytt_base.specs.declared.fault.Stop.TheVariants as stop
 use Rattle.ytt_base.specs.declared.tree.Tree.{Tree}
@@ -8,24 +7,17 @@ use Rattle.ytt_base.specs.Outcomes.{Gives, Outcome, and_then, ◌>>=◌}
 use Rattle.ytt_base.specs.Trees.{Trees}
 use Rattle.ytt_base.specs.View.{trees_of}
 use Rattle.code_spec.specs.CodeReading.{CodeReader}
-use Rattle.code_spec.specs.Scopes.{Use, ops_names}
+use Rattle.code_spec.specs.Scopes.{ops_names}
 use Rattle.file_spec.specs.Names.{is_star, is_yaml_library}
 use Rattle.star_blocks.specs.Nested.{ops_of}
 use Rattle.star_blocks.specs.declared.block.Op.{Op}
-use Rattle.star_file.specs.Programs.{IsFileProgram, ReadsProgram, blocks_in}
+use Rattle.star_file.specs.Programs.{IsFileProgram, ReadsProgram}
 use Rattle.star_file.specs.declared.program.FileProgram.{FileProgram}
 use Rattle.star_functions.specs.declared.programs.FileBlock.{FileBlock}
-use Rattle.star_grammar.specs.CodeReaders.{IsCodeReader}
 use Rattle.star_resolve.specs.Variables.{each_once}
-use Rattle.template_meaning.proofs.Loads.{loads_agree}
-use Rattle.template_meaning.proofs.NothingLoaded.{items_loads_none}
-use Rattle.template_meaning.specs.Files.{ops_loads}
-use Rattle.template_meaning.specs.Meaning.{loads_in}
-use Rattle.template_spec.specs.Passes.{all_built, unless_unbuilt, unless_unknown}
 use Rattle.template_spec.specs.Template.{Items, no_items}
-use Rattle.template_spec.specs.Unbuilt.{first_unbuilt, unbuilt_items}
 use Rattle.world_spec.specs.Held.{Holds}
-use Rattle.world_spec.specs.Units.{Role, code, code_items, code_source, loaded, passed, plain, template, template_items, yaml_source}
+use Rattle.world_spec.specs.Units.{Role, code, code_items, code_source, loaded, plain, template, template_items, yaml_source}
 use Rattle.yaml_spec.specs.Noted.{Documents, has_code}
 use Rattle.yaml_spec.specs.Read.{Read, plain_trees}
 use Rattle.file_units.specs.Files.{IsWholeAs, ReadsSource, content_for, plain_for, role_for, yaml_for}
@@ -33,27 +25,6 @@ use Rattle.file_units.specs.Held.{IsWhole, code_in, role_in}
 use Rattle.file_units.specs.declared.units.Content.{Content}
 use Rattle.file_units.specs.declared.units.Content.TheVariants as content
 use Rattle.file_units.specs.declared.units.HeldFile.{HeldFile}
-
--- ---- what is built whole loads nothing
-
-built_none : (t u : Items) (ps : List Place) → unless_unbuilt t (first_unbuilt ps) ≡ Ok u → (ps ≡ []) × (t ≡ u)
-built_none t u [] e = (refl, cc)
-built_none t u (p ∷ ps) e = cc
-
-bound_whole : (t u : Items) (o : Option Use) → and_then all_built (unless_unknown t o) ≡ Ok u → all_built t ≡ Ok u
-bound_whole t u None e = e
-bound_whole t u (Some x) e = cc
-
-all_none : (t u : Items) → all_built t ≡ Ok u → unbuilt_items u ≡ []
-all_none t u e = let k = built_none t u (unbuilt_items t) e in subst (λ v. unbuilt_items v ≡ []) k.1 k.0
-
-outcome_none : (o : Outcome Items) (u : Items) → and_then passed o ≡ Ok u → unbuilt_items u ≡ []
-outcome_none (Ok t) u e = all_none t u (bound_whole t u _ e)
-outcome_none (Err f) u e = cc
-
-pub program_loads : (r : CodeReader) → IsCodeReader r → (outcome : CodeReader → Outcome Items) (n : ℕ) (p : FileProgram) → ReadsProgram n (Ok p) (λ r. and_then passed (outcome r)) → ops_loads (blocks_in p) ≡ []
-program_loads r reads outcome n p h =
-    ap loads_in h.2.program.blocks_are ∙ loads_agree h.0 ∙ items_loads_none h.0 (outcome_none (outcome r) h.0 (h.1 r reads))
 
 -- ---- programs
 
@@ -71,9 +42,9 @@ module _ (n : ℕ) (outcome : CodeReader → Outcome Items) where
     holds_so true names t is = is.program
     holds_so false names t is = is.program
 
-    whole_so : (b : Bool) (t : Items) → IsFileProgram n t p → ops_loads (blocks_in p) ≡ [] → IsWhole p.block (content_for b p.globals)
-    whole_so true t is loads = (is.globals, loads)
-    whole_so false t is loads = (is.globals, loads)
+    whole_so : (b : Bool) (t : Items) → IsFileProgram n t p → IsWhole p.block (content_for b p.globals)
+    whole_so true t is = is.globals
+    whole_so false t is = is.globals
 
     pub program_held : ReadsProgram n (Ok p) outcome → ReadsSource n (role_for b) (Ok h) (λ r. code_source (outcome r))
     program_held g =
@@ -85,11 +56,11 @@ module _ (n : ℕ) (outcome : CodeReader → Outcome Items) where
           subst Q (sym block) (subst R (sym gives) (holds_so b p.globals g.0 g.2)),
         )
 
-    pub program_whole : ReadsProgram n (Ok p) outcome → ops_loads (blocks_in p) ≡ [] → IsWholeAs n h
-    program_whole g loads =
+    pub program_whole : ReadsProgram n (Ok p) outcome → IsWholeAs n h
+    program_whole g =
         let Q : FileBlock → Type 0 = λ x. (x.file ≡ n) × IsWhole x h.content in
         let R : Content → Type 0 = λ x. IsWhole p.block x in
-        subst Q (sym block) (g.2.program.file_is, subst R (sym gives) (whole_so b g.0 g.2 loads))
+        subst Q (sym block) (g.2.program.file_is, subst R (sym gives) (whole_so b g.0 g.2))
 
 -- ---- YAML
 
@@ -122,7 +93,7 @@ module _ (n : ℕ) (b : Bool) (ds : Documents) where
     )
 
     pub library_whole : (names : List (List ℕ)) → names ≡ [] → IsWholeAs n (held_as n os (content.Library names))
-    library_whole names none = (refl, (none ∙ sym (ap (λ os. each_once (ops_names (ops_of n os))) empty), ap (λ os. ops_loads (ops_of n os)) empty))
+    library_whole names none = (refl, none ∙ sym (ap (λ os. each_once (ops_names (ops_of n os))) empty))
 
     pub documents_read : (ts : List Tree) → b ≡ false → plain_trees ds ≡ Ok (trees_of ts) → ReadsSource n (role_for b) (Ok (held_as n os (content.Documents ts))) (λ r. plain_for b ds)
     documents_read ts e g = (

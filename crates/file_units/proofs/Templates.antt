@@ -1,5 +1,5 @@
 -- Templates as programs.
-use Rattle.std.proofs.Common.{◌≡◌, ℕ, Bool, [], Some, Ok, Err, sym, ap, ◌∙◌}
+use Rattle.std.proofs.Common.{◌≡◌, ℕ, Bool, Some, Ok, Err, sym, ap, ◌∙◌}
 use Rattle.ytt_base.specs.declared.fault.Stop.{Stop}
 use Rattle.ytt_base.specs.declared.fault.Stop.TheVariants as stop
 use Rattle.ytt_base.specs.Outcomes.{Gives, Outcome, and_then}
@@ -13,8 +13,6 @@ use Rattle.star_grammar.specs.CodeReaders.{GivesCode, MeansCode}
 use Rattle.star_resolve.specs.Variables.{each_once}
 use Rattle.star_resolve.specs.declared.binding.Resolved.{Resolved}
 use Rattle.star_tree.specs.Whole.{program_of}
-use Rattle.template_meaning.specs.Files.{ops_loads}
-use Rattle.template_meaning.specs.Meaning.{loads_in}
 use Rattle.template_spec.proofs.NestedWords.{placed_words}
 use Rattle.template_spec.proofs.NumbersKeep.{numbered_stands}
 use Rattle.template_spec.specs.Compiled.{compiled}
@@ -53,6 +51,3 @@ module _ (n : ℕ) (ignore : Bool) (ds : Documents) where
             globals = globals ∙ names ∙ ap (λ o. each_once (names_of_file o)) (sym closed);
           },
         )
-
-pub loads_none : (q : Resolved) (p : FileProgram) → loads_in (blocks (program_of q.program)) ≡ [] → p.block.file ≡ q.program.file → Some (ops_of q.program.file p.block.block) ≡ blocks (program_of q.program) → ops_loads (blocks_in p) ≡ []
-loads_none q p none file nested = ap loads_in (ap (λ k. Some (ops_of k p.block.block)) file ∙ nested) ∙ none

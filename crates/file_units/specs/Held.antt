@@ -6,7 +6,6 @@ use Rattle.code_spec.specs.Scopes.{ops_names}
 use Rattle.star_blocks.specs.Nested.{ops_of}
 use Rattle.star_functions.specs.declared.programs.FileBlock.{FileBlock}
 use Rattle.star_resolve.specs.Variables.{each_once}
-use Rattle.template_meaning.specs.Files.{ops_loads}
 use Rattle.world_spec.specs.Held.{HeldCode, Holds, documents, program}
 use Rattle.world_spec.specs.Units.{FileUnit, Role, loaded, template}
 use Rattle.file_units.specs.declared.units.Content.{Content}
@@ -36,10 +35,10 @@ AreHeld n [] [] [] = Unit {0}
 AreHeld n (u ∷ us) (b ∷ bs) (c ∷ cs) = IsHeld n u b c × AreHeld (suc n) us bs cs
 AreHeld n _ _ _ = ⊥
 
--- the scope of a file's block has its names, and no statement of it loads a file; a file without code has no block
+-- the scope of a file's block has its names; a file without code has no block
 abbrev pub IsWhole : FileBlock → Content → Type 0
-IsWhole b (content.Template names) = (names ≡ each_once (ops_names (block_of b))) × (ops_loads (block_of b) ≡ [])
-IsWhole b (content.Library names) = (names ≡ each_once (ops_names (block_of b))) × (ops_loads (block_of b) ≡ [])
+IsWhole b (content.Template names) = names ≡ each_once (ops_names (block_of b))
+IsWhole b (content.Library names) = names ≡ each_once (ops_names (block_of b))
 IsWhole b (content.Documents trees) = block_of b ≡ no_ops
 
 -- each file has its number, and is whole

@@ -10,7 +10,6 @@ ghost use Rattle.yaml_spec.specs.Read.{Read};
 use crate::names::{is_star, is_yaml_library};
 use crate::template::read_template;
 use crate::units::{Content, HeldFile};
-use notes_read::a_code_reader_exists;
 use sqlite_items::Items;
 use star_file::{FileProgram, read_star_file};
 use star_functions::FileBlock;
@@ -40,7 +39,6 @@ fn read_code(alloc: Global, bytes: &[u8], file: u32) -> Result<HeldFile, Stop>
     ensures read { ReadsSource file (role_for true) result (λ r. code_source (code_items r file bytes.now)) }
     ensures whole { IfOk result (IsWholeAs file) }
 {
-    a_code_reader_exists();
     let program = read_star_file(alloc, bytes, file)?;
     Ok(of_program(program, true))
 }

@@ -1,18 +1,17 @@
 -- Documents of one file after another, gathered in one list.
-use Rattle.std.proofs.Common.{◌≡◌, ◌∙◌, ℕ, List, [], ◌∷◌, ◌++◌, Ok, Err, refl, ap}
+use Rattle.std.proofs.Common.{◌≡◌, ◌∙◌, ℕ, suc, List, [], ◌∷◌, ◌++◌, Ok, Err, refl, ap}
 use Rattle.ytt_base.specs.Outcomes.{Gives}
 use Rattle.ytt_base.specs.Trees.{Trees, no_trees, tree}
 use Rattle.ytt_base.specs.View.{tree_of, trees_of}
 use Rattle.ytt_base.specs.declared.fault.Stop.{Stop}
 use Rattle.ytt_base.specs.declared.fault.Stop.TheVariants as stop
 use Rattle.ytt_base.specs.declared.tree.Tree.{Tree}
-use Rattle.code_spec.specs.Blocks.{Ops}
-use Rattle.file_units.specs.declared.units.Content.{Content}
-use Rattle.star_functions.specs.declared.programs.FileBlock.{FileBlock}
-use Rattle.star_spec.specs.Calls.{Table}
+use Rattle.file_load.specs.declared.given.Given.{Given}
+use Rattle.star_eval.specs.declared.session.Session.{Session}
 use Rattle.value_spec.specs.Outcomes.{Ending, State, asks, bad, done, give, then_do, ◌>>=◌}
-use Rattle.world_spec.specs.Parts.{World, outcome_of, trees_before}
-use Rattle.render_core.specs.Runs.{EndsIn, all_documents, content_documents}
+use Rattle.world_spec.specs.Parts.{Files, World, outcome_of, trees_before}
+use Rattle.render_core.specs.Runs.{EndsIn, all_documents, output_documents}
+use Rattle.render_core.specs.declared.parts.Output.{Output}
 
 -- how it ends where these documents stand in front
 abbrev pub put_before : Trees → Ending World Trees → Ending World Trees
@@ -36,17 +35,18 @@ pub nothing_behind : (ts : Trees) → trees_before ts no_trees ≡ ts
 nothing_behind no_trees = refl
 nothing_behind (tree t ts) = ap (λ (vs : Trees). tree t vs) (nothing_behind ts)
 
-module _ (table : Table Ops) (depth : ℕ) (b : FileBlock) (bs : List FileBlock) (c : Content) (cs : List Content) (old new : State World) (ts : List Tree) where
+module _ (files : Files) (n : ℕ) (o : Output) (os : List Output) (old new : State World) (ts : List Tree) where
   -- what is left of the run, behind the documents that there are
   abbrev rest_from : Ending World Trees → Ending World Trees
-  rest_from e = put_before (trees_of ts) (then_do e (λ us. all_documents table depth bs cs >>= λ more. give (trees_before us more)))
+  rest_from e = put_before (trees_of ts) (then_do e (λ us. all_documents files (suc n) os >>= λ more. give (trees_before us more)))
 
   -- one file more
-  pub turn : (us : List Tree) → content_documents table depth b c old ≡ done (trees_of us) new →
-      outcome_of (put_before (trees_of ts) (all_documents table depth (b ∷ bs) (c ∷ cs) old)) ≡ outcome_of (put_before (trees_of (ts ++ us)) (all_documents table depth bs cs new))
-  turn us h = ap (λ (e : Ending World Trees). outcome_of (rest_from e)) h ∙ put_both ts us (all_documents table depth bs cs new)
+  pub turn : (us : List Tree) → output_documents files n o old ≡ done (trees_of us) new →
+      outcome_of (put_before (trees_of ts) (all_documents files n (o ∷ os) old)) ≡ outcome_of (put_before (trees_of (ts ++ us)) (all_documents files (suc n) os new))
+  turn us h = ap (λ (e : Ending World Trees). outcome_of (rest_from e)) h ∙ put_both ts us (all_documents files (suc n) os new)
 
   -- one that stops
-  pub stopped : (s : Stop) → EndsIn (Err s) new (content_documents table depth b c old) → Gives trees_of (Err s) (outcome_of (put_before (trees_of ts) (all_documents table depth (b ∷ bs) (c ∷ cs) old)))
-  stopped (stop.Fault f) h = ap (λ (e : Ending World Trees). outcome_of (rest_from e)) h
-  stopped stop.Memory h = tt
+  pub stopped : (s : Stop) (session : Session) (gs : List Given) → EndsIn session gs (Err s) (output_documents files n o old) →
+      Gives trees_of (Err s) (outcome_of (put_before (trees_of ts) (all_documents files n (o ∷ os) old)))
+  stopped (stop.Fault f) session gs h = ap (λ (e : Ending World Trees). outcome_of (rest_from e)) h.1
+  stopped stop.Memory session gs h = tt

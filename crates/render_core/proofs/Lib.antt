@@ -1,4 +1,5 @@
 pub mod Blocks
 pub mod Gathered
 pub mod Held
+pub mod Parting
 pub mod Read

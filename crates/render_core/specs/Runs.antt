@@ -1,58 +1,57 @@
--- What files do that are held, by their blocks.
-use Rattle.std.specs.Prelude.{◌≡◌, ℕ, List, [], ◌∷◌, Some, Result, Ok, Err}
+-- What files do that are held: the documents of each, by what its block comes to.
+use Rattle.std.specs.Prelude.{◌≡◌, ℕ, suc, List, [], ◌∷◌, length, Result, Ok, Err}
 use Rattle.ytt_base.specs.Trees.{Trees, no_trees}
 use Rattle.ytt_base.specs.View.{trees_of}
 use Rattle.ytt_base.specs.declared.fault.Stop.{Stop}
 use Rattle.ytt_base.specs.declared.fault.Stop.TheVariants as stop
 use Rattle.ytt_base.specs.declared.tree.Tree.{Tree}
-use Rattle.code_spec.specs.Blocks.{Ops}
-use Rattle.file_units.specs.Held.{block_of}
-use Rattle.file_units.specs.declared.units.Content.{Content}
-use Rattle.file_units.specs.declared.units.Content.TheVariants as content
-use Rattle.star_eval.specs.Meets.{state_of}
+use Rattle.file_load.specs.Gave.{OwnsGiven}
+use Rattle.file_load.specs.Running.{file_at}
+use Rattle.file_load.specs.Seen.{setting_of, world_of}
+use Rattle.file_load.specs.declared.given.Given.{Given}
+use Rattle.file_load.specs.declared.programs.Program.{Program}
+use Rattle.star_eval.specs.Meets.{arena_of}
 use Rattle.star_eval.specs.declared.session.Session.{Session}
-use Rattle.star_functions.specs.declared.programs.FileBlock.{FileBlock}
-use Rattle.star_spec.specs.Calls.{Table, asking}
-use Rattle.star_spec.specs.Eval.{starlark}
+use Rattle.star_functions.specs.Table.{table_of}
+use Rattle.star_functions.specs.declared.functions.Functions.{Functions}
 use Rattle.template_meaning.specs.Files.{FileResult}
-use Rattle.template_meaning.specs.Meaning.{RunLoaded, documents}
+use Rattle.template_meaning.specs.Meaning.{documents}
 use Rattle.value_spec.specs.Outcomes.{State, Ending, done, bad, Computation, give, ◌>>=◌}
-use Rattle.world_spec.specs.Parts.{World, natives_answer, trees_before}
-use Rattle.world_spec.specs.Worlds.{inside, nothing_kept, with_kept}
+use Rattle.world_spec.specs.Parts.{Files, World, trees_before}
+use Rattle.render_core.specs.declared.parts.Output.{Output}
+use Rattle.render_core.specs.declared.parts.Output.TheVariants as output
 
--- the state that a session is, where no file is loaded
-abbrev pub world_of : Session → State World
-world_of s = with_kept (nothing_kept tt) (state_of s)
+-- ---- documents
 
--- what was returned is how a computation ends, in this state; want of memory says nothing
-abbrev pub EndsIn : Result (List Tree) Stop → State World → Ending World Trees → Type 0
-EndsIn (Ok trees) s ending = ending ≡ done (trees_of trees) s
-EndsIn (Err (stop.Fault f)) s ending = ending ≡ bad f s
-EndsIn (Err stop.Memory) s ending = Unit {0}
+abbrev pub built_documents : FileResult → Computation World Trees
+built_documents r = give (documents r.documents)
 
--- a call gives what a computation does, from the session before it, and leaves the session that the computation does
-abbrev pub EndsFrom : Computation World Trees → Result (List Tree) Stop → (after before : Session) → Type 0
-EndsFrom m result after before = EndsIn result (world_of after) (m (world_of before))
+-- those of the file of a number, where this is what files are run to
+abbrev pub output_documents : Files → (file : ℕ) → Output → Computation World Trees
+output_documents files n output.Built = files n >>= built_documents
+output_documents files n output.Nothing = give no_trees
+output_documents files n (output.Documents trees) = give (trees_of trees)
 
-abbrev pub given_documents : FileResult → Computation World Trees
-given_documents r = give (documents r.documents)
+-- of files in the order of their numbers, from this one on
+abbrev pub all_documents : Files → (first : ℕ) → List Output → Computation World Trees
+all_documents files n [] = give no_trees
+all_documents files n (o ∷ os) = do
+  ts ← output_documents files n o
+  more ← all_documents files (suc n) os
+  give (trees_before ts more)
 
--- with the functions of this table, where so many calls may stand in one another
-module _ (table : Table Ops) (depth : ℕ) where
-  -- what the block of a file builds, which loads nothing
-  abbrev pub block_documents : FileBlock → Computation World Trees
-  block_documents b = inside natives_answer (RunLoaded starlark asking table depth [] (Some (block_of b))) >>= given_documents
+-- what the files of these programs are run to, with the functions of all of them
+unfoldable pub files_in : Functions → List Program → (depth : ℕ) → Files
+files_in fs ps d f = file_at (setting_of (table_of fs) ps d) (suc (length ps)) f
 
-  abbrev pub content_documents : FileBlock → Content → Computation World Trees
-  content_documents b (content.Template names) = block_documents b
-  content_documents b (content.Library names) = give no_trees
-  content_documents b (content.Documents trees) = give (trees_of trees)
+-- ---- ends
 
-  -- of all of them, in their order
-  abbrev pub all_documents : List FileBlock → List Content → Computation World Trees
-  all_documents [] cs = give no_trees
-  all_documents (b ∷ bs) [] = give no_trees
-  all_documents (b ∷ bs) (c ∷ cs) = do
-    ts ← content_documents b c
-    more ← all_documents bs cs
-    give (trees_before ts more)
+-- It ends so, in this session and where files have given this; a fault leaves some state, and want of memory says nothing.
+abbrev pub EndsIn : Session → List Given → Result (List Tree) Stop → Ending World Trees → Type 0
+EndsIn session gs (Ok trees) e = (e ≡ done (trees_of trees) (world_of session gs [])) × OwnsGiven (arena_of session) gs
+EndsIn session gs (Err (stop.Fault f)) e = (s : State World) × (e ≡ bad f s)
+EndsIn session gs (Err stop.Memory) e = Unit {0}
+
+-- what the file of a number gives is what was returned, where files gave `hs` before and `gs` after it
+abbrev pub EndsFrom : Functions → List Program → (file : ℕ) → Output → Result (List Tree) Stop → (gs hs : List Given) → (after before : Session) → Type 0
+EndsFrom fs ps n o result gs hs after before = EndsIn after gs result (output_documents (files_in fs ps before.work.depth) n o (world_of before hs []))

@@ -1,10 +1,10 @@
 // What a request means.
-ghost use Rattle.std.specs.Prelude.{◌≡◌, List, IfOk, IfSome};
+ghost use Rattle.std.specs.Prelude.{◌≡◌, List, length, IfOk, IfSome};
 ghost use Rattle.ytt_base.specs.Trees.{AreTrees, Writable};
 ghost use Rattle.ytt_base.specs.View.{trees_of};
 ghost use Rattle.file_units.specs.Held.{AreHeld, MayRun};
 ghost use Rattle.file_units.specs.Reads.{HasCause};
-ghost use Rattle.world_spec.specs.Units.{FileUnit};
+ghost use Rattle.world_spec.specs.Units.{FileUnit, names_of};
 ghost use Rattle.ytt_spec.specs.Meaning.{Means};
 ghost use Rattle.ytt_words.specs.Asks.{budget_of, command_of};
 ghost use Rattle.render_core.specs.Renders.{Renders, RendersUnits};
@@ -20,15 +20,16 @@ use ytt_words::{Budget, Request};
 
 /// The documents of units, or the first fault with their names.
 fn render_units(alloc: Global, units: Units, budget: Budget) -> Result<Trees, RenderStop>
-    requires { MayRun 1 units.files units.contents }
-    ensures { (us : List FileUnit) → AreHeld 1 us units.files units.contents → RendersUnits (budget_of budget) us units.names result }
+    requires files { MayRun 1 units.files units.contents }
+    requires names { length units.names ≡ length units.files }
+    ensures { (us : List FileUnit) → AreHeld 1 us units.files units.contents → units.names ≡ names_of us → RendersUnits (budget_of budget) us units.names result }
 {
     let Units {
         names,
         files,
         contents,
     } = units;
-    match run_units(alloc, files.as_slice(), contents, budget) {
+    match run_units(alloc, names.as_slice(), files.as_slice(), contents, budget) {
         Ok(trees) => Ok(trees),
         Err(Stop::Fault(fault)) => Err(RenderStop::Refused { fault, names }),
         Err(Stop::Memory) => Err(RenderStop::Memory),

@@ -36,7 +36,8 @@ use Rattle.star_eval.specs.declared.session.Session.{Session}
 use Rattle.star_eval.specs.Calling.{after_replied, calls_from}
 use Rattle.star_eval.specs.Frames.{Goes, GoesToValue, Waits, after_answer, around_value, inside, means}
 use Rattle.star_eval.specs.Hosted.{Comes, hosted_at}
-use Rattle.star_eval.specs.Hosts.{HostGives, OwnsGot, OwnsHosted, OwnsReply, answer_of, host_held, host_name, is_hosted, native_at, question_of, reply_of}
+use Rattle.star_steps.specs.Replies.{OwnsGot, OwnsReply, reply_of}
+use Rattle.star_eval.specs.Hosts.{HostGives, OwnsHosted, answer_of, host_held, host_name, is_hosted, native_at, question_of}
 use Rattle.star_eval.specs.Meets.{Here, arena_of, state_of}
 use Rattle.star_eval.specs.View.{OwnsFrame, OwnsPending, Sound, arena_in, frames_of, native_frame, nodes_in, setting_of, waiting_in}
 use Rattle.star_eval.proofs.Asks.{answered_at, value_out}

@@ -6,17 +6,17 @@ use Rattle.ytt_base.specs.declared.fault.Stop.{Stop}
 use Rattle.ytt_base.specs.declared.fault.Stop.TheVariants as stop
 use Rattle.code_spec.specs.Code.{Name}
 use Rattle.star_spec.specs.Hosts.{Answers, with_host}
-use Rattle.star_values.specs.Owns.{Grows, Owns, OwnsAll, OwnsArguments}
-use Rattle.star_values.specs.View.{View, arguments_in, native_in, value_of, values_of}
+use Rattle.star_steps.specs.Replies.{OwnsGot, OwnsReply, got_of, reply_of}
+use Rattle.star_values.specs.Owns.{Grows, Owns, OwnsArguments}
+use Rattle.star_values.specs.View.{View, arguments_in, native_in, value_of}
 use Rattle.star_values.specs.declared.value.CallArgs.{CallArgs}
 use Rattle.star_values.specs.declared.value.Ref.{Ref}
 use Rattle.star_values.specs.declared.value.Reply as held
-use Rattle.star_values.specs.declared.value.Reply.TheVariants as reply
 use Rattle.star_values.specs.declared.value.Value.{Value}
 use Rattle.star_values.specs.declared.value.Value.TheVariants as value
-use Rattle.value_spec.specs.Outcomes.{Question, Reply, answer, call_then, called, resumed}
+use Rattle.value_spec.specs.Outcomes.{Question, called, resumed}
 use Rattle.value_spec.specs.Values as plain
-use Rattle.value_spec.specs.Values.{Values, arguments, host_native, no_fields, no_values, none_value, values_from}
+use Rattle.value_spec.specs.Values.{Values, host_native, no_values, none_value}
 use Rattle.star_eval.specs.Meets.{UnlessMemory, arena_of, state_of}
 use Rattle.star_eval.specs.declared.frame.Asking.{Asking}
 use Rattle.star_eval.specs.declared.frame.Control.{Control}
@@ -52,17 +52,9 @@ OwnsHosted a r = Owns a (value.Native r) × (is_hosted (native_at a r) ≡ true)
 abbrev pub call_of : View → Ref → CallArgs → Place → Question
 call_of a r args p = called p (host_name (native_at a r)) (host_held (native_at a r)) (arguments_in a.held args)
 
--- what a call gave that a native asked for
-abbrev pub got_of : View → Result Value Fault → Result plain.Value Fault
-got_of a (Ok v) = Ok (value_of a v)
-got_of a (Err e) = Err e
-
 -- the call that a native asked for with this tag has come to this
 abbrev pub resume_of : View → Ref → (tag : ℕ) → Result Value Fault → Place → Question
 resume_of a r tag got p = resumed p (host_name (native_at a r)) (host_held (native_at a r)) tag (got_of a got)
-
-abbrev pub OwnsGot : View → Result Value Fault → Type 0
-OwnsGot a got = IfOk got (Owns a)
 
 -- what is to be done where such a call has come to this
 abbrev pub answer_of : Result Value Fault → Control
@@ -78,14 +70,6 @@ OwnsQuestion a (question.Called args) = OwnsArguments a args
 OwnsQuestion a (question.Resumed tag got) = OwnsGot a got
 
 -- ---- answers
-
-abbrev pub reply_of : View → held.Reply → Reply
-reply_of a (reply.Value v) = answer (value_of a v)
-reply_of a (reply.CallThen f args tag) = call_then (value_of a f) (arguments (values_from (values_of a args)) no_fields) tag
-
-abbrev pub OwnsReply : View → held.Reply → Type 0
-OwnsReply a (reply.Value v) = Owns a v
-OwnsReply a (reply.CallThen f args tag) = Owns a f × OwnsAll a args
 
 -- the answer to a question and the state that is left; want of memory says nothing
 abbrev pub Replies : {H : Type 0} → Answers H → Question → Result held.Reply Stop → (after before : Session) → (now then : H) → Type 0

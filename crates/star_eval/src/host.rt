@@ -1,7 +1,8 @@
 // Who answers natives that aren't the language's own.
 ghost use Rattle.star_spec.specs.Hosts.{Answers};
 ghost use Rattle.star_values.specs.Owns.{OwnsArguments};
-ghost use Rattle.star_eval.specs.Hosts.{HostGives, OwnsGot, OwnsHosted, call_of, resume_of};
+ghost use Rattle.star_steps.specs.Replies.{OwnsGot};
+ghost use Rattle.star_eval.specs.Hosts.{HostGives, OwnsHosted, call_of, resume_of};
 ghost use Rattle.star_eval.specs.Meets.{arena_of};
 
 use crate::session::Session;

@@ -1,60 +1,13 @@
--- The places where a program loads files are those where the items of its blocks do.
-use Rattle.std.proofs.Common.{◌≡◌, ℕ, ◌+◌, ◌<◌, ◌≤◌, nat_lt, List, [], ◌∷◌, ◌++◌, Bool, true, false, Option, Some, None, if◌then◌else◌, refl, sym, ap, ◌∙◌, subst, append_assoc, length, drop, get_or}
-use Rattle.std.proofs.lemmas.List.{drop_more, drop_all}
+-- The places where a program loads modules that come later are those where the items of its blocks do.
+use Rattle.std.proofs.Common.{◌≡◌, List, [], ◌∷◌, ◌++◌, Some, refl, sym, ap, ◌∙◌, subst, append_assoc}
 use Rattle.ytt_base.specs.declared.fault.Place.{Place}
 use Rattle.code_spec.specs.Blocks.{Op, Ops, op_part, op_statement, op_if, op_for, op_def, an_op, Arms, no_arm, else_arm, arm, Parsed, broken, at_top, inside, put, open_if, next_arm, last_arm, open_block, parse, whole, blocks}
-use Rattle.code_spec.specs.Code.{Expr, load}
+use Rattle.code_spec.specs.Code.{Expr}
 use Rattle.code_spec.specs.Program.{Instruction, part, statement, begin_if, begin_elif, begin_else, begin_for, begin_def, close}
-use Rattle.star_tree.specs.declared.code.Stmt.{Stmt}
-use Rattle.star_tree.specs.Whole.{instruction_of, instructions_of}
-use Rattle.template_spec.specs.Unbuilt.{first_place, unbuilt_branches, unbuilt_function, unbuilt_items, unbuilt_statement}
+use Rattle.passes_spec.specs.Unbuilt.{unbuilt_branches, unbuilt_function, unbuilt_items, unbuilt_statement}
 use Rattle.world_spec.proofs.CodeBlocks.{no_nodes}
 use Rattle.world_spec.specs.StarFiles.{arms_branches, ops_items}
-use Rattle.star_file.specs.Loads.{first_from, load_places, load_places_of}
-
--- ---- one after another
-
-chosen : (b : Bool) (p q : Place) (ps : List Place) → (if b then first_place p ps else first_place q ps) ≡ first_place (if b then p else q) ps
-chosen true p q ps = refl
-chosen false p q ps = refl
-
-none_more : (o : Option Place) (ps : List Place) → first_from o ps ≡ first_from (first_from o []) ps
-none_more None ps = refl
-none_more (Some p) ps = refl
-
-one_more : (o : Option Place) (p : Place) (ps : List Place) → first_from o (p ∷ ps) ≡ first_from (first_from o (p ∷ [])) ps
-one_more None p ps = refl
-one_more (Some q) p ps = ap Some (chosen (nat_lt p.line q.line) p q ps)
-
--- one more statement
-first_more : (o : Option Place) (i : Instruction) (ps : List Place) → first_from o (load_places_of i ++ ps) ≡ first_from (first_from o (load_places_of i)) ps
-first_more o (statement (load p path xs)) ps = one_more o p ps
-first_more o (statement s) ps = none_more o ps
-first_more o i ps = none_more o ps
-
--- at the end
-first_done : (o : Option Place) → first_from o [] ≡ o
-first_done None = refl
-first_done (Some p) = refl
-
-module _ (file : ℕ) (ss : List Stmt) (all : Option Place) where
-  abbrev left : List Stmt → List Place
-  left rest = load_places (instructions_of file rest)
-
-  -- one more turn of a loop
-  pub first_turn : (now next : Option Place) (j : ℕ) (s : Stmt) → j < length ss → s ≡ get_or ss j s → next ≡ first_from now (load_places_of (instruction_of file s)) →
-      first_from now (left (drop j ss)) ≡ all → first_from next (left (drop (j + 1) ss)) ≡ all
-  first_turn now next j s lt here e k =
-      ap (λ o. first_from o (left (drop (j + 1) ss))) e
-      ∙ sym (first_more now (instruction_of file s) (left (drop (j + 1) ss)))
-      ∙ ap (λ rest. first_from now (left rest)) (ap (λ x. x ∷ drop (j + 1) ss) here ∙ sym (drop_more ss j s lt))
-      ∙ k
-
-  -- at its end
-  pub first_end : (now : Option Place) (j : ℕ) → length ss ≤ j → first_from now (left (drop j ss)) ≡ all → now ≡ all
-  first_end now j le k = sym (first_done now) ∙ ap (λ rest. first_from now (left rest)) (sym (drop_all j ss le)) ∙ k
-
--- ---- in blocks
+use Rattle.star_file.specs.Loads.{load_places}
 
 abbrev places : Ops → List Place
 places os = unbuilt_items (ops_items os)

@@ -13,9 +13,9 @@ use Rattle.code_spec.specs.Scopes.{Use, names_of_file, program_names, program_us
 use Rattle.star_resolve.specs.Variables.{IfFault, IfRefused, fault_of_use, program_fault}
 use Rattle.star_resolve.specs.declared.binding.Resolved.{Resolved}
 use Rattle.template_spec.specs.Names.{items_names}
-use Rattle.template_spec.specs.Passes.{all_built, bound, unless_unbuilt, unless_unknown}
+use Rattle.passes_spec.specs.Passes.{all_built, bound, unless_unbuilt, unless_unknown}
 use Rattle.template_spec.specs.Template.{Items}
-use Rattle.template_spec.specs.Unbuilt.{first_unbuilt}
+use Rattle.passes_spec.specs.Unbuilt.{first_unbuilt}
 use Rattle.template_spec.specs.Uses.{items_uses}
 use Rattle.template_spec.proofs.NamesAgree.{same_names}
 use Rattle.template_spec.proofs.Nested.{blocks_of, to_ops}

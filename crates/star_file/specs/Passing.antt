@@ -4,7 +4,7 @@ use Rattle.ytt_base.specs.declared.fault.Stop.{Stop}
 use Rattle.ytt_base.specs.Outcomes.{Gives, Outcome}
 use Rattle.code_spec.specs.Blocks.{Ops, blocks}
 use Rattle.code_spec.specs.Program.{Instruction}
-use Rattle.template_spec.specs.Passes.{bound}
+use Rattle.passes_spec.specs.Passes.{bound}
 use Rattle.template_spec.specs.Template.{Items}
 use Rattle.world_spec.specs.StarFiles.{AreCode, ops_items}
 use Rattle.world_spec.specs.Units.{passed}

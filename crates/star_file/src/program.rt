@@ -37,8 +37,8 @@ fn read_program(alloc: Global, bytes: &[u8], file: u32) -> Result<Program, Stop>
     Ok(numbered(alloc, &program)?)
 }
 
-/// A program with its names, cut into its blocks.
-fn nested(alloc: Global, resolved: Resolved) -> Result<FileProgram, Memory>
+/// A program with its names, cut into its blocks, which are closed. Want of memory is `Memory`.
+pub fn nested(alloc: Global, resolved: Resolved) -> Result<FileProgram, Memory>
     requires { IsSome (blocks (program_of resolved.program)) }
     ensures file { IfOk result (λ p. p.block.file ≡ resolved.program.file) }
     ensures blocks { IfOk result (λ p. Some (ops_of resolved.program.file p.block.block) ≡ blocks (program_of resolved.program)) }
@@ -63,8 +63,8 @@ fn nested(alloc: Global, resolved: Resolved) -> Result<FileProgram, Memory>
 /// The program of the bytes of a file of code, or its first fault.
 ///
 /// `file` is the number of the file, which places name. The faults of the bytes and of the lines come first, then that of the code, then
-/// the first name that neither the file nor the language binds, and then the first `load`, which isn't built yet. Want of memory is
-/// `Stop::Memory`.
+/// the first name that neither the file nor the language binds, and then the first `load` of a module that comes later, which isn't
+/// built yet. Want of memory is `Stop::Memory`.
 pub fn read_star_file(alloc: Global, bytes: &[u8], file: u32) -> Result<FileProgram, Stop>
     requires { length bytes.now < 2 ^ 32 }
     ensures { ReadsProgram file result (λ r. and_then passed (star_items r file bytes.now)) }

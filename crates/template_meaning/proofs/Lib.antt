@@ -4,7 +4,6 @@ pub mod Follows
 pub mod Functions
 pub mod Leaving
 pub mod Loads
-pub mod NothingLoaded
 pub mod NumbersHeld
 pub mod NumbersLoad
 pub mod Runs

@@ -7,7 +7,7 @@ use Rattle.ytt_base.specs.Outcomes.{place_at}
 use Rattle.code_spec.specs.Code.{Expr}
 use Rattle.star_tree.specs.Whole.{expr_of}
 use Rattle.template_spec.specs.Template.{Branches, Items, elif_branch, no_branch}
-use Rattle.template_spec.specs.Unbuilt.{unbuilt_branches, unbuilt_items}
+use Rattle.passes_spec.specs.Unbuilt.{unbuilt_branches, unbuilt_items}
 use Rattle.template_tree.specs.declared.tree.TElif.{TElif}
 use Rattle.template_tree.specs.declared.tree.TElse.{TElse}
 use Rattle.template_tree.specs.View.{Onward, branches_of, elif_of, else_of, in_turn, items_of, or_nothing}

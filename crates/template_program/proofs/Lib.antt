@@ -1,8 +1,6 @@
 pub mod Branches
 pub mod Emitting
-pub mod Finding
 pub mod Items
-pub mod Loading
 pub mod NamesKeep
 pub mod Resolving
 pub mod Sizes

@@ -12,7 +12,7 @@ use Rattle.template_spec.specs.Compiled.{compiled}
 use Rattle.template_spec.specs.Names.{items_names}
 use Rattle.code_spec.specs.Names.{language_names}
 use Rattle.template_spec.specs.Numbered.{numbered}
-use Rattle.template_spec.specs.Passes.{bound, unless_unknown}
+use Rattle.passes_spec.specs.Passes.{bound, unless_unknown}
 use Rattle.template_spec.specs.Template.{Items}
 use Rattle.template_spec.specs.Uses.{items_uses}
 use Rattle.template_spec.proofs.NamesAgree.{same_names}

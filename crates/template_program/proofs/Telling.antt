@@ -1,13 +1,13 @@
 -- What is told of a template: its names first, and then what of it isn't built.
-use Rattle.std.proofs.Common.{◌≡◌, ℕ, List, [], ◌∷◌, Option, Some, None, Ok, Err, refl, sym, ap, ◌∙◌}
+use Rattle.std.proofs.Common.{◌≡◌, ℕ, List, [], Option, Some, None, Ok, Err, sym, ap, ◌∙◌}
 use Rattle.ytt_base.specs.Outcomes.{Gives, and_then}
 use Rattle.ytt_base.specs.declared.fault.FaultKind.TheVariants as kind
 use Rattle.ytt_base.specs.declared.fault.Place.{Place}
 use Rattle.ytt_base.specs.declared.fault.Stop.{Stop}
 use Rattle.ytt_base.specs.declared.fault.Stop.TheVariants as stop
-use Rattle.template_spec.specs.Passes.{all_built, bound, unless_unbuilt}
+use Rattle.passes_spec.specs.Passes.{all_built, bound, unless_unbuilt}
 use Rattle.template_spec.specs.Template.{Items}
-use Rattle.template_spec.specs.Unbuilt.{first_unbuilt, unbuilt_items}
+use Rattle.passes_spec.specs.Unbuilt.{first_unbuilt, unbuilt_items}
 
 module _ (t : Items) (o : Option Place) (first : o ≡ first_unbuilt (unbuilt_items t)) where
   told : bound t ≡ Ok t → and_then all_built (bound t) ≡ unless_unbuilt t o
@@ -19,13 +19,6 @@ module _ (t : Items) (o : Option Place) (first : o ≡ first_unbuilt (unbuilt_it
   pub one_unbuilt : (p : Place) (detail : List ℕ) → bound t ≡ Ok t → o ≡ Some p → detail ≡ [] →
       and_then all_built (bound t) ≡ Err (record { kind = kind.NotBuilt; place = Some p; detail = detail })
   one_unbuilt p detail known some none = told known ∙ ap (unless_unbuilt t) some ∙ ap (λ d. Err (record { kind = kind.NotBuilt; place = Some p; detail = d })) (sym none)
-
-  none_first : (l : List Place) → None ≡ first_unbuilt l → l ≡ []
-  none_first [] e = refl
-  none_first (p ∷ l) e = cc
-
-  pub none_unbuilt : o ≡ None → unbuilt_items t ≡ []
-  none_unbuilt none = none_first (unbuilt_items t) (sym none ∙ first)
 
 -- a name that is refused is told first
 pub refused_first : (X : Type 0) (t : Items) (s : Stop) → Gives {X = X} (λ r. t) (Err s) (bound t) → Gives {X = X} (λ r. t) (Err s) (and_then all_built (bound t))

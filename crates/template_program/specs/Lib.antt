@@ -1,2 +1,1 @@
 pub mod Emits
-pub mod Places

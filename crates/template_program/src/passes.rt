@@ -1,18 +1,17 @@
 // The passes over a template: its program with the variables of its names and the numbers of its functions, and
 // then what of it isn't built.
-ghost use Rattle.std.specs.Prelude.{◌≡◌, [], IfOk};
+ghost use Rattle.std.specs.Prelude.{◌≡◌, IfOk};
 ghost use Rattle.star_resolve.specs.Variables.{each_once};
 ghost use Rattle.star_spec.specs.Calls.{Host};
 ghost use Rattle.star_spec.specs.Eval.{starlark};
-ghost use Rattle.code_spec.specs.Blocks.{blocks};
 ghost use Rattle.code_spec.specs.Scopes.{program_names};
 ghost use Rattle.star_tree.specs.Whole.{program_of};
 ghost use Rattle.template_tree.specs.View.{template_of};
 ghost use Rattle.template_spec.specs.Compiled.{compiled};
 ghost use Rattle.template_spec.specs.ControlWords.{WordsStand, free};
 ghost use Rattle.template_spec.specs.Numbered.{numbered};
-ghost use Rattle.template_meaning.specs.Meaning.{Agrees, loads_in};
-ghost use Rattle.template_spec.specs.Passes.{all_built, bound};
+ghost use Rattle.template_meaning.specs.Meaning.{Agrees};
+ghost use Rattle.passes_spec.specs.Passes.{all_built, bound};
 ghost use Rattle.ytt_base.specs.Outcomes.{Gives, and_then};
 
 use crate::program::program;
@@ -50,7 +49,6 @@ pub fn compile(alloc: Global, template: Template) -> Result<Resolved, Stop>
     ensures passes { Gives (λ r. template_of template) result (and_then all_built (bound (template_of template))) }
     ensures code { IfOk result (λ r. program_of r.program ≡ compiled (numbered (template_of template))) }
     ensures runs { IfOk result (λ r. (host : Host (Unit {0})) → WordsStand free (template_of template) → Agrees starlark host (program_of r.program) (numbered (template_of template))) }
-    ensures loads { IfOk result (λ r. loads_in (blocks (program_of r.program)) ≡ []) }
     ensures globals { IfOk result (λ r. r.globals ≡ each_once (program_names (program_of r.program))) }
     ensures file { IfOk result (λ r. r.program.file ≡ template.file) }
 {

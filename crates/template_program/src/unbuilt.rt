@@ -1,30 +1,15 @@
 // Where a template isn't built yet.
-ghost use Rattle.std.specs.Prelude.{◌≡◌, [], ◌∷◌, ◌++◌, None};
-ghost use Rattle.star_tree.specs.Whole.{instruction_of};
-ghost use Rattle.template_tree.specs.View.{branches_of, code_of, content_of, in_content, item_of, items_of, node_of, notes_of, template_of};
-ghost use Rattle.template_program.specs.Places.{earlier};
+ghost use Rattle.std.specs.Prelude.{◌≡◌, [], None};
+ghost use Rattle.template_tree.specs.View.{branches_of, content_of, in_content, item_of, items_of, node_of, notes_of, template_of};
+ghost use Rattle.star_unbuilt.specs.Places.{earlier};
 ghost use Rattle.template_spec.specs.Template.{has_nodes as plain_nodes};
-ghost use Rattle.template_spec.specs.Unbuilt.{first_unbuilt as plain_first, unbuilt_branches, unbuilt_content, unbuilt_function, unbuilt_item, unbuilt_items, unbuilt_notes};
+ghost use Rattle.passes_spec.specs.Unbuilt.{first_unbuilt as plain_first, unbuilt_branches, unbuilt_content, unbuilt_function, unbuilt_item, unbuilt_items, unbuilt_notes};
 ghost use Rattle.ytt_base.specs.Outcomes.{place_at};
 
 use crate::holds::has_nodes;
-use star_tree::code::Stmt;
+use star_unbuilt::{see, see_load};
 use template_tree::{TContent, TElif, TElifs, TElse, TItem, TItems, TNode, TNotes, Template};
 use ytt_base::fault::Place;
-
-/// Sees a place: it is the first from here on where it stands on a line before the first so far.
-fn see(place: Place, first: &mut Option<Place>)
-    ensures { first.new ≡ earlier first.old (place ∷ []) }
-{
-    match *first {
-        None => *first = Some(place),
-        Some(before) => {
-            if place.line < before.line {
-                *first = Some(place);
-            }
-        }
-    }
-}
 
 /// Sees where notes stand.
 fn see_notes(file: u32, notes: &TNotes, first: &mut Option<Place>)
@@ -36,16 +21,6 @@ fn see_notes(file: u32, notes: &TNotes, first: &mut Option<Place>)
             line: note.line,
         };
         see(place, first);
-    }
-}
-
-/// Sees where a statement loads a file.
-fn see_statement(file: u32, stmt: &Stmt, first: &mut Option<Place>)
-    ensures { first.new ≡ earlier first.old (unbuilt_item (code_of file (instruction_of file stmt.now))) }
-{
-    match stmt {
-        Stmt::Load(line, _, _) => see(Place { file, line: *line }, first),
-        _ => {}
     }
 }
 
@@ -77,7 +52,7 @@ fn see_item(file: u32, item: &TItem, first: &mut Option<Place>)
 {
     match item {
         TItem::Node(node) => see_node(file, node, first),
-        TItem::Code(stmt) => see_statement(file, stmt, first),
+        TItem::Code(stmt) => see_load(file, stmt, first),
         TItem::If(_, _, body, elifs, last) => {
             see_items(file, body, first);
             see_elifs(file, elifs, first);

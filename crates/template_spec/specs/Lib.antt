@@ -7,9 +7,7 @@ pub mod Names
 pub mod Nesting
 pub mod Numbered
 pub mod OpenBlocks
-pub mod Passes
 pub mod Placed
 pub mod Template
-pub mod Unbuilt
 pub mod Uses
 pub mod WellNested

@@ -1,6 +1,7 @@
 -- Units that are held run as the files mean that they are read from.
 use Rattle.std.proofs.Common.{◌≡◌, ℕ, suc, ◌==◌, Bool, true, false, List, [], ◌∷◌, length, refl, ap, ◌∙◌, if◌then◌else◌}
 use Rattle.code_spec.specs.Blocks.{blocks}
+use Rattle.module_spec.specs.Answering.{modules_answer}
 use Rattle.template_meaning.specs.Files.{FileResult}
 use Rattle.template_spec.specs.Compiled.{compiled}
 use Rattle.template_spec.specs.ControlWords.{WordsStand, free}
@@ -8,7 +9,7 @@ use Rattle.value_spec.specs.Outcomes.{Computation, give, ◌>>=◌}
 use Rattle.world_spec.proofs.Together.{units_run_as_built}
 use Rattle.world_spec.specs.Held.{AreUnits, HeldCode, program, documents, HeldUnit, Holds, blocks_from, blocks_held, blocks_of_code, source_seen, units_seen}
 use Rattle.world_spec.specs.Laws.{AreProgramsOf, HeldRunAsMeant}
-use Rattle.world_spec.specs.Parts.{World, Files, all_parts, at_start, data_found, documents_from, overlaid, outcome_of, role_documents, source_documents, trees_before, units_meaning, units_run, natives_answer}
+use Rattle.world_spec.specs.Parts.{World, Files, all_parts, at_start, data_found, documents_from, overlaid, outcome_of, role_documents, source_documents, trees_before, units_meaning, units_run}
 use Rattle.world_spec.specs.Units as units
 use Rattle.world_spec.specs.Units.{FileUnit, Role, Source, code, plain, items_at, items_from, items_of, names_of}
 use Rattle.world_spec.specs.Worlds.{table_of, unit_run}
@@ -89,6 +90,6 @@ same_parts files us hs p = λ i. data_found files us >>= λ u. same_documents fi
 pub held_run_as_meant : HeldRunAsMeant
 unfolding units_meaning units_run
 held_run_as_meant budget us hs p =
-    (λ i. outcome_of (all_parts (unit_run natives_answer (same_names 1 us hs p i) (table_of (blocks_held hs)) (blocks_held hs) budget.depth (suc (same_length 1 us hs p i))) (units_seen hs) (at_start budget.steps)))
-    ∙ (λ i. outcome_of (same_parts (unit_run natives_answer (names_of us) (table_of (blocks_held hs)) (blocks_held hs) budget.depth (suc (length us))) us hs p i (at_start budget.steps)))
+    (λ i. outcome_of (all_parts (unit_run modules_answer (same_names 1 us hs p i) (table_of (blocks_held hs)) (blocks_held hs) budget.depth (suc (same_length 1 us hs p i))) (units_seen hs) (at_start budget.steps)))
+    ∙ (λ i. outcome_of (same_parts (unit_run modules_answer (names_of us) (table_of (blocks_held hs)) (blocks_held hs) budget.depth (suc (length us))) us hs p i (at_start budget.steps)))
     ∙ units_run_as_built budget us (blocks_held hs) (programs us hs p)

@@ -5,6 +5,7 @@ use Rattle.star_spec.specs.Calls.{asking}
 use Rattle.star_spec.specs.Eval.{starlark}
 use Rattle.star_spec.specs.Hosts.{Answers}
 use Rattle.star_spec.specs.Names.{with_boxes}
+use Rattle.module_spec.specs.Answering.{modules_answer}
 use Rattle.template_meaning.specs.Calls.{program_calls, template_calls}
 use Rattle.template_meaning.specs.Files.{Globals, all_loads, bind_loaded, ended, LoadedFile, items_loads, loader_of}
 use Rattle.template_meaning.specs.Meaning.{AllStand, Build, RunLoaded, names_in, run_blocks}
@@ -18,7 +19,7 @@ use Rattle.template_spec.specs.Template.{Items}
 use Rattle.value_spec.proofs.Computations.{then_ext}
 use Rattle.value_spec.specs.Outcomes.{State, then_do}
 use Rattle.world_spec.specs.Laws.{LoadsRunAsBuilt, UnitsRunAsBuilt}
-use Rattle.world_spec.specs.Parts.{all_parts, at_start, loads_for, outcome_of, units_meaning, units_run, natives_answer}
+use Rattle.world_spec.specs.Parts.{all_parts, at_start, loads_for, outcome_of, units_meaning, units_run}
 use Rattle.world_spec.specs.Units.{items_at, names_of}
 use Rattle.world_spec.specs.Worlds.{Kept, inside, shelf_of, table_of, unit_meaning, unit_run}
 
@@ -56,4 +57,4 @@ loads_run_as_built answers names files blocks_at p d n f s =
 pub units_run_as_built : UnitsRunAsBuilt
 unfolding units_meaning units_run
 units_run_as_built budget us blocks_at p i =
-    outcome_of (all_parts (λ f s. loads_run_as_built natives_answer (names_of us) (items_at us) blocks_at p budget.depth (loads_for us) f s i) us (at_start budget.steps))
+    outcome_of (all_parts (λ f s. loads_run_as_built modules_answer (names_of us) (items_at us) blocks_at p budget.depth (loads_for us) f s i) us (at_start budget.steps))

@@ -5,7 +5,7 @@ use Rattle.ytt_base.specs.declared.fault.FaultKind.TheVariants as kind
 use Rattle.ytt_base.specs.Outcomes.{Outcome, fault_of}
 use Rattle.ytt_base.specs.Trees.{Trees, no_trees, tree}
 use Rattle.code_spec.specs.Blocks.{Ops}
-use Rattle.star_spec.specs.Hosts.{Answers, knows_none}
+use Rattle.module_spec.specs.Answering.{modules_answer}
 use Rattle.template_meaning.specs.Files.{FileResult}
 use Rattle.template_meaning.specs.Meaning.{documents}
 use Rattle.value_spec.specs.Outcomes.{State, Ending, done, bad, asks, Computation, give, ◌>>=◌}
@@ -17,10 +17,6 @@ use Rattle.world_spec.specs.Worlds.{Kept, nothing_kept, unit_meaning, unit_run, 
 pub record Budget : Type 0 where
   pub steps : ℕ
   pub depth : ℕ
-
--- No native is a module's yet, since a load statement isn't built.
-abbrev pub natives_answer : Answers (Unit {0})
-natives_answer = knows_none
 
 -- natives keep nothing of their own
 abbrev pub World : Type 0
@@ -84,8 +80,8 @@ loads_for us = suc (length us)
 
 -- What the units of a request mean within a budget: documents, or the first fault.
 unfoldable pub units_meaning : Budget → List FileUnit → Outcome Trees
-units_meaning budget us = outcome_of (all_parts (unit_meaning natives_answer (names_of us) (items_at us) budget.depth (loads_for us)) us (at_start budget.steps))
+units_meaning budget us = outcome_of (all_parts (unit_meaning modules_answer (names_of us) (items_at us) budget.depth (loads_for us)) us (at_start budget.steps))
 
 -- The same by the blocks of programs.
 unfoldable pub units_run : Budget → (blocks_at : ℕ → Option Ops) → List FileUnit → Outcome Trees
-units_run budget blocks_at us = outcome_of (all_parts (unit_run natives_answer (names_of us) (table_of blocks_at) blocks_at budget.depth (loads_for us)) us (at_start budget.steps))
+units_run budget blocks_at us = outcome_of (all_parts (unit_run modules_answer (names_of us) (table_of blocks_at) blocks_at budget.depth (loads_for us)) us (at_start budget.steps))

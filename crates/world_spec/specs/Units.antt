@@ -8,7 +8,7 @@ use Rattle.file_spec.specs.Finding.{FoundFile}
 use Rattle.file_spec.specs.Names.{is_star, is_yaml_library}
 use Rattle.template_spec.specs.Nesting.{placed_whole}
 use Rattle.template_spec.specs.Numbered.{numbered}
-use Rattle.template_spec.specs.Passes.{all_built, bound}
+use Rattle.passes_spec.specs.Passes.{all_built, bound}
 use Rattle.template_spec.specs.Template.{Items, no_items}
 use Rattle.yaml_spec.specs.Noted.{Documents, has_code}
 use Rattle.yaml_spec.specs.Read.{Read, plain_trees}

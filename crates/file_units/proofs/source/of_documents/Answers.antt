@@ -12,18 +12,18 @@ returns-in_err-program-clause-read c =
     let s = c.in_err-program.field-0.0 in
     let p = err_from_is_err_and c.from_residual.result c.from_residual.ensures.1 in
     rw (p.1, p.2) (with_code c.args.file c.args.ignore_unknown c.args.library ds (Err s) (sym c.has_code.ensures ∙ c.if-has_code.true)
-    (program_stop c.args.file (λ r. template_items r c.args.ignore_unknown c.args.file ds) (role_for c.args.library) s c.in_err-program.ensures.program))
+    (program_stop c.args.file (λ r. template_items r c.args.ignore_unknown c.args.file ds) (role_for c.args.library) s c.in_err-program.ensures))
 
 pub returns-then-has_code-clause-read : goal.returns-then-has_code-clause-read
 returns-then-has_code-clause-read c =
     let ds = documents_of c.args.documents in
     with_code c.args.file c.args.ignore_unknown c.args.library ds (Ok c.of_program.result) (sym c.has_code.ensures ∙ c.if-has_code.true)
-    (program_held c.args.file (λ r. template_items r c.args.ignore_unknown c.args.file ds) c.args.library c.in_ok-program.program c.of_program.result c.of_program.ensures.block c.of_program.ensures.content c.in_ok-program.ensures.program)
+    (program_held c.args.file (λ r. template_items r c.args.ignore_unknown c.args.file ds) c.args.library c.in_ok-program.program c.of_program.result c.of_program.ensures.block c.of_program.ensures.content c.in_ok-program.ensures)
 
 pub returns-then-has_code-clause-whole : goal.returns-then-has_code-clause-whole
 returns-then-has_code-clause-whole c =
     let ds = documents_of c.args.documents in
-    program_whole c.args.file (λ r. template_items r c.args.ignore_unknown c.args.file ds) c.args.library c.in_ok-program.program c.of_program.result c.of_program.ensures.block c.of_program.ensures.content c.in_ok-program.ensures.program c.in_ok-program.ensures.loads
+    program_whole c.args.file (λ r. template_items r c.args.ignore_unknown c.args.file ds) c.args.library c.in_ok-program.program c.of_program.result c.of_program.ensures.block c.of_program.ensures.content c.in_ok-program.ensures
 
 pub returns-clause-read : goal.returns-clause-read
 returns-clause-read c = no_code c.args.file c.args.ignore_unknown c.args.library (documents_of c.args.documents) c.without_code.result (sym c.has_code.ensures ∙ c.if-has_code.false) c.without_code.ensures.read

@@ -1,8 +1,7 @@
 use Rattle.std.proofs.Common.{true}
 use Rattle.std.proofs.lemmas.Result.{err_from_is_err_and}
-use Rattle.world_spec.specs.StarFiles.{star_items}
 use Rattle.world_spec.specs.Units.{code_items, loaded}
-use Rattle.file_units.proofs.Sources.{program_held, program_loads, program_stop, program_whole}
+use Rattle.file_units.proofs.Sources.{program_held, program_stop, program_whole}
 use Rattle.file_units.proofs.source.read_code.Goals as goal
 
 pub returns-in_err-program-clause-read : goal.returns-in_err-program-clause-read
@@ -16,4 +15,3 @@ returns-clause-read c = program_held c.args.file (λ r. code_items r c.args.file
 pub returns-clause-whole : goal.returns-clause-whole
 returns-clause-whole c =
     program_whole c.args.file (λ r. code_items r c.args.file c.args.bytes.now) true c.in_ok-program.program c.of_program.result c.of_program.ensures.block c.of_program.ensures.content c.in_ok-program.ensures
-    (program_loads c.a_code_reader_exists.ensures.0 c.a_code_reader_exists.ensures.1 (λ r. star_items r c.args.file c.args.bytes.now) c.args.file c.in_ok-program.program c.in_ok-program.ensures)

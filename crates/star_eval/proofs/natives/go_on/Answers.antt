@@ -1,6 +1,6 @@
 use Rattle.std.proofs.Common.{ap, sym}
 use Rattle.star_eval.specs.Frames.{after_answer, around_value}
-use Rattle.star_eval.specs.Hosts.{reply_of}
+use Rattle.star_steps.specs.Replies.{reply_of}
 use Rattle.star_eval.specs.Meets.{state_of}
 use Rattle.star_eval.specs.View.{arena_in, waiting_in}
 use Rattle.star_eval.proofs.Going.{goes}

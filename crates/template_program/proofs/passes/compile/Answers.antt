@@ -6,8 +6,7 @@ use Rattle.template_spec.specs.Numbered.{numbered}
 use Rattle.template_meaning.proofs.Theorem.{agrees}
 use Rattle.template_spec.proofs.NumbersKeep.{numbered_stands}
 use Rattle.template_tree.specs.View.{template_of}
-use Rattle.template_program.proofs.Loading.{nothing_loaded}
-use Rattle.template_program.proofs.Telling.{built_whole, none_unbuilt, one_unbuilt, refused_first}
+use Rattle.template_program.proofs.Telling.{built_whole, one_unbuilt, refused_first}
 use Rattle.template_program.proofs.passes.compile.Goals as goal
 
 pub returns-in_err-resolved-clause-passes : goal.returns-in_err-resolved-clause-passes
@@ -23,11 +22,6 @@ pub returns-in-None-clause-runs : goal.returns-in-None-clause-runs
 returns-in-None-clause-runs c =
     let t = template_of c.args.template in
     λ host stand. agrees starlark host (program_of c.in_ok-resolved.resolved.program) (numbered t) c.in_ok-resolved.ensures.code (numbered_stands t stand)
-
-pub returns-in-None-clause-loads : goal.returns-in-None-clause-loads
-returns-in-None-clause-loads c =
-    nothing_loaded (template_of c.args.template) (program_of c.in_ok-resolved.resolved.program) c.in_ok-resolved.ensures.code
-    (none_unbuilt (template_of c.args.template) c.first_unbuilt-unbuilt.result c.first_unbuilt-unbuilt.ensures c.in-None.is)
 
 pub returns-in-Some-clause-passes : goal.returns-in-Some-clause-passes
 returns-in-Some-clause-passes c =

@@ -1,13 +1,14 @@
 use Rattle.std.proofs.Common.{◌-◌, [], ◌++◌, Option, None, take, ap, sym, ◌∙◌, arith}
-use Rattle.template_spec.specs.Unbuilt.{unbuilt_branches, unbuilt_content, unbuilt_item, unbuilt_items, unbuilt_notes}
+use Rattle.star_tree.specs.Whole.{instruction_of}
+use Rattle.passes_spec.specs.Unbuilt.{unbuilt_branches, unbuilt_content, unbuilt_item, unbuilt_items, unbuilt_notes}
 use Rattle.template_tree.specs.declared.tree.TElse.{TElse}
 use Rattle.template_tree.specs.declared.tree.TItem.{TItem}
 use Rattle.template_tree.specs.View.{branches_of, content_of, in_content, item_of, items_of, notes_of}
-use Rattle.template_tree.proofs.Views.{else_of-else, item_of-If, node_of-node}
-use Rattle.template_program.specs.Places.{earlier}
+use Rattle.template_tree.proofs.Views.{else_of-else, item_of-Code, item_of-If, node_of-node}
+use Rattle.star_unbuilt.specs.Places.{earlier}
+use Rattle.star_unbuilt.proofs.Finding.{earlier_after, earlier_before}
 use Rattle.template_program.proofs.Branches.{branches_up_to, unbuilt_both}
-use Rattle.template_program.proofs.Finding.{earlier_after, earlier_before, key_built}
-use Rattle.template_program.proofs.Items.{items_up_to}
+use Rattle.template_program.proofs.Items.{code_places, items_up_to, key_built}
 use Rattle.template_program.proofs.unbuilt.+unbuilt.Goals as goal
 
 pub see_items-loop-left-preserved : goal.see_items-loop-left-preserved
@@ -20,6 +21,11 @@ see_items-loop-left-preserved t c =
       within = omega (arith, at.invariant.within);
       same = earlier_before _ at.first _ _ (unbuilt_items (items_of file (take (at.left - 1) items))) _ (ap unbuilt_items front) at.invariant.same c.see_item.ensures;
     }
+
+pub see_item-returns-in-Code : goal.see_item-returns-in-Code
+see_item-returns-in-Code t c =
+    let file = c.args.file in
+    c.see_load.ensures ∙ ap (earlier c.args.first.now) (code_places file (instruction_of file c.in-Code.stmt) ∙ sym (ap (λ (i : TItem). unbuilt_item (item_of file i)) c.in-Code.is ∙ ap unbuilt_item (item_of-Code file c.in-Code.stmt)))
 
 pub see_item-returns-in-If : goal.see_item-returns-in-If
 see_item-returns-in-If t c =

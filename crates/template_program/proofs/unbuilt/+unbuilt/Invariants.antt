@@ -1,6 +1,6 @@
 use Rattle.std.proofs.Common.{◌≡◌, ◌≤◌, length, take, None}
-use Rattle.template_program.specs.Places.{earlier}
-use Rattle.template_spec.specs.Unbuilt.{unbuilt_branches, unbuilt_items}
+use Rattle.star_unbuilt.specs.Places.{earlier}
+use Rattle.passes_spec.specs.Unbuilt.{unbuilt_branches, unbuilt_items}
 use Rattle.template_tree.specs.View.{branches_of, items_of}
 use Rattle.template_program.proofs.unbuilt.+unbuilt.Given as goal
 

@@ -1,8 +1,8 @@
 use Rattle.std.proofs.Common.{ap, sym, ◌∙◌}
 use Rattle.ytt_base.specs.Outcomes.{place_at}
-use Rattle.template_spec.specs.Unbuilt.{unbuilt_function}
-use Rattle.template_program.specs.Places.{earlier}
-use Rattle.template_program.proofs.Finding.{earlier_none}
+use Rattle.passes_spec.specs.Unbuilt.{unbuilt_function}
+use Rattle.star_unbuilt.specs.Places.{earlier}
+use Rattle.star_unbuilt.proofs.Finding.{earlier_none}
 use Rattle.template_program.proofs.unbuilt.see_function.Goals as goal
 
 pub returns-then-has_nodes : goal.returns-then-has_nodes

@@ -1,9 +1,9 @@
 use Rattle.std.proofs.Common.{List, [], ◌∷◌, refl}
 use Rattle.ytt_base.specs.Outcomes.{place_at}
-use Rattle.template_spec.specs.Unbuilt.{unbuilt_notes}
+use Rattle.passes_spec.specs.Unbuilt.{unbuilt_notes}
 use Rattle.template_tree.specs.View.{notes_of}
 use Rattle.template_tree.specs.declared.tree.TNote.{TNote}
-use Rattle.template_program.proofs.Finding.{earlier_turn}
+use Rattle.star_unbuilt.proofs.Finding.{earlier_turn}
 use Rattle.template_program.proofs.unbuilt.see_notes.Goals as goal
 
 pub loop-note-preserved : goal.loop-note-preserved

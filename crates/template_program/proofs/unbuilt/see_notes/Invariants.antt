@@ -1,6 +1,6 @@
 use Rattle.std.proofs.Common.{◌≡◌, drop}
-use Rattle.template_program.specs.Places.{earlier}
-use Rattle.template_spec.specs.Unbuilt.{unbuilt_notes}
+use Rattle.star_unbuilt.specs.Places.{earlier}
+use Rattle.passes_spec.specs.Unbuilt.{unbuilt_notes}
 use Rattle.template_tree.specs.View.{notes_of}
 use Rattle.template_program.proofs.unbuilt.see_notes.Given as goal
 

@@ -1,0 +1,5 @@
+mod Calling
+mod Checking
+mod Forms
+mod Joining
+mod Walking

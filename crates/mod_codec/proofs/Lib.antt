@@ -1,0 +1,4 @@
+pub mod Calling
+pub mod Documents
+pub mod Paying
+pub mod Tables
