@@ -189,12 +189,12 @@ fn run_once(alloc: Global, row: &Row, text: &mut String) -> Result<(), Stop> {
     push_run(alloc, text, "", row, enough, due)
 }
 
-/// Runs the row with fewer steps, and what it prints once more, where that is due.
+/// Runs the row with fewer steps, and the documents that it prints once more, where that is due.
 fn run_further(alloc: Global, row: &Row, text: &mut String) -> Result<(), Stop> {
     if let Some(steps) = &row.steps {
         short(alloc, row, steps, text)?;
     }
-    if row.status == 0 {
+    if row.status == 0 && !row.prints_listing() {
         again(alloc, row.out.as_slice(), text)?;
     }
     Ok(())

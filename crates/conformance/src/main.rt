@@ -10,8 +10,8 @@
 //!
 //! Below `-- NAME by rule --` stands a rule on each line, `text "..."`, `repeat N "..."`, `indented N "..."` or `numbered N "..."`,
 //! and `-- NAME from PATH --` takes the text of a file where it runs. In double quotes, in a rule and in `words`, may stand
-//! spaces and `\n`, `\t`, `\r`, `\"`, `\\`, `\xHH`. What a row with the status 0 prints is run once more and has to give itself.
-//! The page `docs/conformance.md` says all of this at length.
+//! spaces and `\n`, `\t`, `\r`, `\"`, `\\`, `\xHH`. The documents that a row with the status 0 prints are rendered once more and have
+//! to give themselves; a listing isn't. The page `docs/conformance.md` says all of this at length.
 #![tactic(auto)]
 
 mod archive;

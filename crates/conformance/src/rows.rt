@@ -165,6 +165,14 @@ impl Row {
         Ok(())
     }
 
+    /// Whether what is printed is a listing, and no documents.
+    pub fn prints_listing(&self) -> bool {
+        match self.words.as_slice().first() {
+            Some(word) => word.as_str() == "compile",
+            None => false,
+        }
+    }
+
     /// The row of a text as the file `a.yml`, which is to give itself.
     pub fn of_text(alloc: Global, text: &[u8]) -> Result<Row, Stop> {
         let mut row = Row::new(alloc, "", 0)?;

@@ -22,7 +22,7 @@ use ytt_base::text::{Memory, Text};
 #[derive(Drop)]
 pub(crate) struct Natives;
 
-/// What a native of a host is: one of the modules `struct` and `assert` with what it holds, one of the other modules, or none of theirs.
+/// What a native of a host is: one of the modules `struct`, `assert` and `template` with what it holds, one of the other modules, or none of theirs.
 #[derive(Clone, Copy)]
 pub(crate) enum Native {
     Basic(Basic, Option<Value>),

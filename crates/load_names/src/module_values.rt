@@ -19,6 +19,7 @@ fn calls_named(name: &str) -> Option<&'static [&'static str]>
         "assert" => Some(&[
             "fail", "equals", "try_to", "min", "max", "min_len", "max_len", "not_null",
         ]),
+        "template" => Some(&["replace"]),
         "json" | "yaml" | "base64" => Some(&["encode", "decode"]),
         "sha256" | "md5" => Some(&["sum"]),
         _ => None,

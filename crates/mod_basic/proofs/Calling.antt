@@ -54,6 +54,7 @@ basic_rows =
     ∷ (codes "assert.fail", row_of basic.Fail) ∷ (codes "assert.equals", row_of basic.Equals) ∷ (codes "assert.try_to", row_of basic.TryTo)
     ∷ (codes "assert.min", row_of basic.Min) ∷ (codes "assert.max", row_of basic.Max) ∷ (codes "assert.min_len", row_of basic.MinLen) ∷ (codes "assert.max_len", row_of basic.MaxLen)
     ∷ (codes "assert.not_null", row_of basic.NotNull) ∷ (codes "assert.check", row_of basic.Check)
+    ∷ (codes "template.replace", row_of basic.Replace)
     ∷ []
 
 -- one of the first rows, or one of those behind them
@@ -77,6 +78,7 @@ row_parts basic.MinLen held p args s = refl
 row_parts basic.MaxLen held p args s = refl
 row_parts basic.NotNull held p args s = refl
 row_parts basic.Check held p args s = refl
+row_parts basic.Replace held p args s = refl
 
 module _ (p : Ending Here Reply) (o : Ending Here Value) (f : Value → Computation Here Reply) (same : p ≡ then_do o f) where
   -- the value is refused
@@ -124,6 +126,7 @@ bound_row basic.MinLen held p args s h = refl
 bound_row basic.MaxLen held p args s h = refl
 bound_row basic.NotNull held p args s h = refl
 bound_row basic.Check held p args s h = refl
+bound_row basic.Replace held p args s h = refl
 
 pub gives_bound : (b : Basic) (held : List Value) (p : Place) (args : Arguments) (r : Result Held Stop) (a c : View) (n k : ℕ) → (b ≡ basic.Make → ⊥)
     → Gives (bound_of b held p args (state_in a n)) r a c k → Gives (value_row b held p args (state_in a n)) r a c k

@@ -6,6 +6,7 @@ use Rattle.ytt_base.specs.declared.fault.Place.{Place}
 use Rattle.builtin_spec.specs.Binding.{Own, taking}
 use Rattle.code_spec.specs.Code.{Name}
 use Rattle.module_spec.specs.Asserting.{check_row, checking, equals_row, fail_row, is_callable, is_none, length_in, rule_checked, rule_of_number, rule_of_value, rule_parts, try_row, unless_not}
+use Rattle.module_spec.specs.Replacing.{replace}
 use Rattle.module_spec.specs.Rows.{Row, of_one, of_own, of_text}
 use Rattle.module_spec.specs.Structs as structs
 use Rattle.operator_spec.specs.Order.{comparison, is_above, is_below}
@@ -33,6 +34,7 @@ row_of basic.MinLen = of_one (codes "n") (rule_of_number (codes "min_len"))
 row_of basic.MaxLen = of_one (codes "n") (rule_of_number (codes "max_len"))
 row_of basic.NotNull = of_own (taking [] [] (λ p vs. give (checking (codes "not_null") [])))
 row_of basic.Check = check_row
+row_of basic.Replace = of_one (codes "x") replace
 
 -- names with the natives that they are
 abbrev pub named_rows : List (Bor (List ℕ) × Basic) → List (Name × Row Here)
@@ -53,6 +55,7 @@ needed_of basic.MinLen = codes "n" ∷ []
 needed_of basic.MaxLen = codes "n" ∷ []
 needed_of basic.NotNull = []
 needed_of basic.Check = codes "v" ∷ []
+needed_of basic.Replace = codes "x" ∷ []
 
 -- a failure with the text that a value is
 abbrev pub failing : Place → Value → Computation Here Value
@@ -72,6 +75,7 @@ gives_of basic.MinLen held p vs = rule_of_number (codes "min_len") p (value_at 0
 gives_of basic.MaxLen held p vs = rule_of_number (codes "max_len") p (value_at 0 vs)
 gives_of basic.NotNull held p vs = give (checking (codes "not_null") [])
 gives_of basic.Check held p vs = rule_checked (rule_parts (value_at 0 held)) p (value_at 0 vs)
+gives_of basic.Replace held p vs = replace p (value_at 0 vs)
 
 -- what it gives for its arguments
 abbrev pub bound_of : Basic → (held : List Value) → Own Here

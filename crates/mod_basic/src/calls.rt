@@ -10,6 +10,7 @@ ghost use Rattle.mod_basic.specs.Walks.{Yields};
 
 use crate::asserts::{check_of, equals, fail, rule_of_number, rule_of_value};
 use crate::checks::check;
+use crate::replacing::replace;
 use crate::structs::make;
 use crate::table::{Basic, parameters_of};
 use crate::tries::asked_call;
@@ -118,5 +119,6 @@ fn answered(
         Basic::MaxLen => rule_of_number(arena, steps, "max_len", value, at),
         Basic::NotNull => Ok(check_of(arena, "not_null", &[])?),
         Basic::Check => check(arena, steps, on, value, at),
+        Basic::Replace => replace(arena, steps, value, at),
     }
 }

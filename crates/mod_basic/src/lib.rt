@@ -1,4 +1,4 @@
-//! The natives of the modules struct and assert over the arena.
+//! The natives of the modules struct, assert and template over the arena.
 //!
 //! `basic_named` gives the native of a name; `basic_call` what one replies for what it holds and for its arguments; `try_resumed` what
 //! `assert.try_to` replies once the call that it asked for has come to a value or a fault. The reply, each refusal, the objects and the
@@ -10,6 +10,7 @@ mod calls;
 mod checks;
 mod costs;
 mod fields;
+mod replacing;
 mod structs;
 mod table;
 mod tries;

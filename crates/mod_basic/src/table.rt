@@ -1,10 +1,10 @@
-// The natives of the modules struct and assert, by their names, and what each takes.
+// The natives of the modules struct, assert and template, by their names, and what each takes.
 ghost use Rattle.std.specs.Prelude.{◌≡◌, MatchOption, Some, map as each, option_map};
 ghost use Rattle.module_spec.specs.Answering.{codec_natives, natives, row_in};
 ghost use Rattle.mod_basic.specs.View.{named_rows, needed_of, row_of};
 ghost use Rattle.mod_basic.specs.Walks.{Here};
 
-/// A native of the modules struct and assert; the last is what the checks of rules hold.
+/// A native of the modules struct, assert and template. `Check` is what the checks of rules hold.
 #[derive(Clone, Copy)]
 pub enum Basic {
     Make,
@@ -19,6 +19,7 @@ pub enum Basic {
     MaxLen,
     NotNull,
     Check,
+    Replace,
 }
 
 /// The native of a name among these.
@@ -52,6 +53,7 @@ pub fn basic_named(name: &str) -> Option<Basic>
             ("assert.max_len", Basic::MaxLen),
             ("assert.not_null", Basic::NotNull),
             ("assert.check", Basic::Check),
+            ("template.replace", Basic::Replace),
         ],
     )
 }
@@ -62,7 +64,7 @@ pub(crate) fn parameters_of(basic: Basic) -> &'static [&'static str]
 {
     match basic {
         Basic::Make | Basic::NotNull => &[],
-        Basic::Encode | Basic::Decode => &["x"],
+        Basic::Encode | Basic::Decode | Basic::Replace => &["x"],
         Basic::Fail => &["text"],
         Basic::Equals => &["a", "b"],
         Basic::TryTo => &["f"],

@@ -43,6 +43,7 @@ all_held : EachHeld modules
 all_held =
     one_held (codes "struct") (codes "make" ∷ codes "encode" ∷ codes "decode" ∷ []) refl refl also
     one_held (codes "assert") (codes "fail" ∷ codes "equals" ∷ codes "try_to" ∷ codes "min" ∷ codes "max" ∷ codes "min_len" ∷ codes "max_len" ∷ codes "not_null" ∷ []) refl refl also
+    one_held (codes "template") (codes "replace" ∷ []) refl refl also
     one_held (codes "json") (codes "encode" ∷ codes "decode" ∷ []) refl refl also
     one_held (codes "yaml") (codes "encode" ∷ codes "decode" ∷ []) refl refl also
     one_held (codes "base64") (codes "encode" ∷ codes "decode" ∷ []) refl refl also

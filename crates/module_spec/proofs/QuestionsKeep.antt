@@ -11,7 +11,7 @@ use Rattle.value_spec.specs.Outcomes.{Ending, Question, Reply, asks, bad, called
 use Rattle.value_spec.specs.Values.{Arguments, Value, values_in}
 use Rattle.module_spec.proofs.ChecksKeep.{check_keeps, not_null_keeps, number_rule_keeps, value_rule_keeps}
 use Rattle.module_spec.proofs.JsonKeeps as json
-use Rattle.module_spec.proofs.RowsKeep.{RowKeeps, base64_decode_keeps, base64_encode_keeps, equals_keeps, fail_keeps, md5_keeps, one_keeps, own_keeps, sha256_keeps, text_keeps, tried_keeps, try_keeps}
+use Rattle.module_spec.proofs.RowsKeep.{RowKeeps, base64_decode_keeps, base64_encode_keeps, equals_keeps, fail_keeps, md5_keeps, one_keeps, own_keeps, replace_keeps, sha256_keeps, text_keeps, tried_keeps, try_keeps}
 use Rattle.module_spec.proofs.StructsKeep as structs
 use Rattle.module_spec.proofs.YamlKeeps as yaml
 use Rattle.module_spec.specs.Answering.{answered, by_row, codec_natives, natives, question_row, row_in}
@@ -56,6 +56,7 @@ natives_keep =
     one_keeps (codes "n") (number_rule_keeps (codes "max_len") (low_utf8 (codes "max_len") refl)) also
     not_null_keeps also
     check_keeps also
+    one_keeps (codes "x") replace_keeps also
     codecs_keep
 
 by_row_keeps : {H : Type 0} (o : Option (Row H)) → IfFound RowKeeps o → (p : Place) (held : List Value) (args : Arguments) → HeldList held → HeldArguments args → Keeps HeldReply (by_row o p held args)

@@ -1,40 +1,37 @@
--- What of a template isn't built yet and is told before it runs: notes, keys from expressions, functions that
--- build items, and loads of modules that come later. What its code asks for that isn't built is told where a run reaches it.
+-- What of a template isn't built yet and is told before it runs: notes of schemas, data values and overlays, and loads of modules that
+-- come later.
 use Rattle.std.specs.Prelude.{ℕ, nat_lt, bytes_eq, codes, ◌||◌, Bool, if◌then◌else◌, List, [], ◌∷◌, ◌++◌, Option, Some, None}
 use Rattle.ytt_base.specs.declared.fault.Place.{Place}
-use Rattle.code_spec.specs.Code.{Statement, load}
-use Rattle.template_spec.specs.Template.{Notes, no_notes, note, Key, no_key, written_key, key_from, Item, node, code, if_block, for_block, def_block, Items, no_items, an_item, Branches, no_branch, else_branch, elif_branch, Content, written_value, value_from, pairs, elements, has_nodes}
+use Rattle.code_spec.specs.Code.{Name, Statement, load}
+use Rattle.template_spec.specs.Template.{Notes, no_notes, note, Item, node, code, if_block, for_block, def_block, Items, no_items, an_item, Branches, no_branch, else_branch, elif_branch, Content, written_value, value_from, pairs, elements}
+
+-- the notes that are built, by their names
+abbrev pub is_built_note : Name → Bool
+is_built_note x = bytes_eq x (codes "yaml/map-key-override") || bytes_eq x (codes "yaml/text-templated-strings")
+
+abbrev pub unbuilt_note : Place → Name → List Place
+unbuilt_note p x = if is_built_note x then [] else p ∷ []
 
 abbrev pub unbuilt_notes : Notes → List Place
 unbuilt_notes no_notes = []
-unbuilt_notes (note p x es ns) = p ∷ unbuilt_notes ns
-
-abbrev pub unbuilt_key : Place → Key → List Place
-unbuilt_key p no_key = []
-unbuilt_key p (written_key x) = []
-unbuilt_key p (key_from e) = p ∷ []
+unbuilt_notes (note p x es ns) = unbuilt_note p x ++ unbuilt_notes ns
 
 -- the path of a module that comes later
 abbrev pub is_later_module : (path : List ℕ) → Bool
-is_later_module path = bytes_eq path (codes "@ytt:data") || bytes_eq path (codes "@ytt:template") || bytes_eq path (codes "@ytt:overlay")
+is_later_module path = bytes_eq path (codes "@ytt:data") || bytes_eq path (codes "@ytt:overlay")
 
 abbrev pub unbuilt_statement : Statement → List Place
 unbuilt_statement (load p path xs) = if is_later_module path then p ∷ [] else []
 unbuilt_statement _ = []
 
--- a function whose block holds items builds a fragment of them
-abbrev pub unbuilt_function : Place → (builds_items : Bool) → List Place
-unbuilt_function p b = if b then p ∷ [] else []
-
--- Where something in items isn't built. Of a function, these are where it begins, if it builds items, and what of its block
--- isn't, since a note may stand before it.
+-- where something in items isn't built
 abbrev mutual
   pub unbuilt_item : Item → List Place
-  unbuilt_item (node p kind ns key c) = unbuilt_notes ns ++ (unbuilt_key p key ++ unbuilt_content c)
+  unbuilt_item (node p kind ns key c) = unbuilt_notes ns ++ unbuilt_content c
   unbuilt_item (code s) = unbuilt_statement s
   unbuilt_item (if_block p e body more) = unbuilt_items body ++ unbuilt_branches more
   unbuilt_item (for_block p x e body) = unbuilt_items body
-  unbuilt_item (def_block p number x ps kind body) = unbuilt_function p (has_nodes body) ++ unbuilt_items body
+  unbuilt_item (def_block p number x ps kind body) = unbuilt_items body
 
   pub unbuilt_items : Items → List Place
   unbuilt_items no_items = []

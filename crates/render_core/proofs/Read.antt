@@ -12,7 +12,7 @@ use Rattle.file_units.specs.declared.units.RenderStop.TheVariants as stop
 use Rattle.file_units.specs.declared.units.Units.{Units}
 use Rattle.world_spec.specs.Units.{FileUnit, names_of}
 use Rattle.ytt_spec.proofs.HeldBuilt.{units_written}
-use Rattle.ytt_spec.specs.Meaning.{AreRead, Means, documents_meant, named_in, units_found}
+use Rattle.ytt_spec.specs.Meaning.{AreRead, Means, documents, documents_meant, named_in, produced, units_found}
 use Rattle.ytt_spec.specs.Words.{Render, render}
 use Rattle.render_core.specs.Renders.{Renders, RendersUnits}
 
@@ -35,9 +35,9 @@ module _ (asked : Render) (us : List FileUnit) (names : List (List ℕ)) where
   pub units_told : (tree : Option Tree) → IfSome tree (λ t. MeansCode (λ r. units_found r asked.ignore_unknown asked.paths t) (Ok us)) → names ≡ names_of us → (result : Result (List Held) RenderStop) →
       RendersUnits asked.budget us names result → IfSome tree (λ t. Renders (Means (render asked) t) result)
   units_told None found same result h = tt
-  units_told (Some t) found same (Ok trees) h = λ r reads. ap (documents_meant asked) (found r reads) ∙ ap (λ (o : Outcome Trees). named_in (names_of us) o) h
+  units_told (Some t) found same (Ok trees) h = λ r reads. ap (documents_meant asked) (found r reads) ∙ ap (λ (o : Outcome Trees). produced documents (named_in (names_of us) o)) h
   units_told (Some t) found same (Err (stop.Refused f held)) h = λ r reads.
-      ap (documents_meant asked) (found r reads) ∙ ap (λ (o : Outcome Trees). named_in (names_of us) o) h.0 ∙ (λ i. Err (record { fault = f; names = sym (h.1 ∙ same) i }))
+      ap (documents_meant asked) (found r reads) ∙ ap (λ (o : Outcome Trees). produced documents (named_in (names_of us) o)) h.0 ∙ (λ i. Err (record { fault = f; names = sym (h.1 ∙ same) i }))
   units_told (Some t) found same (Err (stop.ReadFailed path)) h = tt
   units_told (Some t) found same (Err stop.Memory) h = tt
 

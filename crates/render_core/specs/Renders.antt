@@ -6,11 +6,11 @@ use Rattle.file_units.specs.declared.units.RenderStop.{RenderStop}
 use Rattle.file_units.specs.declared.units.RenderStop.TheVariants as stop
 use Rattle.world_spec.specs.Parts.{Budget, units_meaning}
 use Rattle.world_spec.specs.Units.{FileUnit}
-use Rattle.ytt_spec.specs.Meaning.{Meant}
+use Rattle.ytt_spec.specs.Meaning.{Meant, documents}
 
 -- What was answered is a meaning of which this holds, unless the files failed or there was no room.
 abbrev pub Renders : (Meant → Type 0) → Result (List Tree) RenderStop → Type 0
-Renders IsMeaning (Ok trees) = IsMeaning (Ok (trees_of trees))
+Renders IsMeaning (Ok trees) = IsMeaning (Ok (documents (trees_of trees)))
 Renders IsMeaning (Err (stop.Refused f names)) = IsMeaning (Err (record { fault = f; names = names }))
 Renders IsMeaning (Err (stop.ReadFailed path)) = Unit {0}
 Renders IsMeaning (Err stop.Memory) = Unit {0}

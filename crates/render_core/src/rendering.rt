@@ -6,7 +6,7 @@ ghost use Rattle.file_units.specs.Held.{AreHeld, MayRun};
 ghost use Rattle.file_units.specs.Reads.{HasCause};
 ghost use Rattle.world_spec.specs.Units.{FileUnit, names_of};
 ghost use Rattle.ytt_spec.specs.Meaning.{Means};
-ghost use Rattle.ytt_words.specs.Asks.{budget_of, command_of};
+ghost use Rattle.ytt_words.specs.Asks.{budget_of, render_of};
 ghost use Rattle.render_core.specs.Renders.{Renders, RendersUnits};
 
 use crate::running::run_units;
@@ -46,7 +46,7 @@ pub fn render<F: Files>(
     request: &Request,
     files: &mut F,
 ) -> Result<Trees, RenderStop>
-    ensures told { IfSome (F.tree files.old) (λ tree. Renders (Means (command_of request.now) tree) result) }
+    ensures told { IfSome (F.tree files.old) (λ tree. Renders (Means (render_of request.now) tree) result) }
     ensures held { IfOk result (λ trees. AreTrees (trees_of trees)) }
     ensures writable { IfOk result (λ trees. Writable (trees_of trees)) }
     ensures keeps { F.tree files.new ≡ F.tree files.old }

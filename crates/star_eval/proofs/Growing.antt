@@ -140,7 +140,7 @@ module _ (a b : View) (file : ℕ) (g : Grows a b) where
   in_value_kept (in_value.Attribute p x) w = (tt, refl)
   in_value_kept (in_value.Key left p k f vs ks) w =
       ((owns_kept a b f g w.0, owns_all_kept a b vs g w.1, owns_all_kept a b ks g w.2), λ i. plain.next_key left p (wanted_of k) (value_kept a b f g w.0 i) (values_kept a b vs g w.1 i) (values_kept a b ks g w.2 i))
-  in_value_kept (in_value.Unbuilt p) w = (tt, refl)
+  in_value_kept (in_value.Shown p ps t) w = (tt, refl)
 
   in_statement_kept : (f : held_statement.InStatement) → OwnsInStatement a f → OwnsInStatement b f × (statement_frame b file f ≡ statement_frame a file f)
   in_statement_kept in_statement.Discard w = (tt, refl)
@@ -155,6 +155,7 @@ module _ (a b : View) (file : ℕ) (g : Grows a b) where
   in_statement_kept (in_statement.Walk p x os) w = (tt, refl)
   in_statement_kept (in_statement.Enter os) w = (tt, refl)
   in_statement_kept in_statement.Take w = (tt, refl)
+  in_statement_kept in_statement.TakeKey w = (tt, refl)
   in_statement_kept (in_statement.Bind p x) w = (tt, refl)
   in_statement_kept (in_statement.NoteArgument x f es given) w = let k = arguments_kept a b given g w in (k.0, ap (plain.note_argument x.now (form_of f) (exprs_of file es.now)) k.1)
 

@@ -185,11 +185,15 @@ module _ (c : Setting) where
   note_says p x es [] = refl
   note_says p x es (n ∷ ns) = λ i. eval_arguments (all_calls c) es c.env >>= λ vs. noting x (none_before vs i) (n ∷ ns)
 
+  key_says : (p : Place) (e : plain.Expr) (k : Nodes) → part_done c (node_key_from p e) k ≡ node_part starlark (all_calls c) (node_key_from p e) c.env k
+  key_says p e [] = refl
+  key_says p e (n ∷ ns) = refl
+
   pub part_says : (o : NodePart) (k : Nodes) → part_done c o k ≡ node_part starlark (all_calls c) o c.env k
   part_says (node_start p j g) k = refl
   part_says (node_note p x es) k = note_says p x es k
   part_says (node_key p x) k = refl
-  part_says (node_key_from p e) k = refl
+  part_says (node_key_from p e) k = key_says p e k
   part_says (node_value p x) k = refl
   part_says (node_value_from p e) k = value_says p e k
   part_says (node_end p) k = refl

@@ -24,7 +24,8 @@ use Rattle.star_spec.specs.Names.{box_of, read_name, with_boxes, write_name}
 use Rattle.star_eval.specs.Calling.{calls_from, calls_of}
 use Rattle.star_eval.specs.Meets.{Here}
 use Rattle.star_tree.specs.Whole.{Entry}
-use Rattle.template_meaning.specs.Run.{Node, node_part, on_top, opened, run, runs}
+use Rattle.template_meaning.specs.Run.{Node, on_top, opened, run, runs}
+use Rattle.template_meaning.specs.Take.{key_taken}
 use Rattle.value_spec.specs.Outcomes.{Computation, give, ill_formed, need, new_dict, new_list, new_object, paid, ◌>>=◌}
 use Rattle.value_spec.specs.Values.{Arguments, Env, function_value, int_value, none_value, of_function, text_value, tuple_value, Value, values_from}
 
@@ -65,21 +66,21 @@ entries_done c p es ps = eval_entries (all_calls c) p es c.env ps >>= new_dict
 abbrev pub with_entry : Entry → Entries → Entries
 with_entry e es = plain.an_entry e.key e.value es
 
--- the first piece that is an expression
-abbrev pub first_shown : Pieces → Option Expr
-first_shown plain.no_pieces = None
-first_shown (plain.text_piece t ps) = first_shown ps
-first_shown (plain.expr_piece e ps) = Some e
+-- the first piece that is an expression, with those behind it
+abbrev pub next_shown : Pieces → Option (Expr × Pieces)
+next_shown plain.no_pieces = None
+next_shown (plain.text_piece t ps) = next_shown ps
+next_shown (plain.expr_piece e ps) = Some (e, ps)
 
--- the texts of pieces that are written
-abbrev pub written_text : Pieces → List ℕ
-written_text plain.no_pieces = []
-written_text (plain.text_piece t ps) = t ++ written_text ps
-written_text (plain.expr_piece e ps) = written_text ps
+-- the text of those in front of it
+abbrev pub written_before : Pieces → List ℕ
+written_before plain.no_pieces = []
+written_before (plain.text_piece t ps) = t ++ written_before ps
+written_before (plain.expr_piece e ps) = []
 
--- the text that pieces are
-abbrev pub pieces_done : Setting → Place → Pieces → Computation Here Value
-pieces_done c p ps = eval_pieces (all_calls c) p ps c.env >>= λ t. give (text_value t)
+-- this text with that of pieces behind it
+abbrev pub pieces_then : Setting → Place → Pieces → (before : List ℕ) → Computation Here Value
+pieces_then c p ps before = eval_pieces (all_calls c) p ps c.env >>= λ more. give (text_value (before ++ more))
 
 abbrev pub assigned : Setting → Place → Expr → Value → Computation Here (Unit {0})
 assigned c p x v = assign_to (all_calls c) p x v c.env
@@ -239,7 +240,7 @@ acted c p (plain.attribute q a x) = evaluated c a >>= λ v. attribute_row p v x
 acted c p (plain.lambda q n ps e) = making c (record { place = p; name = codes "lambda"; number = n }) ps []
 acted c p (plain.list_comprehension q e cs) = comprehended c p cs (values_bag e [])
 acted c p (plain.dict_comprehension q k v cs) = comprehended c p cs (pairs_bag k v [])
-acted c p (plain.text_template q ps) = pieces_done c p ps
+acted c p (plain.text_template q ps) = pieces_then c p ps []
 
 -- ---- statements
 
@@ -332,13 +333,17 @@ written_part (node_note p x es) ns = ill_formed
 written_part (node_key_from p e) ns = ill_formed
 written_part (node_value_from p e) ns = ill_formed
 
+-- the key of the node on top, which a value is
+abbrev pub keyed_by : Value → Part Here Nodes
+keyed_by v ns = on_top (λ n ms. key_taken n.place v >>= λ k. give (on (record n { key = k } ∷ ms))) ns
+
 abbrev pub part_done : Setting → NodePart → Part Here Nodes
 part_done c (node_start p k h) ns = written_part (node_start p k h) ns
 part_done c (node_key p x) ns = written_part (node_key p x) ns
 part_done c (node_value p x) ns = written_part (node_value p x) ns
 part_done c (node_end p) ns = written_part (node_end p) ns
 part_done c (node_note p x es) ns = on_top (λ n ms. arguments_then c es none_given (λ vs. noting x vs (n ∷ ms))) ns
-part_done c (node_key_from p e) ns = node_part starlark (all_calls c) (node_key_from p e) c.env ns
+part_done c (node_key_from p e) ns = on_top (λ n ms. evaluated c e >>= λ v. keyed_by v (n ∷ ms)) ns
 part_done c (node_value_from p e) ns = with_two ns (evaluated c e >>= λ v. taking v ns)
 
 -- ---- steps

@@ -1,5 +1,5 @@
 -- The plain data that frames stand for, and what is owned in them.
-use Rattle.std.specs.Prelude.{ℕ, List, [], ◌∷◌, Option, Some, None, codes, reverse}
+use Rattle.std.specs.Prelude.{ℕ, List, [], ◌∷◌, Option, Some, None, codes, reverse, string_bytes}
 use Rattle.std.specs.Borrow.{Bor}
 use Rattle.std.specs.Option.{option_map}
 use Rattle.star_values.specs.Owns.{Each, Owns, OwnsAll, OwnsArguments, OwnsEnv, OwnsPair}
@@ -9,13 +9,14 @@ use Rattle.star_values.specs.Objects.{env_in, pairs_in}
 use Rattle.star_blocks.specs.Nested.{arms_of, ops_of}
 use Rattle.star_calls.specs.View.{form_of}
 use Rattle.star_sorting.specs.View.{wanted_of}
-use Rattle.star_tree.specs.Listed.{clauses_of, entries_of, optional_of}
+use Rattle.star_tree.specs.Listed.{clauses_of, entries_of, optional_of, pieces_of}
 use Rattle.star_tree.specs.View.{item_kind_of}
 use Rattle.star_tree.specs.Whole.{binary_operator_of, expr_of, exprs_of, parameters_of, unary_operator_of}
 use Rattle.code_spec.specs.Code as code
 use Rattle.node_build.specs.View.{nodes_of, OwnsNodes}
 use Rattle.star_tree.specs.declared.code.Expr as held_expr
 use Rattle.star_tree.specs.declared.code.Param.{Param}
+use Rattle.star_tree.specs.declared.code.Piece.{Piece}
 use Rattle.star_eval.specs.declared.frame.Bag as held_bag
 use Rattle.star_eval.specs.declared.frame.Bag.TheVariants as bag
 use Rattle.star_eval.specs.declared.frame.Caller.{Caller}
@@ -57,6 +58,11 @@ use Rattle.star_eval.specs.Waiting as plain
 abbrev pub default_of : (file : ℕ) → Option (Bor held_expr.Expr × Bor (List Param)) → Option (code.Expr × code.Parameters)
 default_of file None = None
 default_of file (Some found) = Some (expr_of file found.0.now, parameters_of file found.1.now)
+
+-- an expression, with the pieces behind it
+abbrev pub shown_of : (file : ℕ) → Option (Bor held_expr.Expr × Bor (List Piece)) → Option (code.Expr × code.Pieces)
+shown_of file None = None
+shown_of file (Some found) = Some (expr_of file found.0.now, pieces_of file found.1.now)
 
 -- a lambda shows its form as its name
 abbrev pub name_of : Option (Bor (List ℕ)) → List ℕ
@@ -104,7 +110,7 @@ value_frame a file (in_value.Default k ps vs) = plain.default_of (making_of k) (
 value_frame a file (in_value.First p cs b) = plain.first_members p (clauses_of file cs.now) (bag_of a file b)
 value_frame a file (in_value.Attribute p x) = plain.attribute_of p x.now
 value_frame a file (in_value.Key left p w f vs ks) = plain.next_key left p (wanted_of w) (value_of a f) (values_of a vs) (values_of a ks)
-value_frame a file (in_value.Unbuilt p) = plain.unbuilt p
+value_frame a file (in_value.Shown p ps t) = plain.shown_piece p (pieces_of file ps.now) (string_bytes t)
 
 abbrev pub statement_frame : View → (file : ℕ) → held_statement.InStatement → plain.InStatement
 statement_frame a file in_statement.Discard = plain.discard
@@ -118,6 +124,7 @@ statement_frame a file (in_statement.Branch os bs) = plain.branch (ops_of file o
 statement_frame a file (in_statement.Walk p x os) = plain.walk_over p (expr_of file x.now) (ops_of file os.now)
 statement_frame a file (in_statement.Enter os) = plain.enter (ops_of file os.now)
 statement_frame a file in_statement.Take = plain.take_it
+statement_frame a file in_statement.TakeKey = plain.take_key
 statement_frame a file (in_statement.Bind p x) = plain.bind_to p x.now
 statement_frame a file (in_statement.NoteArgument x f es given) = plain.note_argument x.now (form_of f) (exprs_of file es.now) (arguments_in a.held given)
 

@@ -3,9 +3,9 @@
 use Rattle.std.specs.Prelude.{ℕ, List, [], ◌∷◌, ◌++◌, Option, Some, if◌then◌else◌}
 use Rattle.ytt_base.specs.declared.fault.Place.{Place}
 use Rattle.code_spec.specs.Blocks.{Arms, Ops}
-use Rattle.code_spec.specs.Code.{BinaryOperator, Clauses, Entries, Expr, Exprs, Name, OptionalExpr, Parameters, UnaryOperator}
+use Rattle.code_spec.specs.Code.{BinaryOperator, Clauses, Entries, Expr, Exprs, Name, OptionalExpr, Parameters, Pieces, UnaryOperator}
 use Rattle.code_spec.specs.Program.{ItemKind}
-use Rattle.value_spec.specs.Outcomes.{Computation, Ending, finally, give, ill_formed, new_list, not_built, on_store, then_do, ◌>>=◌}
+use Rattle.value_spec.specs.Outcomes.{Computation, Ending, finally, give, ill_formed, new_list, on_store, then_do, ◌>>=◌}
 use Rattle.value_spec.specs.Store.{begin_loop, end_loop}
 use Rattle.value_spec.specs.Values.{Arguments, Env, Value, Values, none_value, tuple_value, values_from}
 use Rattle.builtin_spec.specs.Attributes.{attribute_row}
@@ -16,14 +16,14 @@ use Rattle.index_spec.specs.Index.{index_row, set_index_row}
 use Rattle.index_spec.specs.Slices.{slice_row}
 use Rattle.star_calls.specs.Arguments.{Form, none_given}
 use Rattle.star_spec.specs.Calls.{asking, resumed_with}
-use Rattle.star_spec.specs.Eval.{display_pair, truth_of, turn_pair}
+use Rattle.star_spec.specs.Eval.{display_pair, shown_row, truth_of, turn_pair}
 use Rattle.star_spec.specs.Flow.{Flow, Part, go_on, next_turn, on, out, turns}
 use Rattle.star_spec.specs.Language.{Call, returns}
 use Rattle.star_spec.specs.Names.{box_of, write_name}
 use Rattle.node_build.specs.Parts.{noting, taking}
 use Rattle.template_meaning.specs.Calls.{bottom_flow, result_of}
 use Rattle.star_eval.specs.Calling.{after_replied}
-use Rattle.star_eval.specs.Doing.{Bag, Making, Nodes, Setting, all_calls, all_evaluated, argument_then, arguments_then, assigned, assigned_each, augmented_in, bound_then, branched, changed_at, clause_looped, clauses_done, cut, entries_done, evaluated, first_done, flow_made, keys_then, looped, making, pairs_bag, through, values_bag}
+use Rattle.star_eval.specs.Doing.{Bag, Making, Nodes, Setting, all_calls, all_evaluated, argument_then, arguments_then, assigned, assigned_each, augmented_in, bound_then, branched, changed_at, clause_looped, clauses_done, cut, entries_done, evaluated, first_done, flow_made, keyed_by, keys_then, looped, making, pairs_bag, pieces_then, through, values_bag}
 use Rattle.star_eval.specs.Meets.{Here}
 
 -- what members are gathered for
@@ -61,7 +61,7 @@ pub data InValue : Type 0 where
   first_members : Place → Clauses → Bag → InValue
   attribute_of : Place → Name → InValue
   next_key : (left : ℕ) → Place → Wanted → (function : Value) → (members before : List Value) → InValue
-  unbuilt : Place → InValue
+  shown_piece : Place → Pieces → (before : List ℕ) → InValue
 
 -- a value in a statement, or in a node
 pub data InStatement : Type 0 where
@@ -76,6 +76,7 @@ pub data InStatement : Type 0 where
   walk_over : Place → Expr → Ops → InStatement
   enter : Ops → InStatement
   take_it : InStatement
+  take_key : InStatement
   bind_to : Place → Name → InStatement
   note_argument : Name → Form → Exprs → (before : Arguments) → InStatement
 
@@ -150,7 +151,7 @@ value_goes c (default_of k ps before) v = making c k ps (before ++ v ∷ [])
 value_goes c (first_members p cs b) v = first_done c p cs b v
 value_goes c (attribute_of p x) v = attribute_row p v x
 value_goes c (next_key left p w f vs ks) k = keys_then c left p w f vs (ks ++ k ∷ [])
-value_goes c (unbuilt p) v = not_built p
+value_goes c (shown_piece p ps before) v = shown_row p v >>= λ t. pieces_then c p ps (before ++ t)
 
 abbrev pub statement_goes : Setting → InStatement → Value → Part Here Nodes
 statement_goes c discard v k = give (on k)
@@ -164,6 +165,7 @@ statement_goes c (branch os bs) v k = branched c os bs v k
 statement_goes c (walk_over p x os) v k = looped c p x (through c os) v k
 statement_goes c (enter os) v k = through c os k
 statement_goes c take_it v k = taking v k
+statement_goes c take_key v k = keyed_by v k
 statement_goes c (bind_to p x) v k = write_name p x v (box_of x c.env) >>= λ u. give (on k)
 statement_goes c (note_argument x form es before) v k = argument_then c form es before (λ vs. noting x vs k) v
 

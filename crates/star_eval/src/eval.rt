@@ -1,20 +1,19 @@
 // Expressions.
-ghost use Rattle.std.specs.Prelude.{◌≡◌, ◌++◌, [], codes, IfOk, IfSome, option_map, ℕ};
+ghost use Rattle.std.specs.Prelude.{◌≡◌, ◌++◌, [], codes, IfSome};
 ghost use Rattle.builtin_spec.specs.Attributes.{attribute_row};
 ghost use Rattle.builtin_spec.specs.Operators.{operator_row};
 ghost use Rattle.operator_spec.specs.Operators.{unary_row};
 ghost use Rattle.star_spec.specs.Names.{box_of, read_name};
-ghost use Rattle.star_tree.specs.Listed.{pieces_of};
 ghost use Rattle.star_tree.specs.Whole.{binary_operator_of, expr_of, unary_operator_of};
 ghost use Rattle.star_values.specs.Owns.{Owns, OwnsAll};
 ghost use Rattle.value_spec.specs.Outcomes.{give, then_do};
 ghost use Rattle.value_spec.specs.Values.{text_value};
 ghost use Rattle.star_eval.specs.declared.frame.Control.TheVariants as control;
 ghost use Rattle.star_eval.specs.Frames.{GoesTo, GoesToValue, Known, means};
-ghost use Rattle.star_eval.specs.Doing.{acted, comprehended, first_shown, making, pairs_bag, pieces_done, place_in, values_bag, written_text};
+ghost use Rattle.star_eval.specs.Doing.{acted, comprehended, making, pairs_bag, place_in, values_bag};
 ghost use Rattle.star_eval.specs.View.{Sound, arena_in, env_of, gathering_of, setting_of};
 ghost use Rattle.star_eval.specs.Waiting.{gathered};
-ghost use Rattle.star_eval.specs.Seen.{all_evaluated_in, clauses_in, evaluated_in, expr_in, parameters_in, pieces_in, value_goes_in, value_in, values_in};
+ghost use Rattle.star_eval.specs.Seen.{all_evaluated_in, clauses_in, evaluated_in, expr_in, parameters_in, value_goes_in, value_in, values_in};
 ghost use Rattle.star_eval.specs.declared.frame.InValue.TheVariants as value_frames;
 
 use crate::arguments::{call_with, no_arguments};
@@ -26,11 +25,11 @@ use crate::indexes::within_index;
 use crate::machine::{failed, ill_formed, push_value, settle};
 use crate::names::{find, read};
 use crate::session::{make_list, make_text, make_tuple};
+use crate::templates::template;
 use indexmap::IndexMap;
 use object_arena::{Value, Values};
 use sqlite_items::{Boxed, Items};
-use star_tree::code::{BinOp, Clause, Expr, Param, Piece, UnOp};
-use std::alloc::Global;
+use star_tree::code::{BinOp, Clause, Expr, Param, UnOp};
 use ytt_base::fault::{FaultKind, Place};
 use ytt_base::text::{Memory, Text};
 
@@ -269,62 +268,13 @@ fn dict_for<'p>(
     comprehension(m, place, clauses, Bag::Pairs(key, value, none))
 }
 
-/// The first piece that is an expression.
-fn first_shown<'p>(pieces: &'p [Piece]) -> Option<&'p Expr>
-    ensures { (file : ℕ) → option_map (λ e. expr_of file e.now) result ≡ first_shown (pieces_of file pieces.now) }
-{
-    let mut rest = pieces;
-    while let Some((piece, more)) = rest.split_first() {
-        match piece {
-            Piece::Shown(expr) => return Some(expr.get()),
-            Piece::Written(_) => rest = more,
-        }
-    }
-    None
-}
-
-/// The texts of pieces that are written.
-fn written_text(alloc: Global, pieces: &[Piece]) -> Result<Text, Memory>
-    ensures { (file : ℕ) → IfOk result (λ text. text ≡ written_text (pieces_of file pieces.now)) }
-{
-    let mut text = String::new(alloc);
-    let mut rest = pieces;
-    while let Some((piece, more)) = rest.split_first() {
-        match piece {
-            Piece::Written(written) => text.push_str(written.as_str())?,
-            Piece::Shown(_) => {}
-        }
-        rest = more;
-    }
-    Ok(Text::of_string(text))
-}
-
-/// A text with expressions in it, whose texts aren't built yet.
-fn template<'p>(
-    m: &mut Machine<'p>,
-    place: Place,
-    pieces: &'p [Piece],
-) -> Result<Control<'p>, Memory>
-    requires { Sound m.old }
-    ensures { GoesToValue result m.new m.old (pieces_done (setting_of m.old) place (pieces_in m.old pieces.now)) }
-{
-    match first_shown(pieces) {
-        Some(expr) => {
-            let frame = InValue::Unbuilt(place);
-            push_value(m, frame, Control::Eval(expr))
-        }
-        None => {
-            let text = written_text(m.session.arena.alloc(), pieces)?;
-            literal(m, &text)
-        }
-    }
-}
-
+/// A text as it is written.
 fn literal<'p>(m: &mut Machine<'p>, text: &Text) -> Result<Control<'p>, Memory>
     requires { Sound m.old }
     ensures { GoesToValue result m.new m.old (give (text_value text.now)) }
 {
-    settle(make_text(&mut m.session, text))
+    let copy = text.copy()?;
+    settle(make_text(&mut m.session, copy))
 }
 
 /// The value of a name.

@@ -10,7 +10,7 @@ use star_calls::ArgumentForm;
 use star_functions::Functions;
 use star_sorting::Wanted;
 use star_tree::ItemKind;
-use star_tree::code::{BinOp, Clause, Entry, Expr, Param, UnOp};
+use star_tree::code::{BinOp, Clause, Entry, Expr, Param, Piece, UnOp};
 use ytt_base::fault::{Fault, Place};
 use ytt_base::text::Text;
 
@@ -105,8 +105,8 @@ pub(crate) enum InValue<'p> {
     Attribute(Place, &'p Text),
     /// The key of the next of these members, which a function gives, behind these keys; so many calls natives may ask for.
     Key(u64, Place, Wanted, Value, Values, Values),
-    /// What isn't built yet.
-    Unbuilt(Place),
+    /// The text of the value behind this one, and then that of the further pieces.
+    Shown(Place, &'p [Piece], String),
 }
 
 /// What goes on from a value to the end of a statement, or of a part of a node.
@@ -132,6 +132,8 @@ pub(crate) enum InStatement<'p> {
     Enter(&'p [Op]),
     /// The node that takes the value over.
     Take,
+    /// The node that gets the value as its key.
+    TakeKey,
     /// The name that gets the value.
     Bind(Place, &'p Text),
     /// This argument of a note, and the further ones, behind those that are given.

@@ -15,14 +15,15 @@ use crate::eval::{attribute, gather, operated, operated_on, right_operand};
 use crate::frame::{Control, Flow, Frame, InStatement, InValue, Machine};
 use crate::functions::make_function;
 use crate::indexes::give_index;
-use crate::machine::{failed, push_value, settle_flow};
+use crate::machine::{push_value, settle_flow};
 use crate::natives::resume;
+use crate::parts::take_key;
 use crate::run::{choose, within};
+use crate::templates::shown;
 use crate::walk::walk;
 use crate::went::misplaced;
 use object_arena::Value;
 use star_ops::truth;
-use ytt_base::fault::FaultKind;
 use ytt_base::text::Memory;
 
 /// A frame with this value in its hole.
@@ -115,7 +116,7 @@ fn give_value<'p>(
             keys.push(value)?;
             next_key(m, left, place, wanted, function, members, keys)
         }
-        InValue::Unbuilt(place) => Ok(failed(m, FaultKind::NotBuilt, place)),
+        InValue::Shown(place, rest, text) => shown(m, place, rest, text, value),
     }
 }
 
@@ -156,6 +157,7 @@ fn give_statement<'p>(
         InStatement::Walk(place, target, body) => walk(m, place, target, body, value),
         InStatement::Enter(body) => Ok(Control::Run(body)),
         InStatement::Take => take(m, value),
+        InStatement::TakeKey => take_key(m, value),
         InStatement::Bind(place, name) => name_gets(m, place, name, value),
         InStatement::NoteArgument(name, form, rest, given) => {
             note_argued(m, name, form, rest, given, value)

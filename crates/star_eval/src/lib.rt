@@ -32,6 +32,7 @@ mod parts;
 mod run;
 mod session;
 mod source;
+mod templates;
 mod walk;
 mod went;
 

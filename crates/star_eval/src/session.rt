@@ -35,11 +35,10 @@ impl Session {
 }
 
 /// A text.
-pub(crate) fn make_text(session: &mut Session, text: &Text) -> Result<Value, Stop>
-    ensures { GivesFrom (give (text_value text.now)) result session.new session.old }
+pub(crate) fn make_text(session: &mut Session, text: Text) -> Result<Value, Stop>
+    ensures { GivesFrom (give (text_value text)) result session.new session.old }
 {
-    let copy = text.copy()?;
-    Ok(session.arena.new_text(copy)?)
+    Ok(session.arena.new_text(text)?)
 }
 
 /// A tuple of these members.

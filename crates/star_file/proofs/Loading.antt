@@ -4,8 +4,7 @@ use Rattle.ytt_base.specs.declared.fault.Place.{Place}
 use Rattle.code_spec.specs.Blocks.{Op, Ops, op_part, op_statement, op_if, op_for, op_def, an_op, Arms, no_arm, else_arm, arm, Parsed, broken, at_top, inside, put, open_if, next_arm, last_arm, open_block, parse, whole, blocks}
 use Rattle.code_spec.specs.Code.{Expr}
 use Rattle.code_spec.specs.Program.{Instruction, part, statement, begin_if, begin_elif, begin_else, begin_for, begin_def, close}
-use Rattle.passes_spec.specs.Unbuilt.{unbuilt_branches, unbuilt_function, unbuilt_items, unbuilt_statement}
-use Rattle.world_spec.proofs.CodeBlocks.{no_nodes}
+use Rattle.passes_spec.specs.Unbuilt.{unbuilt_branches, unbuilt_items, unbuilt_statement}
 use Rattle.world_spec.specs.StarFiles.{arms_branches, ops_items}
 use Rattle.star_file.specs.Loads.{load_places}
 
@@ -68,8 +67,7 @@ has (begin_if p e ∷ is) = if_has p e (parse is) (load_places is) (has is)
 has (begin_elif p e ∷ is) = elif_has e (parse is) (load_places is) (has is)
 has (begin_else p ∷ is) = else_has (parse is) (load_places is) (has is)
 has (begin_for p x e ∷ is) = block_has (op_for p x e) (parse is) (load_places is) (λ os qs. refl) (has is)
-has (begin_def p n fragment x ps ∷ is) =
-    block_has (op_def p n fragment x ps) (parse is) (load_places is) (λ os qs. ap (λ b. (unbuilt_function p b ++ places os) ++ places qs) (no_nodes os)) (has is)
+has (begin_def p n fragment x ps ∷ is) = block_has (op_def p n fragment x ps) (parse is) (load_places is) (λ os qs. refl) (has is)
 has (close p ∷ is) = (load_places is, has is, refl)
 
 in_whole : (r : Parsed) (l : List Place) (os : Ops) → Has r l → whole r ≡ Some os → l ≡ places os

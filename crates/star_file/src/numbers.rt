@@ -22,6 +22,10 @@ fn number_part(alloc: Global, file: u32, part: &NodeOp, next: &mut usize) -> Res
             Ok(NodeOp::Note(*place, name, args))
         }
         NodeOp::Key(place, key) => Ok(NodeOp::Key(*place, key.copy()?)),
+        NodeOp::KeyFrom(place, expr) => {
+            let expr = number_boxed(alloc, file, expr, next)?;
+            Ok(NodeOp::KeyFrom(*place, expr))
+        }
         NodeOp::Value(place, scalar) => Ok(NodeOp::Value(*place, scalar.copy()?)),
         NodeOp::ValueFrom(place, expr) => {
             let expr = number_boxed(alloc, file, expr, next)?;

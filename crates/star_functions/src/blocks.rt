@@ -17,6 +17,7 @@ fn find_in_part<'p>(part: &'p NodeOp, found: &mut Found<'p>) -> Result<(), Memor
 {
     match part {
         NodeOp::Note(_, _, args) => find_in_exprs(args, found),
+        NodeOp::KeyFrom(_, key) => find_in_expr(key.get(), found),
         NodeOp::ValueFrom(_, value) => find_in_expr(value.get(), found),
         NodeOp::Start(_, _, _) => Ok(()),
         NodeOp::Key(_, _) => Ok(()),

@@ -70,6 +70,7 @@ fn put_node(alloc: Global, file: u32, part: &NodeOp, events: &mut Events) -> Res
 {
     match part {
         NodeOp::Note(_, _, args) => put_exprs(alloc, file, args, events),
+        NodeOp::KeyFrom(_, key) => put_expr(alloc, file, key.get(), events),
         NodeOp::ValueFrom(_, value) => put_expr(alloc, file, value.get(), events),
         NodeOp::Start(_, _, _) | NodeOp::Key(_, _) | NodeOp::Value(_, _) | NodeOp::End(_) => Ok(()),
     }

@@ -25,7 +25,7 @@ use Rattle.star_spec.proofs.Keeping.{Keeps, Anything, keeps_then, keeps_give, ke
 use Rattle.star_spec.proofs.MembersHeld.{from_values, more_held, members_keep, pairs_keep, put_pair_held, new_list_keeps, new_dict_keeps}
 use Rattle.star_spec.proofs.RowsHeld.{unary_held, measured_keeps}
 use Rattle.star_spec.proofs.SortingKeeps.{members_taken_keep}
-use Rattle.star_spec.proofs.TextsKeep.{low_utf8}
+use Rattle.star_spec.proofs.TextsKeep.{low_utf8, str_keeps}
 
 -- a call of a value gives what the program holds
 pub record CallKeeps {H : Type 0} (call : Call H) : Type 0 where
@@ -220,7 +220,7 @@ module _ {H : Type 0} (call : Call H) (calls : CallKeeps call) where
     pieces_keep : (p : Place) (ps : Pieces) (env : Env) → HeldPieces ps → Keeps IsUtf8 (eval_pieces call p ps env)
     pieces_keep p no_pieces env h = keeps_give [] IsUtf8-nil
     pieces_keep p (text_piece t ps) env h = keeps_then (pieces_keep p ps env h.1) (λ more k. keeps_give (t ++ more) (IsUtf8-append t more h.0 k))
-    pieces_keep p (expr_piece e ps) env h = keeps_then (eval_keeps e env h.0) (λ v k. keeps_then (keeps_fail kind.NotBuilt p []) (λ t g. keeps_then (pieces_keep p ps env h.1) (λ more i. keeps_give (t ++ more) (IsUtf8-append t more g i))))
+    pieces_keep p (expr_piece e ps) env h = keeps_then (eval_keeps e env h.0) (λ v k. keeps_then (str_keeps p v k) (λ t g. keeps_then (pieces_keep p ps env h.1) (λ more i. keeps_give (t ++ more) (IsUtf8-append t more g i))))
 
     comprehend_keeps : (b : Bool) (p : Place) (element : Env → Part H (Gathered b)) (cs : Clauses) (env : Env) → HeldClauses cs → ((scope : Env) (k : Gathered b) → HeldGathered b k → Keeps (FlowHeld (HeldGathered b)) (element scope k)) → (k : Gathered b) → HeldGathered b k → Keeps (FlowHeld (HeldGathered b)) (comprehend call p element cs env k)
     comprehend_keeps b p element no_clauses env h m k g = keeps_ill_formed

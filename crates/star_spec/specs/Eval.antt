@@ -1,4 +1,4 @@
--- The language: expressions, arguments, targets. What isn't built yet is NotBuilt.
+-- The language: expressions, arguments, targets.
 use Rattle.std.specs.Prelude.{ℕ, suc, Bool, ◌==◌, List, [], ◌∷◌, ◌++◌, length, Option, Some, None, is_some, unwrap_or, if◌then◌else◌, codes}
 use Rattle.ytt_base.specs.declared.fault.FaultKind.{FaultKind}
 use Rattle.ytt_base.specs.declared.fault.FaultKind.TheVariants as kind
@@ -7,7 +7,7 @@ use Rattle.ytt_base.specs.Trees.{max_depth}
 use Rattle.code_spec.specs.Code as code
 use Rattle.code_spec.specs.Code.{Name, BinaryOperator, addition, Expr, Exprs, no_exprs, an_expr, OptionalExpr, absent, present, Entries, no_entries, an_entry, Clauses, no_clauses, for_clause, if_clause, Pieces, no_pieces, text_piece, expr_piece, Parameters, no_parameters, required, defaulted, bare_star, starred_parameter, double_starred_parameter}
 use Rattle.value_spec.specs.Values.{Value, none_value, int_value, text_value, tuple_value, dict_value, Values, no_values, a_value, values_from, Fields, no_fields, a_field, Arguments, arguments, Env, of_function, function_value}
-use Rattle.value_spec.specs.Outcomes.{Computation, paid, give, fail, or_fail, need, not_built, ill_formed, reads, new_object, new_list, new_dict, ◌>>=◌}
+use Rattle.value_spec.specs.Outcomes.{Computation, paid, give, fail, or_fail, need, ill_formed, reads, new_object, new_list, new_dict, ◌>>=◌}
 use Rattle.value_spec.specs.Keys.{key_offence, place_of_key}
 use Rattle.value_spec.specs.Members.{members_in, truth_in}
 use Rattle.star_spec.specs.Names.{box_of, with_boxes, read_name, write_name}
@@ -20,6 +20,7 @@ use Rattle.builtin_spec.specs.Operators.{assignment_row, operator_row}
 use Rattle.builtin_spec.specs.Sorting.{members_taken, wanted_row}
 use Rattle.index_spec.specs.Index.{index_row, set_index_row}
 use Rattle.index_spec.specs.Slices.{slice_row}
+use Rattle.text_spec.specs.Shown.{str_of}
 use Rattle.value_spec.specs.Store.{pairs_at, put_pair}
 use Rattle.star_spec.specs.Binding.{scope_of_call}
 use Rattle.star_spec.specs.Flow.{Flow, on, out, Part, over_members}
@@ -32,11 +33,9 @@ truth_of v = reads (λ store. truth_in store v)
 abbrev pub members_of : {H : Type 0} → Place → Value → Computation H (List Value)
 members_of p v = reads (λ store. members_in store v) >>= or_fail kind.ValueKind p
 
--- ---- what isn't built yet
-
--- the text that a value is in a text template
+-- the text that a value is in a text template, as by `str`
 abbrev pub shown_row : {H : Type 0} → Place → Value → Computation H (List ℕ)
-shown_row p v = not_built p
+shown_row p v = str_of p v
 
 -- ---- displays
 

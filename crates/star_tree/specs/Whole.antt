@@ -167,6 +167,7 @@ abbrev pub part_of : (file : ℕ) → NodeOp → program.NodePart
 part_of file (node_op.Start p kind h) = program.node_start p (item_kind_of kind) (holds_of h)
 part_of file (node_op.Note p x es) = program.node_note p x (exprs_of file es)
 part_of file (node_op.Key p k) = program.node_key p (key_of k)
+part_of file (node_op.KeyFrom p e) = program.node_key_from p (expr_of file e)
 part_of file (node_op.Value p k) = program.node_value p (key_of k)
 part_of file (node_op.ValueFrom p e) = program.node_value_from p (expr_of file e)
 part_of file (node_op.End p) = program.node_end p

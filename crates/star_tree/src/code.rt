@@ -134,13 +134,15 @@ pub struct Loaded {
     pub origin: Text,
 }
 
-/// A part of a node, with its place: its start, a note with its name and arguments, a pair's key, its
-/// value as a written scalar, which is exactly what a key may be, or from an expression, its end.
+/// A part of a node, with its place: its start, a note with its name and arguments, a pair's key as it is
+/// written or from an expression, its value as a written scalar, which is exactly what a key may be, or from
+/// an expression, its end.
 #[derive(Drop)]
 pub enum NodeOp {
     Start(Place, ItemKind, Holds),
     Note(Place, Text, Args),
     Key(Place, Key),
+    KeyFrom(Place, Boxed<Expr>),
     Value(Place, Key),
     ValueFrom(Place, Boxed<Expr>),
     End(Place),

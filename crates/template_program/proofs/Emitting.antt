@@ -47,22 +47,6 @@ emits_next file n m k a b c xs j x rest one lt e first h l is =
     ∙ ap (followed file b m) (sym (ap (λ l. rest l is) (dropped xs j x lt e) ∙ first (drop (j + 1) xs) is))
     ∙ h is
 
--- one more member that was taken from what is left, whose instructions are in front of the rest
-pub emits_taken : {file m k : ℕ} {b c : List Stmt} {one : List Instruction → List Instruction} (n : ℕ) (a : List Stmt) (all before after : List Instruction → List Instruction) → before ≡ (λ is. one (after is)) →
-    ((is : List Instruction) → followed file b m (before is) ≡ followed file a n (all is)) → Emits file b c m k one →
-    (is : List Instruction) → followed file c k (after is) ≡ followed file a n (all is)
-emits_taken {file} {m = m} {b = b} n a all before after first h l is = l.emitted (after is) ∙ ap (λ (f : List Instruction → List Instruction). followed file b m (f is)) (sym first) ∙ h is
-
--- the last part behind a loop
-pub emits_last : {file n m k : ℕ} {a b c : List Stmt} {f : List Instruction → List Instruction} (all left : List Instruction → List Instruction) → left ≡ f →
-    ((is : List Instruction) → followed file b m (left is) ≡ followed file a n (all is)) → Emits file b c m k f → Emits file a c n k all
-emits_last {n = n} {a = a} all left e h l = record { emitted = emits_taken n a all left (λ is. is) e h l }
-
--- where nothing is left
-pub emits_whole : {file n m : ℕ} {a b : List Stmt} (all left : List Instruction → List Instruction) → left ≡ (λ is. is) →
-    ((is : List Instruction) → followed file b m (left is) ≡ followed file a n (all is)) → Emits file a b n m all
-emits_whole {file} {m = m} {b = b} all left none h = record { emitted = λ is. ap (λ (f : List Instruction → List Instruction). followed file b m (f is)) (sym none) ∙ h is }
-
 -- at the end of a loop
 pub emits_done : {T : Type 0} (file n m : ℕ) (a b : List Stmt) (xs : List T) (j : ℕ) (rest : List T → List Instruction → List Instruction) →
     length xs ≤ j → ((is : List Instruction) → rest [] is ≡ is) → ((is : List Instruction) → followed file b m (rest (drop j xs) is) ≡ followed file a n (rest xs is)) → Emits file a b n m (rest xs)

@@ -1,10 +1,8 @@
 -- What a node holds, by what stands in it.
-use Rattle.std.proofs.Common.{◌≡◌, ℕ, ◌+◌, ◌<◌, length, take, get_or, List, [], ◌∷◌, ◌++◌, ◌||◌, reverse, map as each, Option, Some, None, Bool, if◌then◌else◌, refl, sym, ap, ◌∙◌}
+use Rattle.std.proofs.Common.{◌≡◌, ℕ, ◌+◌, ◌<◌, length, take, get_or, List, [], ◌∷◌, ◌++◌, ◌||◌, reverse, map as each, Option, None, Bool, if◌then◌else◌, refl, sym, ap, ◌∙◌}
 use Rattle.std.proofs.lemmas.List.{reverse-append, take_more}
-use Rattle.ytt_base.specs.declared.fault.Place.{Place}
-use Rattle.ytt_base.specs.declared.tree.Key.{Key}
 use Rattle.code_spec.specs.Program.{Instruction, holds_map, holds_list, holds_void, statement}
-use Rattle.passes_spec.specs.Unbuilt.{unbuilt_item, unbuilt_key}
+use Rattle.passes_spec.specs.Unbuilt.{unbuilt_item}
 use Rattle.star_tree.specs.declared.code.Expr.{Expr}
 use Rattle.star_unbuilt.specs.Places.{load_places_of}
 use Rattle.template_spec.specs.Compiled.{holds_of}
@@ -12,7 +10,7 @@ use Rattle.template_spec.specs.Template.{an_item, has_nodes, has_written, is_nod
 use Rattle.template_tree.specs.declared.tree.TContent as content
 use Rattle.template_tree.specs.declared.tree.TContent.{TContent}
 use Rattle.template_tree.specs.declared.tree.TItem.{TItem}
-use Rattle.template_tree.specs.View.{code_of, content_of, in_content, in_key, in_order, item_of, items_of}
+use Rattle.template_tree.specs.View.{code_of, content_of, in_content, in_order, item_of, items_of}
 use Rattle.template_tree.proofs.Views.{content_of-Map, content_of-List, items_of-last}
 use Rattle.template_program.proofs.Turns.{found_last}
 
@@ -48,8 +46,3 @@ items_up_to file is i left x e lt here =
 pub code_places : (file : ℕ) (i : Instruction) → load_places_of i ≡ unbuilt_item (code_of file i)
 code_places file (statement s) = refl
 code_places file i = refl
-
--- a key that is written is built, as each key of a text is
-pub key_built : (p : Place) (o : Option Key) → unbuilt_key p (in_key o) ≡ []
-key_built p None = refl
-key_built p (Some k) = refl

@@ -2,7 +2,9 @@ pub mod Branches
 pub mod Emitting
 pub mod Items
 pub mod NamesKeep
+pub mod Passing
 pub mod Resolving
 pub mod Sizes
-pub mod Telling
+pub mod TextedForms
+pub mod Texting
 pub mod Turns

@@ -1,13 +1,11 @@
 -- The names of a template's program are the template's.
 use Rattle.std.proofs.Common.{◌≡◌, ℕ, List, [], Option, Some, None, Ok, Err, refl, sym, ap, ◌∙◌, IsSome, subst}
-use Rattle.ytt_base.specs.Outcomes.{Outcome, Gives}
+use Rattle.ytt_base.specs.Outcomes.{Outcome}
 use Rattle.ytt_base.specs.declared.fault.Fault.{Fault}
-use Rattle.ytt_base.specs.declared.fault.Stop.{Stop}
-use Rattle.ytt_base.specs.declared.fault.Stop.TheVariants as stop
 use Rattle.code_spec.specs.Blocks.{blocks, whole, no_ops}
 use Rattle.code_spec.specs.Program.{Instruction}
 use Rattle.code_spec.specs.Scopes.{Use, program_names, program_uses, names_of_file, uses_of_file, unknown_first}
-use Rattle.star_resolve.specs.Variables.{IfFault, fault_of_use, program_fault}
+use Rattle.star_resolve.specs.Variables.{fault_of_use, program_fault}
 use Rattle.template_spec.specs.Compiled.{compiled}
 use Rattle.template_spec.specs.Names.{items_names}
 use Rattle.code_spec.specs.Names.{language_names}
@@ -53,7 +51,5 @@ told_of t is names e n =
 pub all_bound : (t : Items) (is : List Instruction) (names : List (List ℕ)) → is ≡ compiled (numbered t) → names ≡ language_names → program_fault names is ≡ None → bound t ≡ Ok t
 all_bound t is names e n k = sym (told_of t is names e n) ∙ ap (told t) k
 
-pub one_unknown : (X : Type 0) (t : Items) (is : List Instruction) (names : List (List ℕ)) (s : Stop) → is ≡ compiled (numbered t) → names ≡ language_names →
-    IfFault s (λ f. program_fault names is ≡ Some f) → Gives {X = X} (λ r. t) (Err s) (bound t)
-one_unknown X t is names (stop.Fault f) e n k = sym (told_of t is names e n) ∙ ap (told t) k
-one_unknown X t is names stop.Memory e n k = tt
+pub bound_refuses : (t : Items) (is : List Instruction) (names : List (List ℕ)) (f : Fault) → is ≡ compiled (numbered t) → names ≡ language_names → program_fault names is ≡ Some f → bound t ≡ Err f
+bound_refuses t is names f e n k = sym (told_of t is names e n) ∙ ap (told t) k

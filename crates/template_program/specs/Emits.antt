@@ -1,11 +1,17 @@
 -- What is put behind the instructions of a program, with the numbers of its functions.
-use Rattle.std.specs.Prelude.{◌≡◌, ℕ, List, ◌∷◌, ◌++◌}
+use Rattle.std.specs.Prelude.{◌≡◌, ℕ, List, ◌∷◌, ◌++◌, Option, Result, Ok, Err}
+use Rattle.ytt_base.specs.declared.fault.Stop.{Stop}
+use Rattle.ytt_base.specs.declared.fault.Stop.TheVariants as stop
+use Rattle.ytt_base.specs.Outcomes.{Outcome}
+use Rattle.code_spec.specs.CodeReading.{CodeReader}
 use Rattle.code_spec.specs.Program.{Instruction}
+use Rattle.star_grammar.specs.CodeReaders.{IsCodeReader}
+use Rattle.star_tree.specs.declared.code.Expr.{Expr}
 use Rattle.star_tree.specs.declared.code.Stmt.{Stmt}
 use Rattle.star_tree.specs.Whole.{instruction_of, instructions_of}
 use Rattle.template_spec.specs.Numbered.{number_instruction, number_program}
 use Rattle.template_spec.specs.Template.{Content}
-use Rattle.template_tree.specs.declared.tree.TNode.{TNode}
+use Rattle.template_tree.specs.declared.tree.TContent.{TContent}
 use Rattle.template_tree.specs.View.{content_of, in_content}
 
 -- a statement is this instruction with the numbers of its functions, from `first` on, and `next` is the number behind them
@@ -25,6 +31,16 @@ pub record Emits (file : ℕ) (old new : List Stmt) (first next : ℕ) (code : L
 abbrev pub EmitsOne : (file : ℕ) → (old new : List Stmt) → (first next : ℕ) → Instruction → Type 0
 EmitsOne file old new first next i = Emits file old new first next (λ is. i ∷ is)
 
--- what a node of a file holds
-abbrev pub held : (file : ℕ) → TNode → Content
-held file n = in_content file n.value (content_of file n.content)
+-- Behind the old instructions are those of what each reader of code gives, with the numbers of their functions; or the fault is the first
+-- that each meets. Want of memory says nothing.
+abbrev pub EmitsBy : {A : Type 0} → (file : ℕ) → (old new : List Stmt) → (first next : ℕ) → (code : A → List Instruction → List Instruction) → Result (Unit {0}) Stop → Outcome A → Type 0
+EmitsBy {A} file old new first next code (Ok u) outcome = (x : A) × (outcome ≡ Ok x) × Emits file old new first next (code x)
+EmitsBy file old new first next code (Err (stop.Fault f)) outcome = outcome ≡ Err f
+EmitsBy file old new first next code (Err stop.Memory) outcome = Unit {0}
+
+abbrev pub EmitsCode : {A : Type 0} → (file : ℕ) → (old new : List Stmt) → (first next : ℕ) → (code : A → List Instruction → List Instruction) → Result (Unit {0}) Stop → (CodeReader → Outcome A) → Type 0
+EmitsCode file old new first next code result outcome = (r : CodeReader) → IsCodeReader r → EmitsBy file old new first next code result (outcome r)
+
+-- what stands in a node of a file: what is written there, or the value expression beside it
+abbrev pub content_in : (file : ℕ) → Option Expr → TContent → Content
+content_in file value written = in_content file value (content_of file written)

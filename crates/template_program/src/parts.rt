@@ -4,9 +4,9 @@ ghost use Rattle.std.specs.Prelude.{◌≡◌, ◌∷◌, OnOk, option_map, ℕ}
 ghost use Rattle.code_spec.specs.Program.{Instruction, begin_def, begin_elif, begin_for, begin_if};
 ghost use Rattle.star_tree.specs.View.{item_kind_of};
 ghost use Rattle.star_tree.specs.Whole.{expr_of, instruction_of, parameters_of};
-ghost use Rattle.template_tree.specs.View.{code_of, in_key, notes_of};
+ghost use Rattle.template_tree.specs.View.{code_of, notes_of};
 ghost use Rattle.template_program.specs.Emits.{Emits, EmitsOne, Numbered};
-ghost use Rattle.template_spec.specs.Compiled.{item_code, key_code, notes_code};
+ghost use Rattle.template_spec.specs.Compiled.{item_code, notes_code};
 ghost use Rattle.ytt_base.specs.Outcomes.{place_at};
 
 use sqlite_items::{Boxed, Items};
@@ -17,7 +17,6 @@ use std::alloc::Global;
 use template_tree::TNotes;
 use ytt_base::fault::Place;
 use ytt_base::text::{Memory, Text};
-use ytt_base::tree::Key;
 
 /// Puts an instruction, which has its numbers, behind the others.
 pub(crate) fn put(code: &mut Items<Stmt>, stmt: Stmt) -> Result<(), Memory>
@@ -47,16 +46,6 @@ pub(crate) fn put_notes(
         put(code, Stmt::Node(NodeOp::Note(place, name, args)))?;
     }
     Ok(())
-}
-
-/// Puts the key of a pair behind the instructions, where the node has one.
-pub(crate) fn put_key(place: Place, key: Option<Key>, code: &mut Items<Stmt>) -> Result<(), Memory>
-    ensures { (file next : ℕ) → OnOk result (Emits file code.old code.new next next (key_code place (in_key key))) }
-{
-    match key {
-        Some(written) => put(code, Stmt::Node(NodeOp::Key(place, written))),
-        None => Ok(()),
-    }
 }
 
 /// Puts a simple statement behind the instructions, and for what is none, one that does nothing.

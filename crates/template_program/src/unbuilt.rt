@@ -2,16 +2,13 @@
 ghost use Rattle.std.specs.Prelude.{◌≡◌, [], None};
 ghost use Rattle.template_tree.specs.View.{branches_of, content_of, in_content, item_of, items_of, node_of, notes_of, template_of};
 ghost use Rattle.star_unbuilt.specs.Places.{earlier};
-ghost use Rattle.template_spec.specs.Template.{has_nodes as plain_nodes};
-ghost use Rattle.passes_spec.specs.Unbuilt.{first_unbuilt as plain_first, unbuilt_branches, unbuilt_content, unbuilt_function, unbuilt_item, unbuilt_items, unbuilt_notes};
-ghost use Rattle.ytt_base.specs.Outcomes.{place_at};
+ghost use Rattle.passes_spec.specs.Unbuilt.{first_unbuilt as plain_first, unbuilt_branches, unbuilt_content, unbuilt_item, unbuilt_items, unbuilt_notes};
 
-use crate::holds::has_nodes;
-use star_unbuilt::{see, see_load};
+use star_unbuilt::{see_load, see_note};
 use template_tree::{TContent, TElif, TElifs, TElse, TItem, TItems, TNode, TNotes, Template};
 use ytt_base::fault::Place;
 
-/// Sees where notes stand.
+/// Sees which notes aren't built.
 fn see_notes(file: u32, notes: &TNotes, first: &mut Option<Place>)
     ensures { first.new ≡ earlier first.old (unbuilt_notes (notes_of file notes.now)) }
 {
@@ -20,16 +17,7 @@ fn see_notes(file: u32, notes: &TNotes, first: &mut Option<Place>)
             file,
             line: note.line,
         };
-        see(place, first);
-    }
-}
-
-/// Sees where a function begins, if it builds items.
-fn see_function(file: u32, line: u32, body: &TItems, first: &mut Option<Place>)
-    ensures { first.new ≡ earlier first.old (unbuilt_function (place_at file line) (plain_nodes (items_of file body.now))) }
-{
-    if has_nodes(body) {
-        see(Place { file, line }, first);
+        see_note(place, note.name.as_str(), first);
     }
 }
 
@@ -58,11 +46,7 @@ fn see_item(file: u32, item: &TItem, first: &mut Option<Place>)
             see_elifs(file, elifs, first);
             see_else(file, last, first);
         }
-        TItem::For(_, _, _, body) => see_items(file, body, first),
-        TItem::Def(place, _, _, _, body) => {
-            see_function(file, place.line, body, first);
-            see_items(file, body, first);
-        }
+        TItem::For(_, _, _, body) | TItem::Def(_, _, _, _, body) => see_items(file, body, first),
     }
 }
 

@@ -57,7 +57,7 @@ branches_of-last file bs b last =
     ∙ in_turn-last (each (elif_of file) bs) (elif_of file b) (or_nothing (option_map (else_of file) last))
     ∙ ap (λ (f : Onward). f (branches_of file bs last)) (elif_of-elif file b)
 
-pub node_of-node : (file : ℕ) (n : TNode) → node_of file n ≡ node n.place (item_kind_of n.kind) (notes_of file n.notes) (in_key n.key) (in_content file n.value (content_of file n.content))
+pub node_of-node : (file : ℕ) (n : TNode) → node_of file n ≡ node (place_at file n.place.line) (item_kind_of n.kind) (notes_of file n.notes) (in_key n.key) (in_content file n.value (content_of file n.content))
 node_of-node file n = search (rules, the_lemmas)
 
 pub content_of-Scalar : (file : ℕ) (k : Key) → content_of file (content.Scalar k) ≡ written_value (key_of k)

@@ -58,7 +58,7 @@ abbrev pub or_nothing : Option Branches → Branches
 or_nothing None = no_branch
 or_nothing (Some b) = b
 
--- ---- one level, where each item, each content and what follows a branch is seen already; a block stands in the file of its code
+-- ---- one level, where each item, each content and what follows a branch is seen already; items and blocks stand in the file of their code
 
 abbrev pub content_step : TContent-F Content Item Onward Branches Item → Content
 content_step (TContent-F.Scalar k) = written_value (key_of k)
@@ -79,7 +79,7 @@ abbrev pub else_step : (file : ℕ) → TElse-F Content Item Onward Branches Ite
 else_step file b = else_branch (place_at file b.place.line) (in_items b.body)
 
 abbrev pub node_step : (file : ℕ) → TNode-F Content Item Onward Branches Item → Item
-node_step file n = node n.place (item_kind_of n.kind) (notes_of file n.notes) (in_key n.key) (in_content file n.value n.content)
+node_step file n = node (place_at file n.place.line) (item_kind_of n.kind) (notes_of file n.notes) (in_key n.key) (in_content file n.value n.content)
 
 -- ---- all levels, in a file of this number
 

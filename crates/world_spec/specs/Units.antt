@@ -6,9 +6,8 @@ use Rattle.ytt_base.specs.Trees.{Trees}
 use Rattle.code_spec.specs.CodeReading.{CodeReader}
 use Rattle.file_spec.specs.Finding.{FoundFile}
 use Rattle.file_spec.specs.Names.{is_star, is_yaml_library}
-use Rattle.template_spec.specs.Nesting.{placed_whole}
 use Rattle.template_spec.specs.Numbered.{numbered}
-use Rattle.passes_spec.specs.Passes.{all_built, bound}
+use Rattle.passes_spec.specs.Passes.{all_built, bound, template_passed}
 use Rattle.template_spec.specs.Template.{Items, no_items}
 use Rattle.yaml_spec.specs.Noted.{Documents, has_code}
 use Rattle.yaml_spec.specs.Read.{Read, plain_trees}
@@ -31,7 +30,7 @@ pub record FileUnit : Type 0 where
 
 -- ---- reading a unit
 
--- the last passes, over a file of code as over a template: names, and what isn't built yet
+-- the last passes over a file of code: names, and what isn't built yet
 abbrev pub passed : Items → Outcome Items
 passed t = bound t >>= all_built
 
@@ -47,7 +46,7 @@ plain_source name ds = if is_yaml_library name then Ok (code no_items) else (pla
 
 -- the items of a template, whose functions have their numbers
 abbrev pub template_items : CodeReader → (ignore_unknown : Bool) → (number : ℕ) → Documents → Outcome Items
-template_items r ignore n ds = placed_whole r ignore n ds >>= passed >>= (λ t. Ok (numbered t))
+template_items r ignore n ds = template_passed r ignore n ds >>= (λ t. Ok (numbered t))
 
 -- those of a file of code
 abbrev pub code_items : CodeReader → (number : ℕ) → (bytes : List ℕ) → Outcome Items

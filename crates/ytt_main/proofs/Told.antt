@@ -1,5 +1,5 @@
 -- What a run tells, of what was found out and what was written for it.
-use Rattle.std.proofs.Common.{◌≡◌, ◌≢◌, ℕ, List, [], Option, Some, None, IfSome, ap, inl, inr, refl, sym, ◌∙◌}
+use Rattle.std.proofs.Common.{◌≡◌, ◌≢◌, ℕ, List, [], ◌∷◌, Option, Some, None, Ok, IfSome, ap, inl, inr, refl, sym, ◌∙◌}
 use Rattle.std.proofs.lemmas.List.{append-nil}
 use Rattle.ytt_base.specs.View.{trees_of}
 use Rattle.yaml_back.proofs.ReadsBack.{reads_alone}
@@ -10,7 +10,12 @@ use Rattle.ytt_spec.proofs.PrintedMeans.{printed_means}
 use Rattle.ytt_spec.specs.Due.{Due, IsDue, done, fault, usage}
 use Rattle.ytt_main.specs.Answers.{Answers}
 use Rattle.ytt_main.specs.Endings.{Ends, HasWritten, IsDueLine, IsUntouched}
-use Rattle.ytt_main.specs.Found.{Found}
+use Rattle.compile_spec.specs.Compiling.{items_asked, listing_of}
+use Rattle.file_spec.specs.Names.{last_part}
+use Rattle.star_grammar.specs.CodeReaders.{MeansCode}
+use Rattle.ytt_spec.specs.Meaning.{Means, a_listing, documents, named_in, produced}
+use Rattle.ytt_spec.specs.Words.{compile}
+use Rattle.ytt_main.specs.Found.{Found, IsDueText, IsListing, IsMeant}
 use Rattle.ytt_main.specs.Headline.{GivesDue, IsWhole, Meets, NothingFailed}
 use Rattle.ytt_main.specs.Seen.{Files, Sink}
 use Rattle.ytt_main.specs.Written.{Written, WrittenLine}
@@ -26,6 +31,17 @@ grown-nothing (Some bytes) = ap Some (sym (append-nil bytes))
 
 untouched : (s : Sink) → IsUntouched s → Grows s.held_before s.held_now []
 untouched s u = u.same_bytes ∙ grown-nothing s.held_before
+
+-- a listing is what its request means
+listing_meant : (words : List (List ℕ)) (files : Files) (text : List ℕ) → IsListing words files text → IsMeant words files (Ok (a_listing text))
+listing_meant words files text f = record { command = compile f.asked; request = f.request; means = by files.tree f.found; none_failed = f.none_failed }
+  where
+    by : (t : Option (List ℕ → Standing)) → IfSome t (λ tree. MeansCode (λ r. (items_asked r f.asked.ignore_unknown f.asked.path tree).outcome) (Ok f.items)) → IfSome t (λ tree. Means (compile f.asked) tree (Ok (a_listing text)))
+    by None h = tt
+    by (Some tree) h = λ r reads. ap (λ o. produced (λ t. a_listing (listing_of t)) (named_in (last_part f.asked.path ∷ []) o)) (h r reads) ∙ (λ i. Ok (a_listing (sym f.text_is i)))
+
+listing_due : (words : List (List ℕ)) (files : Files) (text : List ℕ) → IsListing words files text → IsDueText words files text
+listing_due words files text f = record { produced = a_listing text; meant = listing_meant words files text f; text_is = refl }
 
 module _ (words : List (List ℕ)) (files : Files) (out err : Sink) where
   -- what is due was given
@@ -57,6 +73,12 @@ module _ (words : List (List ℕ)) (files : Files) (out err : Sink) where
   headline (answer.Documents trees) status.Usage f told w = absurd w
   headline (answer.Documents trees) status.ReadFault f told w = absurd w
   headline (answer.Documents trees) status.Memory f told w = absurd w
+  headline (answer.Listing text) status.Done f told w = due_given status.Done (done text) told (record { status_is = refl; out_grew = w.0.grew; err_grew = untouched err w.1 })
+  headline (answer.Listing text) status.WriteFault f told w = excused status.WriteFault (λ n k. n.1 w.0.rose)
+  headline (answer.Listing text) status.Fault f told w = absurd w
+  headline (answer.Listing text) status.Usage f told w = absurd w
+  headline (answer.Listing text) status.ReadFault f told w = absurd w
+  headline (answer.Listing text) status.Memory f told w = absurd w
   headline (answer.Fault line) s f told w = line_due (fault line) status.Fault s line told (λ g. record { status_is = refl; out_grew = untouched out w.1; err_grew = g }) w.0
   headline (answer.Usage line) s f told w = line_due (usage line) status.Usage s line told (λ g. record { status_is = refl; out_grew = untouched out w.1; err_grew = g }) w.0
   headline (answer.ReadFailed line) s f told w = excused s (λ n k. n.0 f.rose)
@@ -69,18 +91,24 @@ module _ (words : List (List ℕ)) (files : Files) (out err : Sink) where
 
   -- each ending has its cause and shows it
   pub ending : (a : Answer) (s : Status) → Found words files a → Written a s out err → Ends s words files out err
-  ending (answer.Documents trees) status.Done f w = record { documents = trees_of trees; found = f.0; written = w.0; reads_back = reads_alone _ f.1 f.2; renders_itself = printed_means _ f.1 f.2; silent = w.1 }
-  ending (answer.Documents trees) status.WriteFault f w = inl (record { documents = trees_of trees; found = f.0; failed = w.0; tried = w.1 })
+  ending (answer.Documents trees) status.Done f w = inl (record { documents = trees_of trees; found = f.0; written = w.0; reads_back = reads_alone _ f.1 f.2; renders_itself = printed_means _ f.1 f.2; silent = w.1 })
+  ending (answer.Documents trees) status.WriteFault f w = inl (record { text = Text (trees_of trees); found = record { produced = documents (trees_of trees); meant = f.0; text_is = refl }; failed = w.0; tried = w.1 })
   ending (answer.Documents trees) status.Fault f w = absurd w
   ending (answer.Documents trees) status.Usage f w = absurd w
   ending (answer.Documents trees) status.ReadFault f w = absurd w
   ending (answer.Documents trees) status.Memory f w = absurd w
+  ending (answer.Listing text) status.Done f w = inr (record { listing = text; found = f; written = w.0; silent = w.1 })
+  ending (answer.Listing text) status.WriteFault f w = inl (record { text = text; found = listing_due words files text f; failed = w.0; tried = w.1 })
+  ending (answer.Listing text) status.Fault f w = absurd w
+  ending (answer.Listing text) status.Usage f w = absurd w
+  ending (answer.Listing text) status.ReadFault f w = absurd w
+  ending (answer.Listing text) status.Memory f w = absurd w
   ending (answer.Fault line) s f w = line_ends status.Fault s line (inl f) (λ h. record { line = line; found = f; written = h; silent = w.1 }) w.0 w.1
   ending (answer.Usage line) s f w = line_ends status.Usage s line (inr (inl f)) (λ h. record { line = line; found = f; written = h; silent = w.1 }) w.0 w.1
   ending (answer.ReadFailed line) s f w = line_ends status.ReadFault s line (inr (inr f)) (λ h. record { line = line; found = f; written = h; silent = w.1 }) w.0 w.1
   ending answer.Memory s f w = rw w.0 (record { tried = w.1; silent = w.2 })
 
-  -- only documents are written to `out`
+  -- only documents and listings are written to `out`
   pub out_untouched : (a : Answer) (s : Status) → Written a s out err → s ≢ status.Done → s ≢ status.WriteFault → IsUntouched out
   out_untouched (answer.Documents trees) status.Done w n m = absurd (n refl)
   out_untouched (answer.Documents trees) status.WriteFault w n m = absurd (m refl)
@@ -88,6 +116,12 @@ module _ (words : List (List ℕ)) (files : Files) (out err : Sink) where
   out_untouched (answer.Documents trees) status.Usage w n m = absurd w
   out_untouched (answer.Documents trees) status.ReadFault w n m = absurd w
   out_untouched (answer.Documents trees) status.Memory w n m = absurd w
+  out_untouched (answer.Listing text) status.Done w n m = absurd (n refl)
+  out_untouched (answer.Listing text) status.WriteFault w n m = absurd (m refl)
+  out_untouched (answer.Listing text) status.Fault w n m = absurd w
+  out_untouched (answer.Listing text) status.Usage w n m = absurd w
+  out_untouched (answer.Listing text) status.ReadFault w n m = absurd w
+  out_untouched (answer.Listing text) status.Memory w n m = absurd w
   out_untouched (answer.Fault line) s w n m = w.1
   out_untouched (answer.Usage line) s w n m = w.1
   out_untouched (answer.ReadFailed line) s w n m = w.1
@@ -100,6 +134,7 @@ module _ (words : List (List ℕ)) (files : Files) (out err : Sink) where
   -- no failure of the files is passed over
   pub files_whole : (a : Answer) (s : Status) → Found words files a → Written a s out err → IsWhole s → files.faults_now ≡ files.faults_before
   files_whole (answer.Documents trees) s f w whole = f.0.none_failed
+  files_whole (answer.Listing text) s f w whole = f.none_failed
   files_whole (answer.Fault line) s f w whole = f.meant.none_failed
   files_whole (answer.Usage line) s f w whole = f.none_failed
   files_whole (answer.ReadFailed line) s f w whole = read_line_whole s line w.0 whole
@@ -113,6 +148,12 @@ module _ (words : List (List ℕ)) (files : Files) (out err : Sink) where
   out_whole (answer.Documents trees) status.Usage w e = absurd w
   out_whole (answer.Documents trees) status.ReadFault w e = absurd w
   out_whole (answer.Documents trees) status.Memory w e = absurd w
+  out_whole (answer.Listing text) status.Done w e = w.0.same_count
+  out_whole (answer.Listing text) status.WriteFault w e = cc
+  out_whole (answer.Listing text) status.Fault w e = absurd w
+  out_whole (answer.Listing text) status.Usage w e = absurd w
+  out_whole (answer.Listing text) status.ReadFault w e = absurd w
+  out_whole (answer.Listing text) status.Memory w e = absurd w
   out_whole (answer.Fault line) s w e = w.1.same_count
   out_whole (answer.Usage line) s w e = w.1.same_count
   out_whole (answer.ReadFailed line) s w e = w.1.same_count

@@ -8,7 +8,7 @@ use Rattle.yaml_spec.specs.Text.{Text}
 use Rattle.ytt_spec.specs.Due.{out_of_memory_line, write_failed_line}
 use Rattle.ytt_spec.specs.Meaning.{TextMeans}
 use Rattle.world_spec.specs.Parts.{Budget}
-use Rattle.ytt_main.specs.Found.{AreMeant, IsFaultLine, IsReadLine, IsUsageLine}
+use Rattle.ytt_main.specs.Found.{AreMeant, IsDueText, IsFaultLine, IsListing, IsReadLine, IsUsageLine}
 use Rattle.ytt_main.specs.Seen.{Files, Sink}
 use Rattle.ytt_main.specs.declared.run.Status.{Status}
 use Rattle.ytt_main.specs.declared.run.Status.TheVariants as status
@@ -45,6 +45,13 @@ pub record IsDone (words : List (List ℕ)) (files : Files) (out err : Sink) : T
   pub renders_itself : (ignore_unknown : Bool) (budget : Budget) → TextMeans ignore_unknown budget (Text documents) (Ok documents)
   pub silent : IsUntouched err
 
+-- The listing that is asked for is on `out`: it is that of a program which runs as the file's items are built.
+pub record IsListed (words : List (List ℕ)) (files : Files) (out err : Sink) : Type 0 where
+  pub listing : List ℕ
+  pub found : IsListing words files listing
+  pub written : HasWritten out listing
+  pub silent : IsUntouched err
+
 -- A line is due on `err` by this cause, and it has the line.
 pub record HasLine (IsDueLine : List ℕ → Type 0) (out err : Sink) : Type 0 where
   pub line : List ℕ
@@ -52,15 +59,15 @@ pub record HasLine (IsDueLine : List ℕ → Type 0) (out err : Sink) : Type 0 w
   pub written : HasWritten err line
   pub silent : IsUntouched out
 
--- the line that is due on `err` where no documents are due on `out`
+-- the line that is due on `err` where nothing is due on `out`
 abbrev pub IsDueLine : List (List ℕ) → Files → List ℕ → Type 0
 IsDueLine words files line = IsFaultLine words files line ⊎ (IsUsageLine words files line ⊎ IsReadLine words files line)
 
--- `out` failed where documents are meant: it has a front of their text, and the line was tried on `err`
+-- `out` failed where documents or a listing are meant: it has a front of their text, and the line was tried on `err`
 pub record OutFailed (words : List (List ℕ)) (files : Files) (out err : Sink) : Type 0 where
-  pub documents : Trees
-  pub found : AreMeant words files documents
-  pub failed : HasFailed out (Text documents)
+  pub text : List ℕ
+  pub found : IsDueText words files text
+  pub failed : HasFailed out text
   pub tried : HasTried err write_failed_line
 
 -- `err` failed where another line is due: it has a front of it, and nothing more was tried
@@ -77,7 +84,7 @@ pub record IsMemory (out err : Sink) : Type 0 where
 
 -- What a run with this status comes from, and what it leaves.
 abbrev pub Ends : Status → (words : List (List ℕ)) → Files → (out err : Sink) → Type 0
-Ends status.Done words files out err = IsDone words files out err
+Ends status.Done words files out err = IsDone words files out err ⊎ IsListed words files out err
 Ends status.Fault words files out err = HasLine (IsFaultLine words files) out err
 Ends status.Usage words files out err = HasLine (IsUsageLine words files) out err
 Ends status.ReadFault words files out err = HasLine (IsReadLine words files) out err

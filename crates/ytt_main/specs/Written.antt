@@ -11,11 +11,14 @@ use Rattle.ytt_main.specs.declared.answer.Answer.TheVariants as answer
 use Rattle.ytt_main.specs.declared.run.Status.{Status}
 use Rattle.ytt_main.specs.declared.run.Status.TheVariants as status
 
--- the text of the documents is written to `out`, with Done; or a front of it, with WriteFault, and then a line is tried on `err`
+-- a text is written to `out`, with Done; or a front of it, with WriteFault, and then a line is tried on `err`
+abbrev pub WrittenText : List ℕ → Status → (out err : Sink) → Type 0
+WrittenText text status.Done out err = HasWritten out text × IsUntouched err
+WrittenText text status.WriteFault out err = HasFailed out text × HasTried err write_failed_line
+WrittenText text _ out err = ⊥
+
 abbrev pub WrittenDocuments : Trees → Status → (out err : Sink) → Type 0
-WrittenDocuments documents status.Done out err = HasWritten out (Text documents) × IsUntouched err
-WrittenDocuments documents status.WriteFault out err = HasFailed out (Text documents) × HasTried err write_failed_line
-WrittenDocuments documents _ out err = ⊥
+WrittenDocuments documents s out err = WrittenText (Text documents) s out err
 
 -- the line is written to `err`, with this status; or a front of it, with WriteFault
 abbrev pub WrittenLine : List ℕ → (whole : Status) → Status → (err : Sink) → Type 0
@@ -24,6 +27,7 @@ WrittenLine line whole s err = ((s ≡ whole) × HasWritten err line) ⊎ ((s �
 -- the answer alone is written
 abbrev pub Written : Answer → Status → (out err : Sink) → Type 0
 Written (answer.Documents trees) s out err = WrittenDocuments (trees_of trees) s out err
+Written (answer.Listing text) s out err = WrittenText text s out err
 Written (answer.Fault line) s out err = WrittenLine line status.Fault s err × IsUntouched out
 Written (answer.Usage line) s out err = WrittenLine line status.Usage s err × IsUntouched out
 Written (answer.ReadFailed line) s out err = WrittenLine line status.ReadFault s err × IsUntouched out

@@ -13,7 +13,7 @@ use ytt_outside::sink::Sink;
 /// How a run ended.
 #[derive(Clone, Copy, PartialEq, Eq)]
 pub enum Status {
-    /// The documents are written.
+    /// The documents are written, or the listing.
     Done,
     /// What the words ask for means a fault.
     Fault,
@@ -48,12 +48,12 @@ impl Status {
 }
 
 /// All that the program does: it reads the words, which are the command line without the program's
-/// name, and the files that they ask for, and then writes the documents to `out`, or one line to
-/// `err`.
+/// name, and the files that they ask for, and then writes the documents or the listing to `out`, or one
+/// line to `err`.
 ///
 /// | Status | It comes | `err` gets |
 /// |---|---|---|
-/// | Done | where the request means documents, which `out` gets | nothing |
+/// | Done | where the request means documents or a listing, which `out` gets | nothing |
 /// | Fault | where it means that fault | `error: KIND at FILE:LINE: DETAIL` |
 /// | Usage | where the words are no request | `error: usage at word N` |
 /// | ReadFault | where the files failed | `error: read failed: PATH` |
@@ -75,7 +75,7 @@ pub fn ytt_main<F: Files, O: Sink, E: Sink>(
     ensures ending { Ends result (map string_bytes words.now) (seen_files F.tree F.faults files.old files.new)
         (seen_sink O.held O.faults out.old out.new) (seen_sink E.held E.faults err.old err.new) }
 
-    // So only documents are written to `out`, and no failure is passed over.
+    // So only documents and listings are written to `out`, and no failure is passed over.
     ensures out_unchanged { result ≢ Status.Done → result ≢ Status.WriteFault → O.held out.new ≡ O.held out.old }
     ensures out_count_unchanged { result ≢ Status.Done → result ≢ Status.WriteFault → O.faults out.new ≡ O.faults out.old }
     ensures files_whole { IsWhole result → F.faults files.new ≡ F.faults files.old }

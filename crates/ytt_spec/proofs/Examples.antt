@@ -22,6 +22,7 @@ use Rattle.template_spec.specs.Comments.{comment_said}
 use Rattle.template_spec.specs.Events.{events}
 use Rattle.template_spec.specs.Misplaced.{placing_fault}
 use Rattle.template_spec.specs.Nesting.{placed_whole}
+use Rattle.text_template_spec.specs.TextTemplates.{with_texts}
 use Rattle.ytt_base.specs.declared.fault.Place.{Place}
 use Rattle.ytt_base.specs.Outcomes.{place_at}
 use Rattle.ytt_outside.specs.Standing.{Standing, nothing, file, folder}
@@ -204,16 +205,16 @@ abbrev one : Expr
 one = int (place_at 1 1) (pos 1)
 
 three_steps : (r : CodeReader) → r.expr (place_at 1 1) (codes "1") ≡ Ok one → steps_over r (codes "a: #@ 1\n") (codes "3") ≡ done (codes "a: 1\n")
-unfolding units_meaning digits chars encode is_utf8 cut lines_of checked Lines form plain fold_parts single double parts Quote header body block_text Block start_fault span further plain_lines gap flow_key elements pair_value pairs flow_scalar flow noted ended value key_at heads_of row_at taken rows cut_after content_of entry_content entry entry_at entries Doc segments explicit read_ended documents implicit Read distinct fits_plain fits_literal comment_said events placing_fault placed_whole
+unfolding units_meaning digits chars encode is_utf8 cut lines_of checked Lines form plain fold_parts single double parts Quote header body block_text Block start_fault span further plain_lines gap flow_key elements pair_value pairs flow_scalar flow noted ended value key_at heads_of row_at taken rows cut_after content_of entry_content entry entry_at entries Doc segments explicit read_ended documents implicit Read distinct fits_plain fits_literal comment_said events placing_fault placed_whole with_texts
 three_steps r read = rw read refl
 
 two_steps : (r : CodeReader) → r.expr (place_at 1 1) (codes "1") ≡ Ok one → steps_over r (codes "a: #@ 1\n") (codes "2") ≡ fault (codes "error: Steps at a.yml:1\n")
-unfolding units_meaning digits chars encode is_utf8 cut lines_of checked Lines form plain fold_parts single double parts Quote header body block_text Block start_fault span further plain_lines gap flow_key elements pair_value pairs flow_scalar flow noted ended value key_at heads_of row_at taken rows cut_after content_of entry_content entry entry_at entries Doc segments explicit read_ended documents implicit Read distinct fits_plain fits_literal comment_said events placing_fault placed_whole
+unfolding units_meaning digits chars encode is_utf8 cut lines_of checked Lines form plain fold_parts single double parts Quote header body block_text Block start_fault span further plain_lines gap flow_key elements pair_value pairs flow_scalar flow noted ended value key_at heads_of row_at taken rows cut_after content_of entry_content entry entry_at entries Doc segments explicit read_ended documents implicit Read distinct fits_plain fits_literal comment_said events placing_fault placed_whole with_texts
 two_steps r read = rw read refl
 
 no_divisor : (r : CodeReader) → r.expr (place_at 1 1) (codes "1 // 0") ≡ Ok (binary (place_at 1 1) floor_division one (int (place_at 1 1) (pos 0)))
     → due_of r (codes "a: #@ 1 // 0\n") ≡ fault (codes "error: DivideZero at a.yml:1\n")
-unfolding units_meaning digits chars encode is_utf8 cut lines_of checked Lines form plain fold_parts single double parts Quote header body block_text Block start_fault span further plain_lines gap flow_key elements pair_value pairs flow_scalar flow noted ended value key_at heads_of row_at taken rows cut_after content_of entry_content entry entry_at entries Doc segments explicit read_ended documents implicit Read distinct fits_plain fits_literal comment_said events placing_fault placed_whole
+unfolding units_meaning digits chars encode is_utf8 cut lines_of checked Lines form plain fold_parts single double parts Quote header body block_text Block start_fault span further plain_lines gap flow_key elements pair_value pairs flow_scalar flow noted ended value key_at heads_of row_at taken rows cut_after content_of entry_content entry entry_at entries Doc segments explicit read_ended documents implicit Read distinct fits_plain fits_literal comment_said events placing_fault placed_whole with_texts
 no_divisor r read = rw read refl
 
 -- a toy reader, which takes each code as a 1
@@ -222,29 +223,29 @@ ones = record { expr = λ p t. Ok (int p (pos 1)); args = λ p t. Ok no_exprs; s
 
 -- lists are built, with what stands in them
 builds_list : due_of ones (codes "a:\n- #@ 1\n- [2]\n") ≡ done (codes "a:\n- 1\n- - 2\n")
-unfolding units_meaning digits chars encode is_utf8 cut lines_of checked Lines form plain fold_parts single double parts Quote header body block_text Block start_fault span further plain_lines gap flow_key elements pair_value pairs flow_scalar flow noted ended value key_at heads_of row_at taken rows cut_after content_of entry_content entry entry_at entries Doc segments explicit read_ended documents implicit Read distinct fits_plain fits_literal comment_said events placing_fault placed_whole
+unfolding units_meaning digits chars encode is_utf8 cut lines_of checked Lines form plain fold_parts single double parts Quote header body block_text Block start_fault span further plain_lines gap flow_key elements pair_value pairs flow_scalar flow noted ended value key_at heads_of row_at taken rows cut_after content_of entry_content entry entry_at entries Doc segments explicit read_ended documents implicit Read distinct fits_plain fits_literal comment_said events placing_fault placed_whole with_texts
 builds_list = refl
 
 unknown_note : (r : CodeReader) → due_of r (codes "a: 1 #@x\n") ≡ fault (codes "error: NoteUnknown at a.yml:1: x\n")
-unfolding units_meaning digits chars encode is_utf8 cut lines_of checked Lines form plain fold_parts single double parts Quote header body block_text Block start_fault span further plain_lines gap flow_key elements pair_value pairs flow_scalar flow noted ended value key_at heads_of row_at taken rows cut_after content_of entry_content entry entry_at entries Doc segments explicit read_ended documents implicit Read distinct fits_plain fits_literal comment_said events placing_fault placed_whole
+unfolding units_meaning digits chars encode is_utf8 cut lines_of checked Lines form plain fold_parts single double parts Quote header body block_text Block start_fault span further plain_lines gap flow_key elements pair_value pairs flow_scalar flow noted ended value key_at heads_of row_at taken rows cut_after content_of entry_content entry entry_at entries Doc segments explicit read_ended documents implicit Read distinct fits_plain fits_literal comment_said events placing_fault placed_whole with_texts
 unknown_note r = refl
 
 unknown_name : (r : CodeReader) → r.expr (place_at 1 1) (codes "x") ≡ Ok (name (place_at 1 1) (codes "x")) → due_of r (codes "a: #@ x\n") ≡ fault (codes "error: NameUnknown at a.yml:1: x\n")
-unfolding units_meaning digits chars encode is_utf8 cut lines_of checked Lines form plain fold_parts single double parts Quote header body block_text Block start_fault span further plain_lines gap flow_key elements pair_value pairs flow_scalar flow noted ended value key_at heads_of row_at taken rows cut_after content_of entry_content entry entry_at entries Doc segments explicit read_ended documents implicit Read distinct fits_plain fits_literal comment_said events placing_fault placed_whole
+unfolding units_meaning digits chars encode is_utf8 cut lines_of checked Lines form plain fold_parts single double parts Quote header body block_text Block start_fault span further plain_lines gap flow_key elements pair_value pairs flow_scalar flow noted ended value key_at heads_of row_at taken rows cut_after content_of entry_content entry entry_at entries Doc segments explicit read_ended documents implicit Read distinct fits_plain fits_literal comment_said events placing_fault placed_whole with_texts
 unknown_name r read = rw read refl
 
 -- a function of the language is a value, which isn't YAML
 known_name : (r : CodeReader) → r.expr (place_at 1 1) (codes "len") ≡ Ok (name (place_at 1 1) (codes "len")) → due_of r (codes "a: #@ len\n") ≡ fault (codes "error: NotYaml at a.yml:1\n")
-unfolding units_meaning digits chars encode is_utf8 cut lines_of checked Lines form plain fold_parts single double parts Quote header body block_text Block start_fault span further plain_lines gap flow_key elements pair_value pairs flow_scalar flow noted ended value key_at heads_of row_at taken rows cut_after content_of entry_content entry entry_at entries Doc segments explicit read_ended documents implicit Read distinct fits_plain fits_literal comment_said events placing_fault placed_whole
+unfolding units_meaning digits chars encode is_utf8 cut lines_of checked Lines form plain fold_parts single double parts Quote header body block_text Block start_fault span further plain_lines gap flow_key elements pair_value pairs flow_scalar flow noted ended value key_at heads_of row_at taken rows cut_after content_of entry_content entry entry_at entries Doc segments explicit read_ended documents implicit Read distinct fits_plain fits_literal comment_said events placing_fault placed_whole with_texts
 known_name r read = rw read refl
 
 -- a comment that says nothing known is refused in a template, unless it is asked to be ignored
 plain_comment : (r : CodeReader) → due_of r (codes "a: 1 # x\nb: 2 #@ 1\n") ≡ fault (codes "error: PlainComment at a.yml:1\n")
-unfolding units_meaning digits chars encode is_utf8 cut lines_of checked Lines form plain fold_parts single double parts Quote header body block_text Block start_fault span further plain_lines gap flow_key elements pair_value pairs flow_scalar flow noted ended value key_at heads_of row_at taken rows cut_after content_of entry_content entry entry_at entries Doc segments explicit read_ended documents implicit Read distinct fits_plain fits_literal comment_said events placing_fault placed_whole
+unfolding units_meaning digits chars encode is_utf8 cut lines_of checked Lines form plain fold_parts single double parts Quote header body block_text Block start_fault span further plain_lines gap flow_key elements pair_value pairs flow_scalar flow noted ended value key_at heads_of row_at taken rows cut_after content_of entry_content entry entry_at entries Doc segments explicit read_ended documents implicit Read distinct fits_plain fits_literal comment_said events placing_fault placed_whole with_texts
 plain_comment r = refl
 
 ignored_comment : due_over ones (file (codes "a: 1 # x\nb: #@ 1\n")) (codes "-f" ∷ codes "a.yml" ∷ codes "--ignore-unknown-comments" ∷ []) ≡ done (codes "a: 1\nb: 1\n")
-unfolding units_meaning digits chars encode is_utf8 cut lines_of checked Lines form plain fold_parts single double parts Quote header body block_text Block start_fault span further plain_lines gap flow_key elements pair_value pairs flow_scalar flow noted ended value key_at heads_of row_at taken rows cut_after content_of entry_content entry entry_at entries Doc segments explicit read_ended documents implicit Read distinct fits_plain fits_literal comment_said events placing_fault placed_whole
+unfolding units_meaning digits chars encode is_utf8 cut lines_of checked Lines form plain fold_parts single double parts Quote header body block_text Block start_fault span further plain_lines gap flow_key elements pair_value pairs flow_scalar flow noted ended value key_at heads_of row_at taken rows cut_after content_of entry_content entry entry_at entries Doc segments explicit read_ended documents implicit Read distinct fits_plain fits_literal comment_said events placing_fault placed_whole with_texts
 ignored_comment = refl
 
 -- a file without code takes no steps
@@ -280,14 +281,14 @@ toy = record {
 }
 
 elements_from_loop : due_of toy (codes "list:\n#@ for n in (\"a\", \"b\"):\n- #@ n\n#@ end\n") ≡ done (codes "list:\n- a\n- b\n")
-unfolding units_meaning digits chars encode is_utf8 cut lines_of checked Lines form plain fold_parts single double parts Quote header body block_text Block start_fault span further plain_lines gap flow_key elements pair_value pairs flow_scalar flow noted ended value key_at heads_of row_at taken rows cut_after content_of entry_content entry entry_at entries Doc segments explicit read_ended documents implicit Read distinct fits_plain fits_literal comment_said events placing_fault placed_whole
+unfolding units_meaning digits chars encode is_utf8 cut lines_of checked Lines form plain fold_parts single double parts Quote header body block_text Block start_fault span further plain_lines gap flow_key elements pair_value pairs flow_scalar flow noted ended value key_at heads_of row_at taken rows cut_after content_of entry_content entry entry_at entries Doc segments explicit read_ended documents implicit Read distinct fits_plain fits_literal comment_said events placing_fault placed_whole with_texts
 elements_from_loop = refl
 
 -- the second turn gives the first one's key
 key_from_loop : due_of toy (codes "#@ for i in (0, 1):\nk: #@ i\n#@ end\n") ≡ fault (codes "error: KeyTwice at a.yml:2: k\n")
-unfolding units_meaning digits chars encode is_utf8 cut lines_of checked Lines form plain fold_parts single double parts Quote header body block_text Block start_fault span further plain_lines gap flow_key elements pair_value pairs flow_scalar flow noted ended value key_at heads_of row_at taken rows cut_after content_of entry_content entry entry_at entries Doc segments explicit read_ended documents implicit Read distinct fits_plain fits_literal comment_said events placing_fault placed_whole
+unfolding units_meaning digits chars encode is_utf8 cut lines_of checked Lines form plain fold_parts single double parts Quote header body block_text Block start_fault span further plain_lines gap flow_key elements pair_value pairs flow_scalar flow noted ended value key_at heads_of row_at taken rows cut_after content_of entry_content entry entry_at entries Doc segments explicit read_ended documents implicit Read distinct fits_plain fits_literal comment_said events placing_fault placed_whole with_texts
 key_from_loop = refl
 
 second_branch : due_of toy (codes "#@ x = 2\n#@ if x == 1:\na: 1\n#@ elif x == 2:\na: 2\n#@ else:\na: 3\n#@ end\n") ≡ done (codes "a: 2\n")
-unfolding units_meaning digits chars encode is_utf8 cut lines_of checked Lines form plain fold_parts single double parts Quote header body block_text Block start_fault span further plain_lines gap flow_key elements pair_value pairs flow_scalar flow noted ended value key_at heads_of row_at taken rows cut_after content_of entry_content entry entry_at entries Doc segments explicit read_ended documents implicit Read distinct fits_plain fits_literal comment_said events placing_fault placed_whole
+unfolding units_meaning digits chars encode is_utf8 cut lines_of checked Lines form plain fold_parts single double parts Quote header body block_text Block start_fault span further plain_lines gap flow_key elements pair_value pairs flow_scalar flow noted ended value key_at heads_of row_at taken rows cut_after content_of entry_content entry entry_at entries Doc segments explicit read_ended documents implicit Read distinct fits_plain fits_literal comment_said events placing_fault placed_whole with_texts
 second_branch = refl

@@ -24,12 +24,14 @@ use Rattle.template_spec.specs.Events.{Event, begins, beside, says, Path, events
 use Rattle.template_spec.specs.Misplaced.{placing_fault}
 use Rattle.template_spec.specs.Names.{items_names}
 use Rattle.template_spec.specs.Nesting.{Mark, Nested, broken, at_top, inside, Part, a_node, a_mark, around_one, block_of, content, events_at, key_part, last_branch, mark, marks, marks_at, nest, nest_said, next_branch, node_at, note_beside, notes_from, open_block, parts, placed_or, placed_whole, put, put_block, put_statements, template_of, value_beside, value_or, whole}
-use Rattle.passes_spec.specs.Passes.{all_built, bound, template_passed, unless_unbuilt, unless_unknown}
+use Rattle.passes_spec.specs.Passes.{all_built, bound, template_passed, texts_passed, unless_unbuilt, unless_unknown}
 use Rattle.template_spec.specs.Template.{Notes, no_notes, note, Item, node, code, if_block, for_block, def_block, Items, no_items, an_item, Branches, no_branch, else_branch, elif_branch, Content, written_value, value_from, pairs, elements, fragment_kind, has_nodes}
 use Rattle.passes_spec.specs.Unbuilt.{first_unbuilt, unbuilt_items}
 use Rattle.template_spec.specs.Uses.{items_uses}
 use Rattle.template_meaning.specs.Calls.{level_of}
 use Rattle.template_meaning.proofs.BuildKeeps.{HeldBranches, HeldContent, HeldItem, HeldItemKey, HeldItems, HeldNotes}
+use Rattle.text_template_spec.specs.TextTemplates.{with_texts}
+use Rattle.ytt_spec.proofs.HeldTexts.{texts_held}
 use Rattle.ytt_spec.proofs.HeldCode.{ReadsHeld, HeldHeader, HeldLine, HeldSaid, HeldEvents, events_held}
 
 key_held : (o : Option Scalar) → IsScalar (unwrap_or o null) → HeldItemKey (key_part o)
@@ -273,4 +275,6 @@ module _ (r : CodeReader) (reads : ReadsHeld r) (ignore : Bool) (file : ℕ) (d 
 
   -- the template of documents that were read
   pub whole_held : IfOk (template_passed r ignore file d) (HeldItems 0)
-  whole_held = yielded_then (HeldItems 0) (HeldItems 0) (placed_whole r ignore file d) (λ t. bound t >>= all_built) held_placed_whole passed_held
+  whole_held =
+      yielded_then (HeldItems 0) (HeldItems 0) (placed_whole r ignore file d) (texts_passed r) held_placed_whole (λ t g.
+      yielded_then (HeldItems 0) (HeldItems 0) (with_texts r t) (λ u. bound u >>= all_built) (texts_held r reads t g) passed_held)

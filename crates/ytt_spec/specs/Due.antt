@@ -5,7 +5,7 @@ use Rattle.ytt_outside.specs.Standing.{Standing}
 use Rattle.yaml_spec.specs.Text.{Text}
 use Rattle.code_spec.specs.CodeReading.{CodeReader}
 use Rattle.star_grammar.specs.CodeReaders.{MeansCode}
-use Rattle.ytt_spec.specs.Meaning.{Meant, meaning}
+use Rattle.ytt_spec.specs.Meaning.{Meant, Produced, a_listing, documents, meaning}
 use Rattle.ytt_spec.specs.Words.{Asked, asked_for, wrong, asked}
 
 -- Done with a text for `out`, or Fault or Usage with a line for `err`
@@ -26,9 +26,14 @@ write_failed_line = codes "error: write failed\n"
 abbrev pub out_of_memory_line : List ℕ
 out_of_memory_line = codes "error: out of memory\n"
 
--- the text of documents, or the line of a refusal
+-- the text of documents, and a listing as it is
+abbrev pub text_of : Produced → List ℕ
+text_of (documents ts) = Text ts
+text_of (a_listing text) = text
+
+-- the text that is due, or the line of a refusal
 abbrev pub due_for : Meant → Due
-due_for (Ok documents) = done (Text documents)
+due_for (Ok p) = done (text_of p)
 due_for (Err refusal) = fault (fault_line refusal.names refusal.fault)
 
 abbrev pub due_asked : CodeReader → Asked → (List ℕ → Standing) → Due

@@ -1,5 +1,5 @@
 -- What the words of a command line ask for.
-use Rattle.std.specs.Prelude.{ℕ, ◌+◌, ◌==◌, Bool, true, false, nat_le, ◌&&◌, List, [], ◌∷◌, ◌++◌, length, codes, bytes_eq, Option, Some, None, is_some, option_and_then, if◌then◌else◌}
+use Rattle.std.specs.Prelude.{ℕ, ◌+◌, ◌==◌, Bool, true, false, nat_le, ◌&&◌, List, [], ◌∷◌, ◌++◌, length, codes, bytes_eq, Option, Some, None, is_some, option_and_then, unwrap_or, if◌then◌else◌}
 use Rattle.std.specs.List.{list_all}
 use Rattle.std.specs.Option.{option_map_or}
 use Rattle.std.specs.Str.{all_ascii_digits}
@@ -12,9 +12,20 @@ pub record Render : Type 0 where
   pub budget : Budget
   pub ignore_unknown : Bool
 
+-- what `compile` is asked with: the path of the file whose listing is wanted, and whether comments of no known form may stand in it
+pub record Compile : Type 0 where
+  pub path : List ℕ
+  pub ignore_unknown : Bool
+
 -- what may be asked for
 pub data Command : Type 0 where
   render : Render → Command
+  compile : Compile → Command
+
+-- a command by its word
+pub data Verb : Type 0 where
+  rendering : Verb
+  compiling : Verb
 
 -- a command, or the number, from 1, of the first word at which no request goes on
 pub data Asked : Type 0 where
@@ -63,6 +74,7 @@ is_depth word = is_number_to most_depth word
 -- how often an option may stand
 pub data Often : Type 0 where
   at_least_once : Often
+  exactly_once : Often
   at_most_once : Often
 
 -- what an option takes: a value, by the texts that are one, or none, as a flag
@@ -108,9 +120,17 @@ depth_option = record { name = codes "--depth"; is_long = true; purpose = for_de
 abbrev pub ignore_option : CommandOption
 ignore_option = record { name = codes "--ignore-unknown-comments"; is_long = true; purpose = for_ignoring; often = at_most_once; takes = no_value }
 
--- all options
-abbrev pub command_options : List CommandOption
-command_options = file_option ∷ long_file_option ∷ steps_option ∷ depth_option ∷ ignore_option ∷ []
+-- those of a command that wants one file alone
+abbrev pub one_file_option : CommandOption
+one_file_option = record file_option { often = exactly_once }
+
+abbrev pub one_long_file_option : CommandOption
+one_long_file_option = record long_file_option { often = exactly_once }
+
+-- all options of a command
+abbrev pub command_options : Verb → List CommandOption
+command_options rendering = file_option ∷ long_file_option ∷ steps_option ∷ depth_option ∷ ignore_option ∷ []
+command_options compiling = one_file_option ∷ one_long_file_option ∷ ignore_option ∷ []
 
 -- the option of this name
 abbrev pub named : List ℕ → List CommandOption → Option CommandOption
@@ -154,44 +174,49 @@ abbrev pub is_for : Purpose → Option CommandOption → Bool
 is_for purpose None = false
 is_for purpose (Some o) = same_purpose purpose o.purpose
 
--- the values that the options for this have, in their order
-abbrev pub values_of : Purpose → List Given → List (List ℕ)
-values_of purpose [] = []
-values_of purpose (g ∷ gs) = if is_for purpose (named g.name command_options) then value_of g.form ∷ values_of purpose gs else values_of purpose gs
+-- the values that the options of a command for this have, in their order
+abbrev pub values_of : Verb → Purpose → List Given → List (List ℕ)
+values_of v purpose [] = []
+values_of v purpose (g ∷ gs) = if is_for purpose (named g.name (command_options v)) then value_of g.form ∷ values_of v purpose gs else values_of v purpose gs
 
 -- an option may have these values, and no others
 abbrev pub may_have : Often → List (List ℕ) → Bool
 may_have at_most_once [] = true
 may_have _ [] = false
-may_have _ (v ∷ []) = true
-may_have at_least_once (v ∷ w ∷ vs) = true
-may_have _ (v ∷ w ∷ vs) = false
+may_have _ (x ∷ []) = true
+may_have at_least_once (x ∷ y ∷ xs) = true
+may_have _ (x ∷ y ∷ xs) = false
 
 -- an option that has these values may stand once more
 abbrev pub may_follow : Often → List (List ℕ) → Bool
-may_follow at_least_once vs = true
+may_follow at_least_once xs = true
 may_follow _ [] = true
-may_follow _ (v ∷ vs) = false
+may_follow _ (x ∷ xs) = false
 
--- each option stands as often as it must
-abbrev pub are_all_given : List Given → Bool
-are_all_given gs = list_all (λ o. may_have o.often (values_of o.purpose gs)) command_options
+-- each option of the command stands as often as it must
+abbrev pub are_all_given : Verb → List Given → Bool
+are_all_given v gs = list_all (λ o. may_have o.often (values_of v o.purpose gs)) (command_options v)
 
 abbrev pub first_of : List (List ℕ) → Option (List ℕ)
 first_of [] = None
-first_of (v ∷ vs) = Some v
+first_of (x ∷ xs) = Some x
 
 -- the number that the option of this name has, or this one where it isn't there
 abbrev pub number_given : CommandOption → (default : ℕ) → List Given → ℕ
-number_given o default gs = option_map_or number_of (first_of (values_of o.purpose gs)) default
+number_given o default gs = option_map_or number_of (first_of (values_of rendering o.purpose gs)) default
+
+-- a flag stands in the words
+abbrev pub is_given : Verb → Purpose → List Given → Bool
+is_given v purpose gs = is_some (first_of (values_of v purpose gs))
 
 -- the command that is asked for with these options
-abbrev pub command_given : List Given → Command
-command_given gs = render (record {
-  paths = values_of for_path gs;
+abbrev pub command_given : Verb → List Given → Command
+command_given rendering gs = render (record {
+  paths = values_of rendering for_path gs;
   budget = record { steps = number_given steps_option default_steps gs; depth = number_given depth_option default_depth gs };
-  ignore_unknown = is_some (first_of (values_of for_ignoring gs));
+  ignore_unknown = is_given rendering for_ignoring gs;
 })
+command_given compiling gs = compile (record { path = unwrap_or (first_of (values_of compiling for_path gs)) []; ignore_unknown = is_given compiling for_ignoring gs })
 
 -- ---- words
 
@@ -208,34 +233,40 @@ value_in [] = None
 value_in (b ∷ bs) = if b == equals then Some bs else value_in bs
 
 -- the option of this name, where it may stand behind those that are given
-abbrev pub begun : List Given → (name : List ℕ) → Option CommandOption
-begun gs name = option_and_then (λ o. if may_follow o.often (values_of o.purpose gs) then Some o else None) (named name command_options)
+abbrev pub begun : Verb → List Given → (name : List ℕ) → Option CommandOption
+begun v gs name = option_and_then (λ o. if may_follow o.often (values_of v o.purpose gs) then Some o else None) (named name (command_options v))
 
 abbrev pub added : List Given → List ℕ → Form → List Given
 added gs name form = gs ++ record { name = name; form = form } ∷ []
 
 abbrev mutual
-  -- the words from number n on, behind these options; where a word is missing, its number is the one behind the last
-  pub asked_from : ℕ → List Given → List (List ℕ) → Asked
-  asked_from n gs [] = if are_all_given gs then asked_for (command_given gs) else wrong n
-  asked_from n gs (word ∷ words) =
-      elim (begun gs (name_in word)) [
+  -- the words of a command from number n on, behind these options; where a word is missing, its number is the one behind the last
+  pub asked_from : Verb → ℕ → List Given → List (List ℕ) → Asked
+  asked_from v n gs [] = if are_all_given v gs then asked_for (command_given v gs) else wrong n
+  asked_from v n gs (word ∷ words) =
+      elim (begun v gs (name_in word)) [
         | None ↦ wrong n
         | Some o ↦ elim (value_in word) [
-          | Some value ↦ if may_stand o (joined value) then asked_from (n + 1) (added gs (name_in word) (joined value)) words else wrong n
-          | None ↦ if may_stand o alone then asked_from (n + 1) (added gs (name_in word) alone) words else asked_value (n + 1) gs o (name_in word) words
+          | Some value ↦ if may_stand o (joined value) then asked_from v (n + 1) (added gs (name_in word) (joined value)) words else wrong n
+          | None ↦ if may_stand o alone then asked_from v (n + 1) (added gs (name_in word) alone) words else asked_value v (n + 1) gs o (name_in word) words
         ]
       ]
 
   -- the same, where the first word is the value of an option
-  pub asked_value : ℕ → List Given → CommandOption → (name : List ℕ) → List (List ℕ) → Asked
-  asked_value n gs o name [] = wrong n
-  asked_value n gs o name (value ∷ words) = if may_stand o (apart value) then asked_from (n + 1) (added gs name (apart value)) words else wrong n
+  pub asked_value : Verb → ℕ → List Given → CommandOption → (name : List ℕ) → List (List ℕ) → Asked
+  asked_value v n gs o name [] = wrong n
+  asked_value v n gs o name (value ∷ words) = if may_stand o (apart value) then asked_from v (n + 1) (added gs name (apart value)) words else wrong n
 
-abbrev pub is_command : List ℕ → Bool
-is_command word = bytes_eq word (codes "render")
+-- the word of a command
+abbrev pub verb_word : Verb → List ℕ
+verb_word rendering = codes "render"
+verb_word compiling = codes "compile"
 
--- the command, which may be left out, and then its options
+-- the command of a word
+abbrev pub verb_of : List ℕ → Option Verb
+verb_of word = if bytes_eq word (verb_word rendering) then Some rendering else if bytes_eq word (verb_word compiling) then Some compiling else None
+
+-- the command, which is `render` where its word is left out, and then its options
 abbrev pub asked : List (List ℕ) → Asked
 asked [] = wrong 1
-asked (word ∷ words) = if is_command word then asked_from 2 [] words else asked_from 1 [] (word ∷ words)
+asked (word ∷ words) = elim (verb_of word) [ Some v ↦ asked_from v 2 [] words | None ↦ asked_from rendering 1 [] (word ∷ words) ]

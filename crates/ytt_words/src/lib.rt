@@ -6,4 +6,4 @@
 
 mod words;
 
-pub use words::{Budget, Request, WordsStop, read_words};
+pub use words::{Budget, Command, CompileRequest, Request, WordsStop, read_words};

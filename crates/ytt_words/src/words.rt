@@ -2,8 +2,10 @@
 ghost use Rattle.std.specs.Prelude.{◌≡◌, ◌≤◌, ◌<◌, ◌^◌, ◌+◌, ◌-◌, ◌++◌, ◌∷◌, [], Bool, IfOk, IfSome, false, IsNone, List, length, map, None, Some, true, if◌then◌else◌, string_bytes};
 ghost use Rattle.std.specs.Option.{option_map};
 ghost use Rattle.std.specs.Str.{all_ascii_digits};
-ghost use Rattle.ytt_spec.specs.Words.{Given, added, alone, asked, asked_from, begun, command_options, is_depth, is_number, is_number_to, is_path, is_steps, may_follow, may_stand, name_in, named, number_of, value_in, values_of};
-ghost use Rattle.ytt_words.specs.Asks.{Asks, AsksFor, HaveRead, form_of, option_of, seen_words, text_in, words_behind};
+ghost use Rattle.ytt_spec.specs.Words.{Given, added, alone, asked, asked_from, begun, command_given, command_options, compiling, is_depth, is_number, is_number_to, is_path, is_steps, may_follow, may_stand, name_in, named, number_of, rendering, value_in, values_of, verb_of};
+ghost use Rattle.ytt_words.specs.Asks.{Asks, AsksFor, HaveRead, MayFollow, command_of, form_of, option_of, path_often, seen_verb, seen_words, text_in, words_behind};
+ghost use Rattle.ytt_words.specs.declared.words.Verb.{Verb as VerbRead};
+ghost use Rattle.ytt_words.specs.declared.words.Verb.TheVariants as verb;
 
 use sqlite_items::Items;
 use std::alloc::Global;
@@ -18,7 +20,7 @@ pub struct Budget {
     pub depth: u32,
 }
 
-/// What the words ask for.
+/// What `render` is asked with.
 #[derive(Drop)]
 pub struct Request {
     /// The paths of the files and folders to render, in their order; there is one at least.
@@ -27,6 +29,29 @@ pub struct Request {
     pub budget: Budget,
     /// Whether comments of no known form may stand in a template.
     pub ignore_unknown: bool,
+}
+
+/// What `compile` is asked with.
+#[derive(Drop)]
+pub struct CompileRequest {
+    /// The path of the file whose listing is wanted.
+    pub path: Text,
+    /// Whether comments of no known form may stand in it.
+    pub ignore_unknown: bool,
+}
+
+/// What the words ask for.
+#[derive(Drop)]
+pub enum Command {
+    Render(Request),
+    Compile(CompileRequest),
+}
+
+/// A command by its word.
+#[derive(Clone, Copy)]
+pub enum Verb {
+    Render,
+    Compile,
 }
 
 /// Why the words ask for nothing.
@@ -48,10 +73,10 @@ impl From<Memory> for WordsStop {
     }
 }
 
-/// An option of the command, by one of its names.
+/// An option of a command, by one of its names.
 #[derive(Clone, Copy)]
 pub enum CommandOption {
-    /// `-f`. It gives a path, as `--file` does, and one of them stands at least once.
+    /// `-f`. It gives a path, as `--file` does: for `render` one of them stands at least once, for `compile` exactly once.
     File,
     /// `--file`.
     LongFile,
@@ -176,9 +201,9 @@ fn cut_word(word: &str) -> (&str, Option<&str>)
     }
 }
 
-/// The option of this name.
-fn named(name: &str) -> Option<CommandOption>
-    ensures { option_map option_of result ≡ named name.now command_options }
+/// The option of `render` of this name.
+fn render_named(name: &str) -> Option<CommandOption>
+    ensures { option_map (option_of verb.Render) result ≡ named name.now (command_options rendering) }
 {
     if name == "-f" {
         return Some(CommandOption::File);
@@ -198,12 +223,48 @@ fn named(name: &str) -> Option<CommandOption>
     None
 }
 
+/// The option of `compile` of this name.
+fn compile_named(name: &str) -> Option<CommandOption>
+    ensures { option_map (option_of verb.Compile) result ≡ named name.now (command_options compiling) }
+{
+    if name == "-f" {
+        return Some(CommandOption::File);
+    }
+    if name == "--file" {
+        return Some(CommandOption::LongFile);
+    }
+    if name == "--ignore-unknown-comments" {
+        return Some(CommandOption::IgnoreUnknown);
+    }
+    None
+}
+
+/// The option of the command of this name.
+fn named(verb: Verb, name: &str) -> Option<CommandOption>
+    ensures { option_map (option_of verb) result ≡ named name.now (command_options (seen_verb verb)) }
+{
+    match verb {
+        Verb::Render => render_named(name),
+        Verb::Compile => compile_named(name),
+    }
+}
+
+/// Whether a path may stand besides those that do.
+fn path_may_follow(verb: Verb, paths: &Names) -> bool
+    ensures { result ≡ may_follow (path_often (seen_verb verb)) paths.now }
+{
+    match verb {
+        Verb::Render => true,
+        Verb::Compile => paths.is_empty(),
+    }
+}
+
 /// Whether the option may stand once more.
-fn may_follow(option: CommandOption, values: &Values) -> bool
-    ensures { (gs : List Given) → HaveRead gs values.now → result ≡ may_follow (option_of option).often (values_of (option_of option).purpose gs) }
+fn may_follow(verb: Verb, option: CommandOption, values: &Values) -> bool
+    ensures { (gs : List Given) → HaveRead (seen_verb verb) gs values.now → result ≡ may_follow (option_of verb option).often (values_of (seen_verb verb) (option_of verb option).purpose gs) }
 {
     match option {
-        CommandOption::File | CommandOption::LongFile => true,
+        CommandOption::File | CommandOption::LongFile => path_may_follow(verb, &values.paths),
         CommandOption::Steps => values.steps.is_none(),
         CommandOption::Depth => values.depth.is_none(),
         CommandOption::IgnoreUnknown => !values.ignore_unknown,
@@ -211,11 +272,11 @@ fn may_follow(option: CommandOption, values: &Values) -> bool
 }
 
 /// The option of this name, where it may stand behind those that were read.
-fn begun(name: &str, values: &Values) -> Option<CommandOption>
-    ensures { (gs : List Given) → HaveRead gs values.now → option_map option_of result ≡ begun gs name.now }
+fn begun(verb: Verb, name: &str, values: &Values) -> Option<CommandOption>
+    ensures { (gs : List Given) → HaveRead (seen_verb verb) gs values.now → option_map (option_of verb) result ≡ begun (seen_verb verb) gs name.now }
 {
-    let option = named(name)?;
-    if may_follow(option, values) {
+    let option = named(verb, name)?;
+    if may_follow(verb, option, values) {
         return Some(option);
     }
     None
@@ -223,7 +284,7 @@ fn begun(name: &str, values: &Values) -> Option<CommandOption>
 
 /// Whether the option takes no value.
 fn is_flag(option: CommandOption) -> bool
-    ensures { result ≡ may_stand (option_of option) alone }
+    ensures { (verb : VerbRead) → result ≡ may_stand (option_of verb option) alone }
 {
     match option {
         CommandOption::File
@@ -243,7 +304,7 @@ fn words_of<'a>(
     more: &'a [String],
 ) -> Option<OptionWords<'a>>
     requires { number < 2 ^ 64 - 1 }
-    ensures { option_map seen_words result ≡ words_behind (option_of option) number (text_in joined.entry) (map string_bytes more.now) }
+    ensures { (verb : VerbRead) → option_map seen_words result ≡ words_behind (option_of verb option) number (text_in joined.entry) (map string_bytes more.now) }
 {
     if let Some(text) = joined {
         return Some(OptionWords {
@@ -304,9 +365,9 @@ fn put(
     option: CommandOption,
     form: Form<'_>,
 ) -> Result<Option<Values>, Memory>
-    ensures refused { IfOk result (λ put. IsNone put → may_stand (option_of option) (form_of form.entry) ≡ false) }
-    ensures good { IfOk result (λ put. IfSome put (λ new. may_stand (option_of option) (form_of form.entry) ≡ true)) }
-    ensures put { IfOk result (λ put. IfSome put (λ new. (gs : List Given) → HaveRead gs values → may_follow (option_of option).often (values_of (option_of option).purpose gs) ≡ true → HaveRead (added gs (option_of option).name (form_of form.entry)) new)) }
+    ensures refused { (verb : VerbRead) → IfOk result (λ put. IsNone put → may_stand (option_of verb option) (form_of form.entry) ≡ false) }
+    ensures good { (verb : VerbRead) → IfOk result (λ put. IfSome put (λ new. may_stand (option_of verb option) (form_of form.entry) ≡ true)) }
+    ensures put { (verb : VerbRead) → IfOk result (λ put. IfSome put (λ new. (gs : List Given) → HaveRead (seen_verb verb) gs values → MayFollow verb (option_of verb option) gs → HaveRead (seen_verb verb) (added gs (option_of verb option).name (form_of form.entry)) new)) }
 {
     match (option, form) {
         (CommandOption::File, Form::Apart(path)) if is_path(path) => {
@@ -329,10 +390,53 @@ fn put(
     }
 }
 
-/// What the options from word number `first` on ask for, or the number of the wrong word.
-fn read_options(alloc: Global, words: &[String], first: u64) -> Result<Request, WordsStop>
+/// What these values ask `render` for.
+fn render_command(values: Values) -> Command
+    ensures { (gs : List Given) → HaveRead rendering gs values → command_of result ≡ command_given rendering gs }
+{
+    Command::Render(Request {
+        paths: values.paths,
+        budget: Budget {
+            steps: values.steps.unwrap_or(DEFAULT_STEPS),
+            depth: values.depth.unwrap_or(DEFAULT_DEPTH),
+        },
+        ignore_unknown: values.ignore_unknown,
+    })
+}
+
+/// What a path and a flag ask `compile` for.
+fn compile_command(alloc: Global, values: &Values) -> Result<Command, Memory>
+    ensures { (gs : List Given) → HaveRead compiling gs values.now → IfOk result (λ command. command_of command ≡ command_given compiling gs) }
+{
+    let path = match values.paths.as_slice().first() {
+        Some(path) => path.copy()?,
+        None => Text::of(alloc, "")?,
+    };
+    Ok(Command::Compile(CompileRequest {
+        path,
+        ignore_unknown: values.ignore_unknown,
+    }))
+}
+
+/// What these values ask for.
+fn command_from(alloc: Global, verb: Verb, values: Values) -> Result<Command, Memory>
+    ensures { (gs : List Given) → HaveRead (seen_verb verb) gs values → IfOk result (λ command. command_of command ≡ command_given (seen_verb verb) gs) }
+{
+    match verb {
+        Verb::Render => Ok(render_command(values)),
+        Verb::Compile => compile_command(alloc, &values),
+    }
+}
+
+/// What the options of a command from word number `first` on ask for, or the number of the wrong word.
+fn read_options(
+    alloc: Global,
+    verb: Verb,
+    words: &[String],
+    first: u64,
+) -> Result<Command, WordsStop>
     requires { first ≤ 2 }
-    ensures { Asks (asked_from first [] (map string_bytes words.now)) result }
+    ensures { Asks (asked_from (seen_verb verb) first [] (map string_bytes words.now)) result }
 {
     let mut values = Values {
         paths: Items::new(alloc),
@@ -344,7 +448,7 @@ fn read_options(alloc: Global, words: &[String], first: u64) -> Result<Request, 
     let mut number = first;
     while let Some((word, more)) = rest.split_first() {
         let (name, joined) = cut_word(word.as_str());
-        let Some(option) = begun(name, &values) else {
+        let Some(option) = begun(verb, name, &values) else {
             return Err(WordsStop::Wrong(number));
         };
         let Some(words) = words_of(option, number, joined, more) else {
@@ -360,31 +464,33 @@ fn read_options(alloc: Global, words: &[String], first: u64) -> Result<Request, 
     if values.paths.is_empty() {
         return Err(WordsStop::Wrong(number));
     }
-    Ok(Request {
-        paths: values.paths,
-        budget: Budget {
-            steps: values.steps.unwrap_or(DEFAULT_STEPS),
-            depth: values.depth.unwrap_or(DEFAULT_DEPTH),
-        },
-        ignore_unknown: values.ignore_unknown,
-    })
+    Ok(command_from(alloc, verb, values)?)
 }
 
-/// What the words ask for: the paths in their order, the budget and the flag.
+/// The command of a word, if it is one.
+fn verb_named(word: &str) -> Option<Verb>
+    ensures { option_map seen_verb result ≡ verb_of word.now }
+{
+    match word {
+        "render" => Some(Verb::Render),
+        "compile" => Some(Verb::Compile),
+        _ => None,
+    }
+}
+
+/// What the words ask for: the command, its paths in their order, the budget and the flag.
 ///
 /// `Wrong` has the number, from 1, of the first word at which no request goes on, and `Memory` says that there was no room, and
 /// nothing of the words.
-pub fn read_words(alloc: Global, words: &[String]) -> Result<Request, WordsStop>
+pub fn read_words(alloc: Global, words: &[String]) -> Result<Command, WordsStop>
     ensures asked { Asks (asked (map string_bytes words.now)) result }
     ensures spelled { AsksFor (map string_bytes words.now) result }
 {
     match words.split_first() {
         None => Err(WordsStop::Wrong(1)),
-        Some((command, more)) => {
-            if command.as_str() == "render" {
-                return read_options(alloc, more, 2);
-            }
-            read_options(alloc, words, 1)
-        }
+        Some((word, more)) => match verb_named(word.as_str()) {
+            Some(verb) => read_options(alloc, verb, more, 2),
+            None => read_options(alloc, Verb::Render, words, 1),
+        },
     }
 }

@@ -1,8 +1,10 @@
-use Rattle.std.proofs.Common.{◌≡◌, ◌+◌, ◌*◌, ◌≤◌, List, [], length}
+use Rattle.std.proofs.Common.{◌≡◌, ◌+◌, ◌*◌, ◌≤◌, [], length}
 use Rattle.ytt_base.specs.Outcomes.{place_at}
-use Rattle.code_spec.specs.Program.{Instruction}
-use Rattle.template_program.specs.Emits.{followed}
+use Rattle.code_spec.specs.CodeReading.{CodeReader}
+use Rattle.star_grammar.specs.CodeReaders.{IsCodeReader}
+use Rattle.text_template_spec.specs.TextTemplates.{texted_branches, texted_items}
 use Rattle.template_program.proofs.Sizes.{branches_size, content_size, item_size, items_size}
+use Rattle.template_program.proofs.Texting.{SoFar}
 use Rattle.template_spec.specs.Compiled.{branches_code, items_code}
 use Rattle.template_tree.specs.View.{branches_of, content_of, in_content, item_of, items_of, node_of}
 use Rattle.template_program.proofs.program.+compile.Given as goal
@@ -10,16 +12,15 @@ use Rattle.template_program.proofs.program.+compile.Given as goal
 abbrev pub invariant-put_items-loop-item : goal.invariant-put_items-loop-item
 invariant-put_items-loop-item l = record {
   fewer : items_size (items_of l.file l.items) ≤ items_size (items_of l.file l.fn.items);
-  emitted : (is : List Instruction) → followed l.file l.code l.next (items_code (items_of l.file l.items) is)
-      ≡ followed l.file l.initial.code l.initial.next (items_code (items_of l.file l.fn.items) is);
+  so_far : (r : CodeReader) → IsCodeReader r → SoFar (texted_items r l.asked) items_code l.file (items_of l.file l.fn.items) (items_of l.file l.items) l.initial.code l.code l.initial.next l.next;
 }
 
 abbrev pub invariant-put_branches-loop-elif : goal.invariant-put_branches-loop-elif
 invariant-put_branches-loop-elif l = record {
   kept : l.last ≡ l.fn.last;
   fewer : branches_size (branches_of l.file l.elifs l.fn.last) ≤ branches_size (branches_of l.file l.fn.elifs l.fn.last);
-  emitted : (is : List Instruction) → followed l.file l.code l.next (branches_code (place_at l.file l.line) (branches_of l.file l.elifs l.fn.last) is)
-      ≡ followed l.file l.initial.code l.initial.next (branches_code (place_at l.file l.line) (branches_of l.file l.fn.elifs l.fn.last) is);
+  so_far : (r : CodeReader) → IsCodeReader r → SoFar (texted_branches r l.asked) (branches_code (place_at l.file l.line)) l.file (branches_of l.file l.fn.elifs l.fn.last) (branches_of l.file l.elifs l.fn.last)
+      l.initial.code l.code l.initial.next l.next;
 }
 
 abbrev pub decreases-put_branches-loop-elif : goal.decreases-put_branches-loop-elif
@@ -45,7 +46,7 @@ abbrev pub decreases-put_node : goal.decreases-put_node
 decreases-put_node l = 8 * item_size (node_of l.file l.node) + 5
 
 abbrev pub decreases-put_content : goal.decreases-put_content
-decreases-put_content l = 8 * content_size (in_content l.file l.value (content_of l.file l.content)) + 9
+decreases-put_content l = 8 * content_size (in_content l.place.file l.value (content_of l.place.file l.content)) + 9
 
 abbrev pub decreases-put_written : goal.decreases-put_written
-decreases-put_written l = 8 * content_size (content_of l.file l.content) + 8
+decreases-put_written l = 8 * content_size (content_of l.place.file l.content) + 8

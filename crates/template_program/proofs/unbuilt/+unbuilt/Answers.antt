@@ -1,14 +1,14 @@
 use Rattle.std.proofs.Common.{◌-◌, [], ◌++◌, Option, None, take, ap, sym, ◌∙◌, arith}
 use Rattle.star_tree.specs.Whole.{instruction_of}
-use Rattle.passes_spec.specs.Unbuilt.{unbuilt_branches, unbuilt_content, unbuilt_item, unbuilt_items, unbuilt_notes}
+use Rattle.passes_spec.specs.Unbuilt.{unbuilt_branches, unbuilt_item, unbuilt_items}
 use Rattle.template_tree.specs.declared.tree.TElse.{TElse}
 use Rattle.template_tree.specs.declared.tree.TItem.{TItem}
-use Rattle.template_tree.specs.View.{branches_of, content_of, in_content, item_of, items_of, notes_of}
+use Rattle.template_tree.specs.View.{branches_of, item_of, items_of}
 use Rattle.template_tree.proofs.Views.{else_of-else, item_of-Code, item_of-If, node_of-node}
 use Rattle.star_unbuilt.specs.Places.{earlier}
 use Rattle.star_unbuilt.proofs.Finding.{earlier_after, earlier_before}
 use Rattle.template_program.proofs.Branches.{branches_up_to, unbuilt_both}
-use Rattle.template_program.proofs.Items.{code_places, items_up_to, key_built}
+use Rattle.template_program.proofs.Items.{code_places, items_up_to}
 use Rattle.template_program.proofs.unbuilt.+unbuilt.Goals as goal
 
 pub see_items-loop-left-preserved : goal.see_items-loop-left-preserved
@@ -53,6 +53,4 @@ see_else-returns-in-Some t c =
 pub see_node-returns : goal.see_node-returns
 see_node-returns t c =
     let n = c.args.node.now in
-    earlier_after _ _ _ _ _ c.see_notes.ensures c.see_value.ensures
-    ∙ ap (earlier c.args.first.now) (ap (λ l. unbuilt_notes (notes_of c.args.file n.notes) ++ (l ++ unbuilt_content (in_content c.args.file n.value (content_of c.args.file n.content)))) (sym (key_built n.place n.key))
-    ∙ sym (ap unbuilt_item (node_of-node c.args.file n)))
+    earlier_after _ _ _ _ _ c.see_notes.ensures c.see_value.ensures ∙ ap (earlier c.args.first.now) (sym (ap unbuilt_item (node_of-node c.args.file n)))

@@ -4,11 +4,11 @@ use Rattle.ytt_words.proofs.Walk.{asks_for}
 use Rattle.ytt_words.specs.declared.words.WordsStop.TheVariants as stop
 use Rattle.ytt_words.proofs.words.read_words.Goals as goal
 
-pub returns-then-eq-clause-spelled : goal.returns-then-eq-clause-spelled
-returns-then-eq-clause-spelled c = asks_for (map string_bytes c.args.words.now) c.read_options.result (search rules)
-
 pub returns-in-None-clause-spelled : goal.returns-in-None-clause-spelled
 returns-in-None-clause-spelled c = asks_for (map string_bytes c.args.words.now) (Err (stop.Wrong 1)) (grind (arith, common_steps))
 
-pub returns-else-eq-clause-spelled : goal.returns-else-eq-clause-spelled
-returns-else-eq-clause-spelled c = asks_for (map string_bytes c.args.words.now) c.read_options-in-Some.result (search rules)
+pub returns-in-Some-verb_named-clause-spelled : goal.returns-in-Some-verb_named-clause-spelled
+returns-in-Some-verb_named-clause-spelled c = asks_for (map string_bytes c.args.words.now) c.read_options.result (search rules)
+
+pub returns-in-None-verb_named-clause-spelled : goal.returns-in-None-verb_named-clause-spelled
+returns-in-None-verb_named-clause-spelled c = asks_for (map string_bytes c.args.words.now) c.read_options-in-None-verb_named.result (search rules)

@@ -1,0 +1,4 @@
+pub mod TextExamples
+pub mod TextsKeep
+pub mod TextsKeepNodes
+pub mod TextsKeepWords

@@ -1,0 +1,2 @@
+pub mod TextPieces
+pub mod TextTemplates
