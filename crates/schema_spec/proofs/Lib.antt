@@ -1,0 +1,4 @@
+pub mod Examples
+pub mod Filling
+pub mod Refilling
+pub mod Sound
