@@ -1,5 +1,5 @@
 // The host of a run: the natives of modules.
-ghost use Rattle.std.specs.Prelude.{◌≡◌, ℕ, IfOk, bytes_eq, codes};
+ghost use Rattle.std.specs.Prelude.{◌≡◌, ℕ, bytes_eq, codes};
 ghost use Rattle.module_spec.specs.Answering.{modules_answer};
 ghost use Rattle.star_eval.specs.Hosts.{HostGives, OwnsHosted, call_of, host_name, native_at, resume_of};
 ghost use Rattle.star_eval.specs.Meets.{arena_of};
@@ -10,13 +10,12 @@ ghost use Rattle.file_load.specs.Replying.{IsNative, NamesNative, RepliesTo};
 
 use mod_basic::{Basic, basic_call, basic_named, try_resumed};
 use mod_codec::{Codec, codec_call, codec_named};
-use object_arena::{Arena, CallArgs, NamedValue, NamedValues, Ref, Reply, Shape, Value};
-use sqlite_items::Items;
+use object_arena::{Arena, CallArgs, Ref, Reply, Shape, Value};
 use star_eval::{Host, Session};
+use star_fragments::copy_args;
 use star_steps::refusal;
-use std::alloc::Global;
 use ytt_base::fault::{Fault, FaultKind, Place, Stop};
-use ytt_base::text::{Memory, Text};
+use ytt_base::text::Text;
 
 /// A host that answers the natives of modules, and keeps nothing.
 #[derive(Drop)]
@@ -28,28 +27,6 @@ pub(crate) enum Native {
     Basic(Basic, Option<Value>),
     Codec(Codec),
     Unknown,
-}
-
-fn copy_named(alloc: Global, named: &NamedValues) -> Result<NamedValues, Memory>
-    ensures { IfOk result (λ copies. copies ≡ named.now) }
-{
-    let mut copies = Items::new(alloc);
-    for one in named.as_slice() {
-        copies.push(NamedValue {
-            name: one.name.copy()?,
-            value: one.value,
-        })?;
-    }
-    Ok(copies)
-}
-
-fn copy_args(alloc: Global, args: &CallArgs) -> Result<CallArgs, Memory>
-    ensures { IfOk result (λ copy. copy ≡ args.now) }
-{
-    Ok(CallArgs {
-        positional: Items::from_slice(alloc, args.positional.as_slice())?,
-        named: copy_named(alloc, &args.named)?,
-    })
 }
 
 /// The native of a name that holds this.

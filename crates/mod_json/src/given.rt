@@ -5,8 +5,8 @@ ghost use Rattle.star_steps.specs.Names.{Gives, Owns, seen, state_in, tree_of};
 ghost use Rattle.star_values.specs.declared.value.Value.TheVariants as value;
 ghost use Rattle.mod_json.specs.View.{text_at};
 
-use crate::fresh::fresh_value;
 use object_arena::{Arena, Ref};
+use star_fragments::fresh_value;
 use star_steps::{Given, pay};
 use ytt_base::fault::Place;
 use ytt_base::tree::Tree;

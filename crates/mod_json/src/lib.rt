@@ -8,7 +8,6 @@
 mod built;
 mod decoding;
 mod encoding;
-mod fresh;
 mod given;
 mod list;
 mod object;

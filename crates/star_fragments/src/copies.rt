@@ -23,7 +23,8 @@ fn copy_fields(alloc: Global, fields: &NamedValues) -> Result<NamedValues, Memor
     Ok(copies)
 }
 
-fn copy_args(alloc: Global, args: &CallArgs) -> Result<CallArgs, Memory>
+/// A copy of the arguments of a call. Its only error is want of memory.
+pub fn copy_args(alloc: Global, args: &CallArgs) -> Result<CallArgs, Memory>
     ensures { IfOk result (λ a. a ≡ args.now) }
 {
     Ok(CallArgs {

@@ -16,7 +16,8 @@ fn push<T: Drop>(items: &mut Items<T>, item: T) -> Result<(), Memory>
     Ok(())
 }
 
-fn key_value(arena: &mut Arena, key: &Key) -> Result<Value, Memory>
+/// The value of a key. Its only error is want of memory.
+pub fn key_value(arena: &mut Arena, key: &Key) -> Result<Value, Memory>
     ensures { Builds value_of Owns (give (value_of_scalar (key_of key.now))) result (seen arena.old) (seen arena.new) }
 {
     match key {
@@ -69,7 +70,7 @@ pub fn dict_of(arena: &mut Arena, pairs: &[(Value, Value)]) -> Result<Value, Mem
     Ok(Value::Dict(dict))
 }
 
-/// A tree as a value.
+/// A tree as a value, whose lists and dicts are new objects. Its only error is want of memory.
 #[cycle(fresh)]
 pub fn fresh_value(arena: &mut Arena, tree: &Tree) -> Result<Value, Memory>
     ensures { Builds value_of Owns (value_made tree.now) result (seen arena.old) (seen arena.new) }

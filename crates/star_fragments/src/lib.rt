@@ -13,10 +13,10 @@ mod members;
 mod node;
 mod sizes;
 
-pub use copies::{copy_item, copy_items};
+pub use copies::{copy_args, copy_item, copy_items};
 pub use equality::fragments_equal;
 pub use fragment::kind_of;
-pub use fresh::dict_of;
+pub use fresh::{dict_of, fresh_value, key_value};
 pub use keys::place_of_key;
 pub use members::{fragment_length, member_value};
 pub use sizes::pay_items;

@@ -1,4 +1,4 @@
-use Rattle.std.proofs.Common.{◌≡◌, ap, sym, ◌∙◌}
+use Rattle.std.proofs.Common.{ap, sym, ◌∙◌}
 use Rattle.node_build.specs.View.{nodes_of}
 use Rattle.star_values.specs.Objects.{seen}
 use Rattle.star_values.specs.View.{value_of}
